@@ -1,0 +1,2 @@
+-- Laws of coordinates, over any number of axes.
+pub mod Places

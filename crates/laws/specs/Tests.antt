@@ -1,0 +1,47 @@
+-- What it says of a `do` block's lines that the whole was accepted or refused: each test in turn. Laws take an accepted block apart by
+-- the first group, put one together by the second, and follow a refusal by the third.
+use mathlib.Core.Path.{_≡_, refl, ap}
+use mathlib.Core.Bool.{Bool, true, false}
+use mathlib.Core.Logic.{_⊎_, inl, inr}
+use mathlib.Core.Option.{Option, none, some}
+use Prim.Native.Nat.{ℕ}
+use native.Mathlib.Omega.{arith}
+use Rattle.paper.specs.declared.Refusal.{Refusal}
+use Rattle.paper.specs.Refusals.{Res, got, refused, _>>=_, _>>_, ensure, present}
+
+-- ---- what an accepted test was
+
+pub no-refusal : {A : Type 0} (r : Refusal) (a : A) → refused r ≡ got a → ⊥
+no-refusal r a e = let z : _≡_ {A = ℕ} 0 1 = cc in omega arith
+
+pub got-one : {A : Type 0} (a b : A) → got a ≡ got b → a ≡ b
+got-one a b e = cc
+
+pub bind-got : {A B : Type 0} (m : Res A) (f : A → Res B) (b : B) → (m >>= f) ≡ got b → (a : A) × (m ≡ got a) × (f a ≡ got b)
+bind-got (got a) f b e = (a, refl, e)
+bind-got (refused r) f b e = absurd (no-refusal r b e)
+
+pub ensure-got : {B : Type 0} (t : Bool) (n k : ℕ) (m : Res B) (b : B) → (ensure t n k >> m) ≡ got b → (t ≡ true) × (m ≡ got b)
+ensure-got true n k m b e = (refl, e)
+ensure-got false n k m b e = absurd (no-refusal _ b e)
+
+pub present-got : {A : Type 0} (o : Option A) (r : Refusal) (a : A) → present o r ≡ got a → o ≡ some a
+present-got (some x) r a e = ap some (got-one x a e)
+present-got none r a e = absurd (no-refusal r a e)
+
+-- ---- tests that hold
+
+pub ensure-yes : {B : Type 0} (t : Bool) (n k : ℕ) (m : Res B) → t ≡ true → (ensure t n k >> m) ≡ m
+ensure-yes t n k m e = rw e
+
+pub bind-yes : {A B : Type 0} (m : Res A) (f : A → Res B) (a : A) → m ≡ got a → (m >>= f) ≡ f a
+bind-yes m f a e = rw e
+
+-- ---- what a refusal was
+
+pub none-refused : {A : Type 0} (a : A) (r : Refusal) → got a ≡ refused r → ⊥
+none-refused a r e = let z : _≡_ {A = ℕ} 0 1 = cc in omega arith
+
+pub bind-refused : {A B : Type 0} (m : Res A) (f : A → Res B) (r : Refusal) → (m >>= f) ≡ refused r → (m ≡ refused r) ⊎ ((a : A) × (f a ≡ refused r))
+bind-refused (got a) f r e = inr (a, e)
+bind-refused (refused x) f r e = inl (ap refused (let q : x ≡ r = cc in q))

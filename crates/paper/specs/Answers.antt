@@ -1,0 +1,107 @@
+-- The answers of the callable parts: each enum or struct that the engine answers with, as the paper's values or its refusal, for
+-- every case. A promise says that the answer, so read, is what the definitions above give.
+use Prim.Native.Nat.{ℕ, _+_, _-_, _*_}
+use mathlib.Core.Bool.{Bool, true, false}
+use mathlib.Core.List.{List, [], _∷_, _++_, map}
+use lib.Dec.{eqb}
+use lib.ListN.{take, length, replicate}
+use Rattle.paper.specs.declared.Axis.{Axis}
+use Rattle.paper.specs.declared.Extent.{Extent}
+use Rattle.paper.specs.declared.Form.{Form}
+use Rattle.paper.specs.declared.Cell.{Cell}
+use Rattle.paper.specs.declared.Refusal.{Refusal}
+use Rattle.paper.specs.declared.Head.{Head}
+use Rattle.paper.specs.declared.Reading.{Reading}
+use Rattle.paper.specs.declared.PackAnswer.{PackAnswer}
+use Rattle.paper.specs.declared.PackAnswer.the-variants as Pack
+use Rattle.paper.specs.declared.ReferenceAnswer.{ReferenceAnswer}
+use Rattle.paper.specs.declared.ReferenceAnswer.the-variants as Reference
+use Rattle.paper.specs.declared.Seen.{Seen}
+use Rattle.paper.specs.declared.WalkAnswer.{WalkAnswer}
+use Rattle.paper.specs.declared.WalkAnswer.the-variants as Walk
+use Rattle.paper.specs.declared.Walk.{Walk}
+use Rattle.paper.specs.declared.Totalled.{Totalled}
+use Rattle.paper.specs.declared.TotalAnswer.{TotalAnswer}
+use Rattle.paper.specs.declared.TotalAnswer.the-variants as Total
+use Rattle.paper.specs.declared.RunAnswer.{RunAnswer}
+use Rattle.paper.specs.declared.RunAnswer.the-variants as Run
+use Rattle.paper.specs.declared.Listed.{Listed}
+use Rattle.paper.specs.declared.PageAnswer.{PageAnswer}
+use Rattle.paper.specs.declared.PageAnswer.the-variants as Page
+use Rattle.paper.specs.declared.Part.{Part}
+use Rattle.paper.specs.declared.StretchAnswer.{StretchAnswer}
+use Rattle.paper.specs.declared.StretchAnswer.the-variants as Stretch
+use Rattle.paper.specs.Limits.{mostAxes, axisBytes, typeBytes, cellBytes}
+use Rattle.paper.specs.Refusals.{Res, got, refused, _>>=_, if_then_else_}
+use Rattle.paper.specs.Axes.{cells, noAxis, Shape, Array, shaped}
+use Rattle.paper.specs.Bundle.{markBytes, readBundle}
+use Rattle.paper.specs.Reference.{Walked}
+
+-- ---- extents
+
+-- an extent's axes: the first `rank`
+abbrev pub axesOf : Extent → List Axis
+axesOf e = take (e .rank) (e .axes)
+
+-- the extent that has these axes, and nothing past the last
+abbrev pub extentOf : List Axis → Extent
+extentOf E = record { rank = length E; axes = E ++ replicate (mostAxes - length E) noAxis }
+
+-- a form's type, extent and declared maximum
+abbrev pub shapeOf : Form → Shape
+shapeOf f = shaped (f .kind) (axesOf (f .extent)) (axesOf (f .maximum))
+
+-- ---- reading: the arrays' shapes, and where their cells lie
+
+-- of arrays, the first of which begins at byte i: each one's shape, and the byte at which its cells begin
+unfoldable pub lyingFrom : ℕ → List Array → List (Shape × ℕ)
+lyingFrom i [] = []
+lyingFrom i (A ∷ As) =
+    let c : ℕ = i + (typeBytes + length (A .shape .axes) * axisBytes) in
+    (A .shape, c) ∷ lyingFrom (c + cells (A .shape .axes) * cellBytes) As
+
+-- what reading a bundle answers
+unfoldable pub reading : List ℕ → Res (List (Shape × ℕ))
+reading bs = do
+  As ← readBundle bs
+  got (lyingFrom (markBytes + 1) As)
+
+-- number 0 stands for no refusal
+abbrev pub unless : {A : Type 0} → Refusal → A → Res A
+unless r a = if eqb (r .number) 0 then got a else refused r
+
+abbrev pub readSaid : Reading → Res (List (Shape × ℕ))
+readSaid r = unless (r .refusal) (map (λ h. (shapeOf (h .form), h .at)) (take (r .count) (r .heads)))
+
+-- ---- the other answers
+
+abbrev pub packSaid : PackAnswer → Res ℕ
+packSaid (Pack.Got n) = got n
+packSaid (Pack.Refused r) = refused r
+
+abbrev pub referenceSaid : ReferenceAnswer → Res Cell
+referenceSaid (Reference.Got c) = got c
+referenceSaid (Reference.Refused r) = refused r
+
+abbrev pub seenSaid : WalkAnswer → Res Seen
+seenSaid (Walk.Got s) = got s
+seenSaid (Walk.Refused r) = refused r
+
+abbrev pub walkSaid : Walk → Walked
+walkSaid w = record { answer = seenSaid (w .answer); place = w .place .0 }
+
+abbrev pub totalSaid : TotalAnswer → Res Totalled
+totalSaid (Total.Got t) = got t
+totalSaid (Total.Refused r) = refused r
+
+abbrev pub runSaid : RunAnswer → Res ℕ
+runSaid (Run.Got n) = got n
+runSaid (Run.Refused r) = refused r
+
+abbrev pub pageSaid : PageAnswer → Res Listed
+pageSaid (Page.Got l) = got l
+pageSaid (Page.Refused r) = refused r
+
+abbrev pub stretchSaid : StretchAnswer → Res Part
+stretchSaid (Stretch.Got p) = got p
+stretchSaid (Stretch.Refused r) = refused r

@@ -1,0 +1,86 @@
+-- How the computed tables write their cases: axes, arrays, bundles and steps from the paper's own numbers, and answers as lists of
+-- numbers, 0 and the values, or the refusal's number, place and ordinality.
+use Prim.Native.Nat.{ℕ, _+_}
+use Prim.Native.String.{String}
+use mathlib.Core.Bool.{Bool, true, false, _&&_}
+use mathlib.Core.List.{List, [], _∷_, _++_, map}
+use lib.ListN.{take, length, replicate}
+use lib.IntN.{ℤ, pos, negsuc}
+use mir.Syntax.{w32}
+use mir.Val.{ofZ}
+use Rattle.paper.specs.declared.Axis.{Axis}
+use Rattle.paper.specs.declared.Cell.{Cell}
+use Rattle.paper.specs.declared.Cell.the-variants.{Int}
+use Rattle.paper.specs.declared.Answer.{Answer}
+use Rattle.paper.specs.declared.Answer.the-variants.{Is, Refused}
+use Rattle.paper.specs.declared.Totalled.{Totalled}
+use Rattle.paper.specs.declared.Totalled.the-variants as Totalled
+use Rattle.paper.specs.declared.Listed.{Listed}
+use Rattle.paper.specs.Limits.{INT, limitBytes, detailBytes, stepBytes}
+use Rattle.paper.specs.Refusals.{Res, got, refused}
+use Rattle.paper.specs.Numbers.{leOf, leBytes, text, distance, from}
+use Rattle.paper.specs.Axes.{star, Array, shaped}
+use Rattle.paper.specs.Cells.{encode}
+
+-- every line of a table holds
+abbrev pub all : List Bool → Bool
+all [] = true
+all (b ∷ bs) = b && all bs
+
+-- -1, -2
+abbrev pub m1 : ℤ
+m1 = negsuc 0
+
+abbrev pub m2 : ℤ
+m2 = negsuc 1
+
+-- an axis from its name and its limits
+abbrev pub axis : String → ℤ → ℤ → Axis
+axis n l h = record { name = leOf (text n); lo = distance l; hi = distance h }
+
+-- an array with a declared maximum, and one with `*`
+abbrev pub arrayIn : List Axis → ℕ → List Axis → List Cell → Array
+arrayIn M t E cs = record { shape = shaped t E M; cells = cs }
+
+abbrev pub array : ℕ → List Axis → List Cell → Array
+array t E cs = arrayIn (map star E) t E cs
+
+-- INT cells with these numbers; with the numbers k, k + 1 ..
+abbrev pub ints : List ℤ → List Cell
+ints zs = map Int zs
+
+abbrev pub counted : ℕ → ℕ → List Cell
+counted k n = map (λ i. Int (pos i)) (from k n)
+
+-- a step from its four bytes and its detail, padded with zeros
+abbrev pub step : List ℕ → List ℕ → List ℕ
+step head detail = take stepBytes (head ++ (detail ++ replicate detailBytes 0))
+
+-- signed 32-bit numbers as detail
+abbrev pub numbers : List ℤ → List ℕ
+numbers [] = []
+numbers (z ∷ zs) = leBytes limitBytes (ofZ w32 z) ++ numbers zs
+
+-- ---- answers
+
+abbrev pub said : {A : Type 0} → (A → List ℕ) → Res A → List ℕ
+said f (got a) = 0 ∷ f a
+said f (refused r) = r .number ∷ r .place ∷ r .ordinality ∷ []
+
+-- a number; a cell; what an operator gives; a total; a page
+abbrev pub one : ℕ → List ℕ
+one n = n ∷ []
+
+abbrev pub is : Cell → List ℕ
+is c = 0 ∷ encode c
+
+abbrev pub operated : Answer → List ℕ
+operated (Is c) = is c
+operated (Refused n) = n ∷ []
+
+abbrev pub totalled : Totalled → List ℕ
+totalled (Totalled.Count n) = n ∷ []
+totalled (Totalled.Is c) = encode c
+
+abbrev pub paged : Listed → List ℕ
+paged l = l .written ∷ l .next .0 ∷ []
