@@ -1,2 +1,11 @@
--- Laws of coordinates, over any number of axes.
+-- Laws of coordinates over the paper's definitions, for any number of axes and any kind of cell.
 pub mod Places
+pub mod Limits
+pub mod Alike
+pub mod Layers
+pub mod Loops
+pub mod Fill
+pub mod Joins
+pub mod Arrays
+pub mod Glue
+pub mod Stretch

@@ -1,13 +1,26 @@
 -- What it says of a `do` block's lines that the whole was accepted or refused: each test in turn. Laws take an accepted block apart by
 -- the first group, put one together by the second, and follow a refusal by the third.
 use mathlib.Core.Path.{_≡_, refl, ap}
-use mathlib.Core.Bool.{Bool, true, false}
+use mathlib.Core.Bool.{Bool, true, false, _&&_}
 use mathlib.Core.Logic.{_⊎_, inl, inr}
 use mathlib.Core.Option.{Option, none, some}
 use Prim.Native.Nat.{ℕ}
 use native.Mathlib.Omega.{arith}
 use Rattle.paper.specs.declared.Refusal.{Refusal}
 use Rattle.paper.specs.Refusals.{Res, got, refused, _>>=_, _>>_, ensure, present}
+
+-- ---- a test made of two parts
+
+pub and-left : (b c : Bool) → (b && c) ≡ true → b ≡ true
+and-left true c e = refl
+and-left false c e = e
+
+pub and-right : (b c : Bool) → (b && c) ≡ true → c ≡ true
+and-right true c e = e
+and-right false c e = cc
+
+pub and-both : {b c : Bool} → b ≡ true → c ≡ true → (b && c) ≡ true
+and-both e f = rw (e, f)
 
 -- ---- what an accepted test was
 
