@@ -1,11 +1,8 @@
 -- The answers of the callable parts: two answers with the same figures are equal, so that a promise about the figures fixes the answer.
 -- A reading is a struct with room for the most arrays and axes: it is fixed where nothing stands past the last of each.
 use mathlib.Core.Path.{_≡_, refl, sym, ap, ap₂, _∙_}
-use mathlib.Core.Bool.{Bool, true, false}
 use mathlib.Core.List.{List, [], _∷_, _++_, map}
-use Prim.Native.Nat.{ℕ, zero, suc, _+_, _-_, _≤_}
-use native.Mathlib.Omega.{arith}
-use lib.Dec.{eqb}
+use Prim.Native.Nat.{ℕ, _-_}
 use lib.ListN.{take, length, replicate, length-map}
 use lib.Seq.{take-at}
 use borrow.Author.Tests.{ne-eqb}
@@ -22,7 +19,6 @@ use Rattle.paper.specs.declared.ReferenceAnswer.the-variants as Reference
 use Rattle.paper.specs.declared.WalkAnswer.{WalkAnswer}
 use Rattle.paper.specs.declared.WalkAnswer.the-variants as WalkCase
 use Rattle.paper.specs.declared.Walk.{Walk}
-use Rattle.paper.specs.declared.Ordinality.{Ordinality}
 use Rattle.paper.specs.declared.TotalAnswer.{TotalAnswer}
 use Rattle.paper.specs.declared.TotalAnswer.the-variants as Total
 use Rattle.paper.specs.declared.RunAnswer.{RunAnswer}
@@ -32,7 +28,7 @@ use Rattle.paper.specs.declared.PageAnswer.the-variants as Page
 use Rattle.paper.specs.declared.StretchAnswer.{StretchAnswer}
 use Rattle.paper.specs.declared.StretchAnswer.the-variants as Stretch
 use Rattle.paper.specs.Limits.{mostAxes, mostArrays}
-use Rattle.paper.specs.Refusals.{Res, got, refused, if_then_else_, refusal}
+use Rattle.paper.specs.Refusals.{Res, got, refused, refusal}
 use Rattle.paper.specs.Axes.{noAxis, Shape, shaped}
 use Rattle.paper.specs.Reference.{Walked}
 use Rattle.paper.specs.Answers.{axesOf, extentOf, shapeOf, readSaid, packSaid, referenceSaid, seenSaid, walkSaid, totalSaid, runSaid, pageSaid, stretchSaid}

@@ -1,7 +1,6 @@
 -- The answers of the callable parts: each enum or struct that the engine answers with, as the paper's values or its refusal, for
 -- every case. A promise says that the answer, so read, is what the definitions above give.
 use Prim.Native.Nat.{ℕ, _+_, _-_, _*_}
-use mathlib.Core.Bool.{Bool, true, false}
 use mathlib.Core.List.{List, [], _∷_, _++_, map}
 use lib.Dec.{eqb}
 use lib.ListN.{take, length, replicate}
@@ -10,7 +9,6 @@ use Rattle.paper.specs.declared.Extent.{Extent}
 use Rattle.paper.specs.declared.Form.{Form}
 use Rattle.paper.specs.declared.Cell.{Cell}
 use Rattle.paper.specs.declared.Refusal.{Refusal}
-use Rattle.paper.specs.declared.Head.{Head}
 use Rattle.paper.specs.declared.Reading.{Reading}
 use Rattle.paper.specs.declared.PackAnswer.{PackAnswer}
 use Rattle.paper.specs.declared.PackAnswer.the-variants as Pack

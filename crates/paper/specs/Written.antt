@@ -1,10 +1,10 @@
 -- How the computed tables write their cases: axes, arrays, bundles and steps from the paper's own numbers, and answers as lists of
 -- numbers, 0 and the values, or the refusal's number, place and ordinality.
-use Prim.Native.Nat.{ℕ, _+_}
+use Prim.Native.Nat.{ℕ}
 use Prim.Native.String.{String}
-use mathlib.Core.Bool.{Bool, true, false, _&&_}
+use mathlib.Core.Bool.{Bool, true, _&&_}
 use mathlib.Core.List.{List, [], _∷_, _++_, map}
-use lib.ListN.{take, length, replicate}
+use lib.ListN.{take, replicate}
 use lib.IntN.{ℤ, pos, negsuc}
 use mir.Syntax.{w32}
 use mir.Val.{ofZ}
@@ -16,7 +16,7 @@ use Rattle.paper.specs.declared.Answer.the-variants.{Is, Refused}
 use Rattle.paper.specs.declared.Totalled.{Totalled}
 use Rattle.paper.specs.declared.Totalled.the-variants as Totalled
 use Rattle.paper.specs.declared.Listed.{Listed}
-use Rattle.paper.specs.Limits.{INT, limitBytes, detailBytes, stepBytes}
+use Rattle.paper.specs.Limits.{limitBytes, detailBytes, stepBytes}
 use Rattle.paper.specs.Refusals.{Res, got, refused}
 use Rattle.paper.specs.Numbers.{leOf, leBytes, text, distance, from}
 use Rattle.paper.specs.Axes.{star, Array, shaped}
