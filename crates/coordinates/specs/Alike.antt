@@ -10,7 +10,7 @@ use lib.ListN.{length, drop}
 use Rattle.paper.specs.Numbers.{from}
 use Rattle.paper.specs.declared.Axis.{Axis}
 use Rattle.paper.specs.Limits.{nameBytes}
-use Rattle.paper.specs.Axes.{cells, inside, offset, atOffset, firsts, build}
+use Rattle.paper.specs.Axes.{cells, inside, offset, atOffset, build}
 use Rattle.paper.specs.Recipe.{alike, sameLimits, renamed, eachAnew}
 use Rattle.laws.specs.Tests.{and-left, and-right, and-both}
 use Rattle.coordinates.specs.Places.{Inside, inside-true, true-inside}
@@ -117,7 +117,7 @@ atOffset-alike (a ∷ E) (b ∷ F) k s =
     ap₂ (λ (x n : ℕ). (x + k / n) ∷ atOffset E (k % n)) (s .0) (cells-alike E F (s .2)) ∙ ap (λ (q : List ℕ). (b .lo + k / cells F) ∷ q) (atOffset-alike E F (k % cells F) (s .2))
 
 pub build-alike : {C : Type 0} (E F : List Axis) (f : List ℕ → C) → SameLimits E F → build E f ≡ build F f
-unfolding firsts
+unfolding build
 build-alike {C} E F f s = ap (λ (n : ℕ). map (λ k. f (atOffset E k)) (from 0 n)) (cells-alike E F s) ∙ each (from 0 (cells F))
   where
     each : (l : List ℕ) → map (λ k. f (atOffset E k)) l ≡ map (λ k. f (atOffset F k)) l

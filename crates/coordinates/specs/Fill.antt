@@ -11,7 +11,7 @@ use lib.Seq.{length-take-le, take-at, drop-at, take-add, drop-drop, paste, take-
 use Rattle.paper.specs.declared.Axis.{Axis}
 use Rattle.paper.specs.Numbers.{concat}
 use Rattle.paper.specs.Axes.{cells, atOffset, build}
-use Rattle.coordinates.specs.Places.{Inside, length-build, getD-firsts, atOffset-inside}
+use Rattle.coordinates.specs.Places.{Inside, length-build, getD-build, atOffset-inside}
 
 -- the bytes of cell k of a buffer, w to a cell
 abbrev pub pieceAt : ℕ → List ℕ → ℕ → List ℕ
@@ -72,13 +72,13 @@ module _ (w : ℕ) (E : List Axis) (f : List ℕ → List ℕ) (h : (p : List �
   pub each-build : Each w (build E f)
   each-build i b =
       let c : i < cells E = omega (arith, length-build E f) in
-      ap length (getD-firsts E f (cells E) i [] c) ∙ h (atOffset E i) (atOffset-inside E i c)
+      ap length (getD-build E f i [] c) ∙ h (atOffset E i) (atOffset-inside E i c)
 
   pub length-bytes : length (bytesOf E f) ≡ cells E * w
   length-bytes = length-concat w (build E f) each-build ∙ ap (λ n. n * w) (length-build E f)
 
   pub piece-bytes : (k : ℕ) → k < cells E → pieceAt w (bytesOf E f) k ≡ f (atOffset E k)
-  piece-bytes k c = piece-concat w (build E f) k each-build (omega (arith, length-build E f)) ∙ getD-firsts E f (cells E) k [] c
+  piece-bytes k c = piece-concat w (build E f) k each-build (omega (arith, length-build E f)) ∙ getD-build E f k [] c
 
   -- a turn: the bytes of cell k are put where they belong
   pub fill-more : (d : List ℕ) (at k : ℕ) → at ≤ length d → k < cells E

@@ -8,7 +8,7 @@ use native.Mathlib.Omega.{arith}
 use lib.Arith.{digits-div, digits-mod}
 use Rattle.paper.specs.declared.Axis.{Axis}
 use Rattle.paper.specs.Numbers.{concat, from}
-use Rattle.paper.specs.Axes.{width, cells, limited, atOffset, firsts, build}
+use Rattle.paper.specs.Axes.{width, cells, limited, atOffset, build}
 
 -- ---- layers
 
@@ -34,7 +34,7 @@ module _ {C : Type 0} (a : Axis) (E : List Axis) (f : List ℕ → C) where
       simp (digits-div x l, digits-mod x l, e, layer x (suc i) n (omega arith))
 
   layers-of : (x w : ℕ) → map (λ j. f (atOffset (a ∷ E) j)) (from (x * cells E) (w * cells E)) ≡ layers E f (a .lo + x) w
-  unfolding from concat firsts
+  unfolding from concat build
   layers-of x zero = simp zero-mul
   layers-of x (suc w) =
       let g : suc x * cells E ≡ x * cells E + cells E = suc-mul x (cells E) in
@@ -44,7 +44,7 @@ module _ {C : Type 0} (a : Axis) (E : List Axis) (f : List ℕ → C) where
       ∙ ap₂ (λ (l r : List C). l ++ r) (ap (λ (j : ℕ). map (λ j. f (atOffset (a ∷ E) j)) (from j (cells E))) (sym (add-zero (x * cells E))) ∙ layer x 0 (cells E) (omega arith)) (layers-of (suc x) w ∙ ap (λ (j : ℕ). layers E f j w) k))
 
   pub build-layers : build (a ∷ E) f ≡ layers E f (a .lo) (width a)
-  unfolding firsts cells
+  unfolding build cells
   build-layers = ap (λ (j : ℕ). map (λ j. f (atOffset (a ∷ E) j)) (from j (width a * cells E))) (sym (zero-mul (cells E))) ∙ layers-of 0 (width a) ∙ ap (λ (j : ℕ). layers E f j (width a)) (add-zero (a .lo))
 
 -- ---- the first axis cut in two

@@ -19,7 +19,7 @@ use Rattle.paper.specs.Axes.{cells, ordinality, atOffset, coordinate, build, Ar
 use Rattle.paper.specs.Recipe.{glued}
 use Rattle.paper.specs.Values.{inFirst, inSecond, gluedCell}
 use Rattle.paper.specs.Stretch.{stay}
-use Rattle.coordinates.specs.Places.{right-pos, length-build, getD-firsts}
+use Rattle.coordinates.specs.Places.{right-pos, length-build, getD-build}
 use Rattle.coordinates.specs.Limits.{Sound}
 use Rattle.coordinates.specs.Glue.{turn, inTurn, byTurns, blockCells, block-pos, Gluable, cells-first, cells-second, cells-blocks, glued-side, glued-left, glued-right, gluedCell-at}
 
@@ -167,7 +167,7 @@ module _ (k : ℕ) (A B : Array) (g : Gluable k (A .shape .axes) (B .shape .axes
       div-lt-iff-lt-mul {x = o - 1} {y = cells (take (k - 1) E)} (right-pos (cells (take (k - 1) E)) (m + n) (o - 1) h) .1 h
 
   cell : (i : ℕ) → o - 1 + i < cells G → getD (build G (gluedCell k A B)) (o - 1 + i) Empty ≡ byTurns Empty m n (A .cells) (B .cells) (o - 1 + i)
-  cell i h = getD-firsts G (gluedCell k A B) (cells G) (o - 1 + i) Empty h ∙ gluedCell-at k A B g (o - 1 + i) h
+  cell i h = getD-build G (gluedCell k A B) (o - 1 + i) Empty h ∙ gluedCell-at k A B g (o - 1 + i) h
 
   pub stretch-left : inFirst k E (coordinate G o) ≡ true
       → take (stay true (inFirst k E) (onward G o)) (drop (ordinality E (coordinate G o) - 1) (A .cells)) ≡ take (stay true (inFirst k E) (onward G o)) (drop (o - 1) (build G (gluedCell k A B)))

@@ -17,7 +17,7 @@ unfolding Numbers.leBytes Numbers.position Numbers.distance Numbers.lastOf Numbe
 numbers = tt
 
 unfoldable pub axes : Unit {0}
-unfolding Axes.nameRest Axes.isName Axes.named Axes.goodNames Axes.goodLimits Axes.cells Axes.within Axes.inside Axes.offset Axes.atOffset Axes.firsts Axes.placeOf Axes.at
+unfolding Axes.nameRest Axes.isName Axes.named Axes.goodNames Axes.goodLimits Axes.cells Axes.within Axes.inside Axes.offset Axes.atOffset Axes.build Axes.placeOf Axes.at
 axes = tt
 
 unfoldable pub cells : Unit {0}
