@@ -1,0 +1,33 @@
+-- `cell::bytes::read_cell` meets its contract: the run of nine bytes is its first byte and the run of eight after it. Assumes nothing.
+use borrow.Author.Needs.{needs}
+use mathlib.Core.Path.{_∙_, sym, ap}
+use lib.ListN.{getD}
+use denote.Ref.{now}
+use Rattle.paper.specs.Cells.{cellFrom, cellOf}
+use Rattle.cell.proofs.Runs.{run-cons}
+use Rattle.cell.proofs.bytes.read_cell.Statement.{statement}
+use Rattle.cell.proofs.bytes.read_cell.Tie as tie
+
+shared-slice-read-from-parts : tie.Need-shared-slice-read-from-parts
+shared-slice-read-from-parts c = search needs
+
+add-word : tie.Need-add-word
+add-word c = search needs
+
+word-requires : tie.Need-word-requires
+word-requires c κs = search needs
+
+from-parts-requires : tie.Need-from-parts-requires
+from-parts-requires c κs = search needs
+
+returns : tie.Need-returns
+returns c =
+    let a = c .before .before .before .before .args in
+    c .from-parts .ensures
+    ∙ ap (cellFrom (a .kind) (getD (now (a .s)) (a .at) 0)) (c .before .word .ensures)
+    ∙ ap (cellOf (a .kind)) (sym (run-cons (now (a .s)) (a .at) 8 (search needs)))
+
+pub read-cell-spec : {M : Type 1} → statement M
+read-cell-spec =
+    tie.close
+    (tie.spec shared-slice-read-from-parts add-word word-requires from-parts-requires returns)

@@ -1,0 +1,59 @@
+-- What `rank_of` tells of an extent: how many axes it has, which are the first of its array. Loops over the axes count up to it, and
+-- cite the axes left, one axis more and at the end.
+use Prim.Native.Nat.{ℕ, _+_, _≤_, _<_}
+use mathlib.Core.Path.{_≡_, refl, sym, ap, _∙_}
+use mathlib.Core.Bool.{Bool, true, false}
+use mathlib.Core.List.{List, [], _∷_}
+use native.Mathlib.Numerals.{add-one}
+use native.Mathlib.Omega.{arith}
+use borrow.Author.Tests.{leb-true, leb-false}
+use lib.Dec.{leb}
+use lib.ListN.{length, getD, take, drop, length-take, drop-of-length-le, List·getD-eq-default}
+use lib.Seq.{take-all, getD-take}
+use Rattle.paper.specs.declared.Axis.{Axis}
+use Rattle.paper.specs.declared.Extent.{Extent}
+use Rattle.paper.specs.Limits.{mostAxes}
+use Rattle.paper.specs.Axes.{noAxis}
+use Rattle.paper.specs.Answers.{axesOf}
+use Rattle.coordinates.specs.Loops.{drop-first-cons}
+
+-- r is the number of e's axes
+pub record Rank (e : Extent) (r : ℕ) : Type 0 where
+  pub few : r ≤ mostAxes
+  pub number : r ≡ length (axesOf e)
+  pub room : r ≤ length (e .axes)
+  pub first : take r (e .axes) ≡ axesOf e
+
+-- the first r of a list, or all of it where r is more
+clamped : {X : Type 0} (l : List X) (r n : ℕ) → n ≡ length (take r l) → take n l ≡ take r l
+clamped l r n e = by (leb r (length l)) refl
+  where
+    by : (b : Bool) → leb r (length l) ≡ b → take n l ≡ take r l
+    by true q = let f : n ≡ r = omega (arith, length-take r l, leb-true r (length l) q) in ap (λ (k : ℕ). take k l) f
+    by false q =
+        let p : length l ≤ r = omega (arith, leb-false r (length l) q) in
+        take-all n l (omega (arith, length-take r l)) ∙ sym (take-all r l p)
+
+pub ranked : (e : Extent) (r : ℕ) → length (e .axes) ≡ mostAxes → r ≡ length (axesOf e) → Rank e r
+ranked e r l n =
+    record { few = omega (arith, length-take (e .rank) (e .axes)); number = n; room = omega (arith, length-take (e .rank) (e .axes)); first = clamped (e .axes) (e .rank) r n }
+
+-- the axis at i, from 0
+abbrev pub axisNo : Extent → ℕ → Axis
+axisNo e i = getD (e .axes) i noAxis
+
+module _ (e : Extent) (r : ℕ) (k : Rank e r) (i : ℕ) where
+  -- one axis more
+  pub axes-up : i < r → drop i (axesOf e) ≡ axisNo e i ∷ drop (i + 1) (axesOf e)
+  axes-up b = rw (add-one i, ← k .first) (drop-first-cons (e .axes) r (k .room) i noAxis b)
+
+  -- at the end
+  pub axes-end : r ≤ i → drop i (axesOf e) ≡ []
+  axes-end b = drop-of-length-le (axesOf e) {i = i} (omega (arith, k .number))
+
+  -- the axis there, and no axis past the end
+  pub axis-first : i < r → axisNo e i ≡ getD (axesOf e) i noAxis
+  axis-first b = rw (← k .first) (sym (getD-take r (e .axes) i noAxis b))
+
+  pub axis-past : r ≤ i → noAxis ≡ getD (axesOf e) i noAxis
+  axis-past b = sym (List·getD-eq-default (axesOf e) noAxis {n = i} (omega (arith, k .number)))

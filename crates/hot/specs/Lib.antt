@@ -1,0 +1,2 @@
+-- What the contracts of the loop's face cite.
+pub mod Codes

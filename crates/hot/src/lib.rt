@@ -1,0 +1,138 @@
+// The face of the loop over cells: operands as mark and word, of cells that were judged, one number for type and operator, and
+// the cells built in the arm of ONE match. A pair code is 16 * (type - 1) + operator, a single code 48 + 4 * operator + type.
+use operators::numbers::pair_number;
+use operators::numbers::single_number;
+use operators::operators::absolute;
+use operators::operators::add;
+use operators::operators::and;
+use operators::operators::div;
+use operators::operators::emptiness;
+use operators::operators::eq;
+use operators::operators::ge;
+use operators::operators::gt;
+use operators::operators::le;
+use operators::operators::lt;
+use operators::operators::modulo;
+use operators::operators::mul;
+use operators::operators::ne;
+use operators::operators::negate;
+use operators::operators::negation;
+use operators::operators::or;
+use operators::operators::sub;
+use operators::types::takes_pair;
+use operators::types::takes_single;
+use paper::Answer;
+use paper::Cell;
+use paper::PairOp;
+use paper::SingleOp;
+ghost use mathlib.Core.Path.{_≡_};
+ghost use Rattle.paper.specs.Limits.{INT, FLOAT, BOOLEAN};
+ghost use Rattle.hot.specs.Codes.{standing, NoNan, kindOf, codeCell, pairCodeOf, singleCodeOf};
+
+pub fn int_cell(mark: u8, n: u64) -> Cell
+    ensures { λ r. ⌜ r ≡ standing INT mark n ⌝ }
+{
+    if mark == 0 {
+        Cell::Empty
+    } else {
+        Cell::Int(cell::bytes::signed(n))
+    }
+}
+
+pub fn float_cell(mark: u8, n: u64) -> Cell
+    requires { ⌜ NoNan n ⌝ }
+    ensures { λ r. ⌜ r ≡ standing FLOAT mark n ⌝ }
+{
+    if mark == 0 {
+        Cell::Empty
+    } else {
+        Cell::Float(f64::from_bits(n))
+    }
+}
+
+pub fn truth_cell(mark: u8, n: u64) -> Cell
+    ensures { λ r. ⌜ r ≡ standing BOOLEAN mark n ⌝ }
+{
+    if mark == 0 {
+        Cell::Empty
+    } else {
+        Cell::Truth(n == 1)
+    }
+}
+
+// The code of a type and an operator; 0 where the operator doesn't take the type.
+pub fn pair_code(kind: u8, op: PairOp) -> u8
+    ensures { λ r. ⌜ r ≡ pairCodeOf kind op ⌝ }
+{
+    if kind == 0 {
+        return 0;
+    }
+    if 3 < kind {
+        return 0;
+    }
+    if takes_pair(op, kind) {
+        (kind - 1) * 16 + pair_number(op)
+    } else {
+        0
+    }
+}
+
+pub fn single_code(kind: u8, op: SingleOp) -> u8
+    ensures { λ r. ⌜ r ≡ singleCodeOf kind op ⌝ }
+{
+    if kind == 0 {
+        return 0;
+    }
+    if 3 < kind {
+        return 0;
+    }
+    if takes_single(op, kind) {
+        48 + single_number(op) * 4 + kind
+    } else {
+        0
+    }
+}
+
+// What the code's operator gives at the two cells, of which a single operator sees the first; a number that is no code gives an
+// empty cell. The words of FLOAT cells, once judged, are no NaN's.
+pub fn computed(code: u8, ma: u8, na: u64, mb: u8, nb: u64) -> Answer
+    requires { ⌜ (kindOf code ≡ FLOAT → NoNan na × NoNan nb) ⌝ }
+    ensures { λ r. ⌜ r ≡ codeCell code (standing (kindOf code) ma na) (standing (kindOf code) mb nb) ⌝ }
+{
+    match code {
+        1 => add(int_cell(ma, na), int_cell(mb, nb)),
+        2 => sub(int_cell(ma, na), int_cell(mb, nb)),
+        3 => mul(int_cell(ma, na), int_cell(mb, nb)),
+        4 => div(int_cell(ma, na), int_cell(mb, nb)),
+        5 => modulo(int_cell(ma, na), int_cell(mb, nb)),
+        6 => eq(int_cell(ma, na), int_cell(mb, nb)),
+        7 => ne(int_cell(ma, na), int_cell(mb, nb)),
+        8 => lt(int_cell(ma, na), int_cell(mb, nb)),
+        9 => le(int_cell(ma, na), int_cell(mb, nb)),
+        10 => gt(int_cell(ma, na), int_cell(mb, nb)),
+        11 => ge(int_cell(ma, na), int_cell(mb, nb)),
+        17 => add(float_cell(ma, na), float_cell(mb, nb)),
+        18 => sub(float_cell(ma, na), float_cell(mb, nb)),
+        19 => mul(float_cell(ma, na), float_cell(mb, nb)),
+        20 => div(float_cell(ma, na), float_cell(mb, nb)),
+        22 => eq(float_cell(ma, na), float_cell(mb, nb)),
+        23 => ne(float_cell(ma, na), float_cell(mb, nb)),
+        24 => lt(float_cell(ma, na), float_cell(mb, nb)),
+        25 => le(float_cell(ma, na), float_cell(mb, nb)),
+        26 => gt(float_cell(ma, na), float_cell(mb, nb)),
+        27 => ge(float_cell(ma, na), float_cell(mb, nb)),
+        38 => eq(truth_cell(ma, na), truth_cell(mb, nb)),
+        39 => ne(truth_cell(ma, na), truth_cell(mb, nb)),
+        44 => and(truth_cell(ma, na), truth_cell(mb, nb)),
+        45 => or(truth_cell(ma, na), truth_cell(mb, nb)),
+        53 => negate(int_cell(ma, na)),
+        54 => negate(float_cell(ma, na)),
+        57 => absolute(int_cell(ma, na)),
+        58 => absolute(float_cell(ma, na)),
+        63 => negation(truth_cell(ma, na)),
+        65 => emptiness(int_cell(ma, na)),
+        66 => emptiness(float_cell(ma, na)),
+        67 => emptiness(truth_cell(ma, na)),
+        _ => Answer::Is(Cell::Empty),
+    }
+}

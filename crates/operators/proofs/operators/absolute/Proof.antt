@@ -1,0 +1,29 @@
+-- `operators::operators::absolute` meets its contract: each arm is given which cell c is. Assumes nothing.
+use borrow.Author.Needs.{needs, sfits-of}
+use mathlib.Core.Path.{sym, ap, _∙_}
+use mir.Facts.{toZ-ofZ}
+use mir.Syntax.{w64}
+use mir.Val.{SFits}
+use Rattle.paper.specs.Operators.{singleCell, signed}
+use Rattle.paper.specs.declared.Answer.the-variants.{Is}
+use Rattle.paper.specs.declared.Cell.the-variants.{Float}
+use Rattle.paper.specs.declared.SingleOp.the-variants.{Absolute}
+use Rattle.operators.proofs.operators.absolute.Statement.{statement}
+use Rattle.operators.proofs.operators.absolute.Tie as tie
+
+returns-2 : tie.Need-returns-2
+unfolding singleCell signed
+returns-2 c =
+    let k = c .before .before in
+    let fx : SFits w64 (k .c .given .0 .0) = sfits-of (search needs) in
+    simp toZ-ofZ at (c .int-abs .ensures) ∙ sym (ap (singleCell Absolute) (k .c .given .1))
+
+pub absolute-spec : {M : Type 1} → statement M
+unfolding singleCell signed
+absolute-spec =
+    tie.close
+    (tie.spec
+    (λ c. search needs) (λ c. search needs) (λ c κs. search needs) (λ c. search needs) (λ c κs. search needs) (λ c. search needs)
+    (λ c. sym (ap (singleCell Absolute) (c .enum-told .given .1))) returns-2
+    (λ c. ap (λ y. Is (Float y)) (c .float-abs .ensures) ∙ sym (ap (singleCell Absolute) (c .before .before .c2 .given .1)))
+    (λ c. sym (ap (singleCell Absolute) (c .enum-told2 .given .1))))

@@ -1,0 +1,30 @@
+-- `operators::pairs::both` meets its contract: each arm is given which cells a and b are. Assumes nothing.
+use borrow.Author.Needs.{needs, sfits-of}
+use mathlib.Core.Path.{sym, ap₂}
+use mir.Facts.{toZ-ofZ}
+use mir.Syntax.{w64}
+use mir.Val.{SFits}
+use Rattle.paper.specs.Operators.{two}
+use Rattle.operators.proofs.pairs.both.Statement.{statement}
+use Rattle.operators.proofs.pairs.both.Tie as tie
+
+returns-3 : tie.Need-returns-3
+unfolding two
+returns-3 c =
+    let ka = c .before .before .before .before in let kb = c .before in
+    let fx : SFits w64 (ka .a .given .0 .0) = sfits-of (search needs) in
+    let fy : SFits w64 (kb .b .given .0 .0) = sfits-of (search needs) in
+    simp toZ-ofZ (sym (ap₂ two (ka .a .given .1) (kb .b .given .1)))
+
+pub both-spec : {M : Type 1} → statement M
+unfolding two
+both-spec =
+    tie.close
+    (tie.spec
+    (λ c. search needs) (λ c. search needs) (λ c. search needs) (λ c. search needs) (λ c. search needs) (λ c. search needs)
+    (λ c. search needs) (λ c. search needs) (λ c. search needs) (λ c. search needs) (λ c. search needs) (λ c. search needs)
+    (λ c. search needs) (λ c. search needs) (λ c. search needs) (λ c. search needs) (λ c. search needs) (λ c. search needs) returns-3
+    (λ c. search needs) (λ c. search needs) (λ c. search needs) (λ c. search needs)
+    (λ c. sym (ap₂ two (c .before .before .before .before .a2 .given .1) (c .before .b2 .given .1))) (λ c. search needs)
+    (λ c. search needs) (λ c. search needs) (λ c. search needs)
+    (λ c. sym (ap₂ two (c .before .before .before .before .a3 .given .1) (c .before .b3 .given .1))))

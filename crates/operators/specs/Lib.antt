@@ -1,0 +1,3 @@
+-- What the contracts cite beside the paper's definitions.
+pub mod Logic
+pub mod Told

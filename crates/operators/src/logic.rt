@@ -1,0 +1,54 @@
+// Truth values that may be unknown, as SQL has them. AND and OR are one function: AND is decided by FALSE, OR by TRUE.
+use paper::Cell;
+ghost use mathlib.Core.Path.{_≡_};
+ghost use Rattle.paper.specs.Cells.{isTruth};
+ghost use Rattle.paper.specs.Operators.{notCell, emptyCell};
+ghost use Rattle.operators.specs.Logic.{decidedBy};
+
+// Whether c is the truth value v, and nothing else.
+pub fn is_truth(v: bool, c: Cell) -> bool
+    ensures { λ r. ⌜ r ≡ isTruth v c ⌝ }
+{
+    match c {
+        Cell::Empty => false,
+        Cell::Int(_) => false,
+        Cell::Float(_) => false,
+        Cell::Truth(b) => v == b,
+    }
+}
+
+// v where one is v, its opposite where both are that, else unknown.
+pub fn decided_by(v: bool, a: Cell, b: Cell) -> Cell
+    ensures { λ r. ⌜ r ≡ decidedBy v a b ⌝ }
+{
+    if is_truth(v, a) {
+        return Cell::Truth(v);
+    }
+    if is_truth(v, b) {
+        return Cell::Truth(v);
+    }
+    if is_truth(!v, a) {
+        if is_truth(!v, b) {
+            return Cell::Truth(!v);
+        }
+    }
+    Cell::Empty
+}
+
+pub fn not_cell(c: Cell) -> Cell
+    ensures { λ r. ⌜ r ≡ notCell c ⌝ }
+{
+    if is_truth(true, c) {
+        return Cell::Truth(false);
+    }
+    if is_truth(false, c) {
+        return Cell::Truth(true);
+    }
+    Cell::Empty
+}
+
+pub fn is_empty(c: Cell) -> bool
+    ensures { λ r. ⌜ r ≡ emptyCell c ⌝ }
+{
+    cell::bytes::mark_of(c) == 0
+}

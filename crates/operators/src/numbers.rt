@@ -1,0 +1,82 @@
+// The operators' numbers, each way: a number's operator, or that it has none, and an operator's number.
+use paper::PairOp;
+use paper::SingleOp;
+ghost use mathlib.Core.Path.{_≡_};
+ghost use Rattle.paper.specs.Operators.{pairOp, pairNo, singleOp, singleNo};
+ghost use Rattle.operators.specs.Told.{toldPair, toldSingle};
+
+pub enum PairGot {
+    Is(PairOp),
+    Unknown,
+}
+
+pub enum SingleGot {
+    Is(SingleOp),
+    Unknown,
+}
+
+// The pair operator whose number is n.
+pub fn pair_op(n: u8) -> PairGot
+    ensures { λ r. ⌜ toldPair r ≡ pairOp n ⌝ }
+{
+    match n {
+        1 => PairGot::Is(PairOp::Add),
+        2 => PairGot::Is(PairOp::Sub),
+        3 => PairGot::Is(PairOp::Mul),
+        4 => PairGot::Is(PairOp::Div),
+        5 => PairGot::Is(PairOp::Mod),
+        6 => PairGot::Is(PairOp::Eq),
+        7 => PairGot::Is(PairOp::Ne),
+        8 => PairGot::Is(PairOp::Lt),
+        9 => PairGot::Is(PairOp::Le),
+        10 => PairGot::Is(PairOp::Gt),
+        11 => PairGot::Is(PairOp::Ge),
+        12 => PairGot::Is(PairOp::And),
+        13 => PairGot::Is(PairOp::Or),
+        _ => PairGot::Unknown,
+    }
+}
+
+pub fn pair_number(op: PairOp) -> u8
+    ensures { λ r. ⌜ r ≡ pairNo op ⌝ }
+{
+    match op {
+        PairOp::Add => 1,
+        PairOp::Sub => 2,
+        PairOp::Mul => 3,
+        PairOp::Div => 4,
+        PairOp::Mod => 5,
+        PairOp::Eq => 6,
+        PairOp::Ne => 7,
+        PairOp::Lt => 8,
+        PairOp::Le => 9,
+        PairOp::Gt => 10,
+        PairOp::Ge => 11,
+        PairOp::And => 12,
+        PairOp::Or => 13,
+    }
+}
+
+// The single operator whose number is n.
+pub fn single_op(n: u8) -> SingleGot
+    ensures { λ r. ⌜ toldSingle r ≡ singleOp n ⌝ }
+{
+    match n {
+        1 => SingleGot::Is(SingleOp::Negate),
+        2 => SingleGot::Is(SingleOp::Absolute),
+        3 => SingleGot::Is(SingleOp::Not),
+        4 => SingleGot::Is(SingleOp::IsEmpty),
+        _ => SingleGot::Unknown,
+    }
+}
+
+pub fn single_number(op: SingleOp) -> u8
+    ensures { λ r. ⌜ r ≡ singleNo op ⌝ }
+{
+    match op {
+        SingleOp::Negate => 1,
+        SingleOp::Absolute => 2,
+        SingleOp::Not => 3,
+        SingleOp::IsEmpty => 4,
+    }
+}

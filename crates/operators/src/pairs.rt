@@ -1,0 +1,31 @@
+// What two cells are: two of one type, an empty one among them, or cells of unlike types. Each operator is a match on it.
+use paper::Cell;
+use paper::Two;
+ghost use mathlib.Core.Path.{_≡_};
+ghost use Rattle.paper.specs.Operators.{two};
+
+pub fn both(a: Cell, b: Cell) -> Two
+    ensures { λ r. ⌜ r ≡ two a b ⌝ }
+{
+    match a {
+        Cell::Empty => Two::OneEmpty,
+        Cell::Int(x) => match b {
+            Cell::Empty => Two::OneEmpty,
+            Cell::Int(y) => Two::Ints(x, y),
+            Cell::Float(_) => Two::Unlike,
+            Cell::Truth(_) => Two::Unlike,
+        },
+        Cell::Float(x) => match b {
+            Cell::Empty => Two::OneEmpty,
+            Cell::Int(_) => Two::Unlike,
+            Cell::Float(y) => Two::Floats(x, y),
+            Cell::Truth(_) => Two::Unlike,
+        },
+        Cell::Truth(x) => match b {
+            Cell::Empty => Two::OneEmpty,
+            Cell::Int(_) => Two::Unlike,
+            Cell::Float(_) => Two::Unlike,
+            Cell::Truth(y) => Two::Truths(x, y),
+        },
+    }
+}

@@ -1,0 +1,70 @@
+-- The store puts the longer axis in its place; both limits are in range, so the sum fits.
+use Prim.Native.Nat.{_-_, _<_}
+use mathlib.Core.Path.{ap, _≡_}
+use native.Mathlib.Omega.{arith}
+use borrow.Author.Needs.{needs}
+use lib.ListN.{length, length-take}
+use Rattle.coordinates.specs.Loops.{length-mapped}
+use Rattle.extent.specs.Tests.{sound-axis}
+use Rattle.paper.specs.Answers.{axesOf}
+use Rattle.paper.specs.Limits.{mostAxes}
+use Rattle.paper.specs.declared.Axis.{Axis}
+use Rattle.shape.specs.Joined.{glued-told, tidy-at}
+use Rattle.shape.proofs.glued_along.Statement.{statement}
+use Rattle.shape.proofs.glued_along.Tie as tie
+
+few : (c : tie.Start) → c .args .k .0 - 1 < mostAxes
+few c =
+    let l : length (c .args .e .axes) ≡ mostAxes = search (needs, length-mapped) in
+    omega (arith, length-take (c .args .e .rank) (c .args .e .axes), c .pre .one, c .pre .last)
+
+axis-of-requires : tie.Need-axis-of-requires
+axis-of-requires c κs = search needs
+
+axis-of-requires-2 : tie.Need-axis-of-requires-2
+axis-of-requires-2 c κs = search needs
+
+width-of-requires : tie.Need-width-of-requires
+width-of-requires c κs = rw (c .axis-of2 .ensures) (sound-axis (axesOf (c .before .before .args .f)) (c .before .before .args .k .0 - 1) (c .before .before .pre .second))
+
+cast-hi : tie.Need-cast-hi
+cast-hi c = search needs
+
+add-hi : tie.Need-add-hi
+add-hi c =
+    let r = sound-axis (axesOf (c .before .before .before .before .args .e)) (c .before .before .before .before .args .k .0 - 1) (c .before .before .before .before .pre .first) in
+    omega (arith, r, ap (λ (a : Axis). a .hi) (c .before .before .before .axis-of .ensures), c .before .width-of .ensures .1)
+
+cast-i : tie.Need-cast-i
+cast-i c = search needs
+
+sub-i : tie.Need-sub-i
+sub-i c = omega (arith, c .before .before .before .before .before .pre .one)
+
+mul-t11 : tie.Need-mul-t11
+mul-t11 c = search needs
+
+element-set-from-new : tie.Need-element-set-from-new
+element-set-from-new c = few (c .before .before .before .before .before)
+
+returns : tie.Need-returns
+returns c =
+    let s = c .before .before .before .before .before in (
+      glued-told (s .args .e) (axesOf (s .args .f)) (s .args .k .0) (s .pre .one) (s .pre .last) (c .before .before .before .before .axis-of .result) (c .before .before .before .axis-of2 .result) (c .before .before .width-of .result) (c .before .before .before .before .axis-of .ensures) (c .before .before .before .axis-of2 .ensures) (c .before .before .width-of .ensures .0),
+      tidy-at (s .args .e) (s .args .k .0 - 1) _ (omega (arith, s .pre .one, s .pre .last)),
+    )
+
+pub glued-along-spec : {M : Type 1} → statement M
+glued-along-spec =
+    tie.close
+    (tie.spec
+    axis-of-requires
+    axis-of-requires-2
+    width-of-requires
+    cast-hi
+    add-hi
+    cast-i
+    sub-i
+    mul-t11
+    element-set-from-new
+    returns)

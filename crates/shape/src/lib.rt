@@ -1,0 +1,228 @@
+// New extents from old, by value: with the limits, amounts or names of a step's detail, with an axis removed, and two glued. An extent
+// is built axis by axis, so that nothing stands past its last axis.
+ghost use mathlib.Core.Path.{_≡_};
+ghost use mathlib.Core.List.{[]};
+ghost use lib.ListN.{drop};
+ghost use Rattle.paper.specs.Limits.{detailBytes, pairBytes, limitBytes, nameBytes};
+ghost use Rattle.paper.specs.Numbers.{part};
+ghost use Rattle.paper.specs.Axes.{without};
+ghost use Rattle.paper.specs.Recipe.{eachAnew, withLimits, shifted, renamed, glued};
+ghost use Rattle.paper.specs.Answers.{axesOf, extentOf};
+ghost use Rattle.laws.specs.Answers.{TidyExtent};
+ghost use Rattle.positions.specs.Runs.{Holds};
+ghost use Rattle.extent.specs.Tests.{Ranged};
+ghost use Rattle.extent.specs.Judged.{Small};
+ghost use Rattle.shape.specs.Built.{Room, withAxis, keptOf};
+ghost use Rattle.shape.specs.Renewed.{fresh, bytesFor};
+ghost use Rattle.shape.specs.declared.Change.the-variants.{Limits, Moved, Named};
+ghost use Rattle.shape.specs.Joined.{Gluing};
+use cell::bytes::half;
+use cell::bytes::word;
+use paper::Axis;
+use paper::AxisIndex;
+use paper::Extent;
+use positions::moved_by;
+use positions::position_at;
+
+// The bytes of a pair of limits.
+const PAIR: usize = 8;
+
+// What of each axis is made anew from the detail.
+pub enum Change {
+    Limits,
+    Moved,
+    Named,
+}
+
+// ---- built axis by axis
+
+// No axis yet.
+pub fn empty() -> Extent
+    ensures { λ r. ⌜ r ≡ extentOf [] ⌝ }
+{
+    Extent {
+        rank: 0,
+        axes: [Axis {
+            name: 0,
+            lo: 0,
+            hi: 0,
+        }; paper::AXES],
+    }
+}
+
+// One axis more.
+pub fn with_axis(e: Extent, a: Axis) -> Extent
+    requires { ⌜ Room e ⌝ }
+    ensures { λ r. ⌜ r ≡ withAxis e a ⌝ }
+{
+    let rank = e.rank;
+    let mut new = e;
+    new.axes[rank] = a;
+    new.rank = rank + 1;
+    new
+}
+
+// The same, unless the axis is left out.
+fn kept(e: Extent, a: Axis, out: bool) -> Extent
+    requires { ⌜ Room e ⌝ }
+    ensures { λ r. ⌜ r ≡ keptOf out e a ⌝ }
+{
+    if out {
+        return e;
+    }
+    with_axis(e, a)
+}
+
+// The extent without the axis of that index.
+pub fn removed(e: Extent, k: AxisIndex) -> Extent
+    ensures { λ r. ⌜ r ≡ extentOf (without (k .0) (axesOf e)) ⌝ }
+{
+    let out = k.0 as usize;
+    let rank = extent::rank_of(e);
+    let mut new = empty();
+    let mut i: usize = 0;
+    while i < rank {
+        new = kept(new, e.axes[i], i + 1 == out);
+        i += 1;
+    }
+    new
+}
+
+// ---- from a step's detail
+
+// An axis with the limits of the pair at byte `at`.
+fn limits_at(a: Axis, s: &[u8], at: usize) -> Axis
+    requires { ⌜ Holds at pairBytes (now s) ⌝ }
+    ensures { λ r. ⌜ r ≡ fresh Limits a (drop at (now (s .entry))) ⌝ }
+{
+    let lo = position_at(s, at);
+    let hi = position_at(s, at + positions::LIMIT);
+    Axis {
+        name: a.name,
+        lo,
+        hi,
+    }
+}
+
+// An axis moved by the amount at byte `at`.
+fn moved_at(a: Axis, s: &[u8], at: usize) -> Axis
+    requires { ⌜ Ranged a ⌝ }
+    requires { ⌜ Holds at limitBytes (now s) ⌝ }
+    ensures { λ r. ⌜ r ≡ fresh Moved a (drop at (now (s .entry))) ⌝ }
+{
+    let by = half(s, at);
+    let lo = moved_by(a.lo, by);
+    let hi = moved_by(a.hi, by);
+    Axis {
+        name: a.name,
+        lo,
+        hi,
+    }
+}
+
+// An axis with the name at byte `at`.
+fn named_at(a: Axis, s: &[u8], at: usize) -> Axis
+    requires { ⌜ Holds at nameBytes (now s) ⌝ }
+    ensures { λ r. ⌜ r ≡ fresh Named a (drop at (now (s .entry))) ⌝ }
+{
+    let name = word(s, at);
+    Axis {
+        name,
+        lo: a.lo,
+        hi: a.hi,
+    }
+}
+
+// The bytes that the detail has for each axis.
+fn bytes_for(how: Change) -> usize
+    ensures { λ r. ⌜ r ≡ bytesFor how ⌝ }
+{
+    match how {
+        Change::Limits => PAIR,
+        Change::Moved => positions::LIMIT,
+        Change::Named => extent::NAME,
+    }
+}
+
+// An axis made anew from the bytes at `at`.
+fn axis_anew(how: Change, a: Axis, s: &[u8], at: usize) -> Axis
+    requires { ⌜ Ranged a ⌝ }
+    requires { ⌜ Holds at (bytesFor how) (now s) ⌝ }
+    ensures { λ r. ⌜ r ≡ fresh how a (drop at (now (s .entry))) ⌝ }
+{
+    match how {
+        Change::Limits => {
+            return limits_at(a, s, at);
+        }
+        Change::Moved => {
+            return moved_at(a, s, at);
+        }
+        Change::Named => {
+            return named_at(a, s, at);
+        }
+    }
+}
+
+// Every axis made anew from the detail at byte `at`.
+fn anew(how: Change, e: Extent, s: &[u8], at: usize) -> Extent
+    requires { ⌜ Small (axesOf e) ⌝ }
+    requires { ⌜ Holds at detailBytes (now s) ⌝ }
+    ensures { λ r. ⌜ r ≡ extentOf (eachAnew (fresh how) (bytesFor how) (axesOf e) (part at detailBytes (now (s .entry)))) ⌝ }
+{
+    let width = bytes_for(how);
+    let rank = extent::rank_of(e);
+    let mut new = empty();
+    let mut i: usize = 0;
+    while i < rank {
+        new = with_axis(new, axis_anew(how, e.axes[i], s, at + i * width));
+        i += 1;
+    }
+    new
+}
+
+// The extent with the limits of the pairs.
+pub fn with_limits(e: Extent, s: &[u8], at: usize) -> Extent
+    requires { ⌜ Small (axesOf e) ⌝ }
+    requires { ⌜ Holds at detailBytes (now s) ⌝ }
+    ensures { λ r. ⌜ r ≡ extentOf (withLimits (axesOf e) (part at detailBytes (now (s .entry)))) ⌝ }
+{
+    anew(Change::Limits, e, s, at)
+}
+
+// The extent moved by the amounts.
+pub fn shifted_by(e: Extent, s: &[u8], at: usize) -> Extent
+    requires { ⌜ Small (axesOf e) ⌝ }
+    requires { ⌜ Holds at detailBytes (now s) ⌝ }
+    ensures { λ r. ⌜ r ≡ extentOf (shifted (axesOf e) (part at detailBytes (now (s .entry)))) ⌝ }
+{
+    anew(Change::Moved, e, s, at)
+}
+
+// The extent with the names.
+pub fn with_names(e: Extent, s: &[u8], at: usize) -> Extent
+    requires { ⌜ Small (axesOf e) ⌝ }
+    requires { ⌜ Holds at detailBytes (now s) ⌝ }
+    ensures { λ r. ⌜ r ≡ extentOf (renamed (axesOf e) (part at detailBytes (now (s .entry)))) ⌝ }
+{
+    anew(Change::Named, e, s, at)
+}
+
+// ---- two extents
+
+// The first extent with its axis k longer by the second's. An upper limit may pass the range: the result is judged later.
+pub fn glued_along(e: Extent, f: Extent, k: AxisIndex) -> Extent
+    requires { ⌜ Gluing (k .0) (axesOf e) (axesOf f) ⌝ }
+    ensures { λ r. ⌜ (axesOf r ≡ glued (k .0) (axesOf e) (axesOf f)) × (TidyExtent e → TidyExtent r) ⌝ }
+{
+    let a = extent::axis_of(e, k);
+    let b = extent::axis_of(f, k);
+    let hi = a.hi + extent::width_of(b) as u32;
+    let i = k.0 as usize - 1;
+    let mut new = e;
+    new.axes[i] = Axis {
+        name: a.name,
+        lo: a.lo,
+        hi,
+    };
+    new
+}
