@@ -1,0 +1,16 @@
+use borrow.Author.Tests.{le-leb, lt-leb}
+use Rattle.bundle.proofs.in_range.Statement.{statement}
+use Rattle.bundle.proofs.in_range.Tie as tie
+use Rattle.bundle.proofs.in_range.Reads as reads
+use Rattle.bundle.proofs.in_range.Lts as lts
+
+-- src/lib.rt:84:9
+returns : tie.Need-returns
+returns c = rw (lt-leb 1 (c .before .args .x) (c .if1 .taken))
+
+-- src/lib.rt:80:1
+returns-2 : tie.Need-returns-2
+returns-2 c = rw (le-leb 1 (c .before .args .x) (c .if1 .left))
+
+pub in-range-spec : {M : Type 1} → statement M
+in-range-spec = tie.close (tie.spec returns returns-2)

@@ -1,0 +1,179 @@
+-- One array read, by cases: each way out of the code from the tests that lead to it, at offsets into the bundle's bytes.
+use Prim.Native.Nat.{ℕ, zero, suc, _+_, _-_, _*_, _≤_, _<_}
+use mathlib.Core.Path.{_≡_, refl, sym, ap, ap₂, subst, _∙_}
+use mathlib.Core.Bool.{Bool, true, false, _&&_}
+use mathlib.Core.List.{List}
+use native.Mathlib.Omega.{arith}
+use borrow.Author.Tests.{ne-eqb, le-leb, lt-leb, leb-true}
+use lib.Dec.{eqb, leb}
+use lib.ListN.{length, getD, drop, length-drop}
+use lib.Seq.{drop-drop, getD-drop}
+use Rattle.paper.specs.declared.Axis.{Axis}
+use Rattle.paper.specs.declared.Form.{Form}
+use Rattle.paper.specs.declared.Head.{Head}
+use Rattle.paper.specs.declared.Extent.{Extent}
+use Rattle.paper.specs.declared.Refusal.{Refusal}
+use Rattle.paper.specs.Limits.{mostAxes, typeBytes, axisBytes, cellBytes}
+use Rattle.paper.specs.Refusals.{Res, got, refused, _>>=_, _>>_, if_then_else_, refusal, ensure, between, badBytes1, badExtent2, badCell3}
+use Rattle.paper.specs.Axes.{cells, goodExtent, within, Shape, Array}
+use Rattle.paper.specs.Cells.{isType}
+use Rattle.paper.specs.Bundle.{axisOf, maximumOf, eachAxis, headShape, cellsOf, arrayOf, readArray}
+use Rattle.paper.specs.Answers.{axesOf, extentOf, shapeOf, unless}
+use Rattle.laws.specs.Tests.{and-right}
+use Rattle.laws.specs.Judged.{firstBad, cellsFrom, judged, cells-judged}
+use Rattle.laws.specs.Answers.{extent-axes, formOf, headOf}
+use Rattle.extent.specs.Judged.{cellsWithin, within-zero, within-some}
+use Rattle.bundle.specs.declared.One.{One}
+use Rattle.bundle.specs.Read.{cellsIn, arrayAt, oneOf, none, Fit, JudgedArray, TidyHead, LiesAt, ReadArray}
+
+-- ---- an answer that is a refusal
+
+some-number : (x : Refusal) → (x .number ≡ 0 → ⊥) → {A : Type 0} (a : A) → unless x a ≡ refused x
+some-number x h a = rw (ne-eqb (x .number) 0 h)
+
+module _ (bs : List ℕ) (x : Refusal) (h : x .number ≡ 0 → ⊥) where
+  -- of a form
+  pub judged-none : (from k : ℕ) (form : Form) (r : One) → r ≡ none x → refused x ≡ arrayOf k (shapeOf form) (drop from bs) → JudgedArray bs from k form r
+  judged-none from k form r e q =
+      let z : r .refusal .number ≡ 0 → ⊥ = λ f. h (sym (ap (λ (o : One). o .refusal .number) e) ∙ f) in
+      record {
+        said = ap (oneOf bs) e ∙ some-number x h _ ∙ q;
+        end = omega (arith, ap (λ (o : One). o .end) e);
+        fit = λ f. absurd (z f);
+        held = λ f. absurd (z f);
+        past = λ f. absurd (z f);
+      }
+
+  -- from its first byte
+  pub read-none : (at k : ℕ) (r : One) → r ≡ none x → refused x ≡ readArray k (drop at bs) → ReadArray bs at k r
+  read-none at k r e q =
+      let z : r .refusal .number ≡ 0 → ⊥ = λ f. h (sym (ap (λ (o : One). o .refusal .number) e) ∙ f) in
+      record {
+        said = ap (oneOf bs) e ∙ some-number x h _ ∙ q;
+        end = omega (arith, ap (λ (o : One). o .end) e);
+        fit = λ f. absurd (z f);
+        tidy = λ f. absurd (z f);
+        lies = λ f. absurd (z f);
+      }
+
+-- ---- from the bytes after the axes
+
+module _ (k : ℕ) (s : List ℕ) (from : ℕ) (form : Form) (n : ℕ) (q : n ≡ cellsWithin (shapeOf form .axes) (shapeOf form .maximum)) where
+  abbrev shape : Shape
+  shape = shapeOf form
+
+  abbrev t : ℕ
+  t = form .kind
+
+  pub of-extent : n ≡ 0 → refused (refusal badExtent2 k 0) ≡ arrayOf k shape (drop from s)
+  unfolding arrayOf
+  of-extent e = rw (within-zero (shape .axes) (shape .maximum) (sym q ∙ e))
+
+  module _ (some : n ≡ 0 → ⊥) where
+    is-good : ((goodExtent (shape .axes) && within (shape .axes) (shape .maximum)) ≡ true) × (cells (shape .axes) ≡ n)
+    is-good = let g = within-some (shape .axes) (shape .maximum) (λ e. some (q ∙ e)) in (g .0, g .1 ∙ sym q)
+
+    pub of-short : length s - from < n * cellBytes → refused (refusal badBytes1 k 0) ≡ arrayOf k shape (drop from s)
+    unfolding arrayOf
+    of-short h =
+        let f : leb (n * cellBytes) (length s - from) ≡ false = lt-leb (n * cellBytes) (length s - from) h in
+        rw (is-good .0, is-good .1, length-drop, f)
+
+    module _ (h : n * cellBytes ≤ length s - from) (b : ℕ) (e : b ≡ firstBad t 1 n (drop from s)) where
+      of-cells : arrayOf k shape (drop from s)
+          ≡ (judged k b (cellsFrom t n (drop from s)) >>= (λ cs. got (record { shape = shape; cells = cs }, drop (n * cellBytes) (drop from s))))
+      unfolding arrayOf
+      of-cells =
+          let f : leb (n * cellBytes) (length s - from) ≡ true = le-leb (n * cellBytes) (length s - from) h in
+          rw (is-good .0, is-good .1, length-drop, f, cells-judged n k t 1 (drop from s) (omega arith), ← e)
+
+      pub of-bad : (b ≡ 0 → ⊥) → refused (refusal badCell3 k b) ≡ arrayOf k shape (drop from s)
+      of-bad z = let f : eqb b 0 ≡ false = ne-eqb b 0 z in sym (of-cells ∙ rw f)
+
+      -- all cells are cells: the array is as it stands in the bytes
+      pub of-got : from ≤ length s → b ≡ 0 → (r : One) → r ≡ record { refusal = refusal 0 0 0; head = record { form = form; at = from }; end = from + n * cellBytes } → JudgedArray s from k form r
+      unfolding arrayAt
+      of-got l z r w =
+          let m = is-good .1 in
+          let head : Head = record { form = form; at = from } in
+          let fit : Fit s head = record { good = is-good .0; fits = omega (arith, m); clean = ap (λ (j : ℕ). firstBad t 1 j (drop from s)) m ∙ sym e ∙ z } in
+          record {
+            said =
+                ap (oneOf s) w
+                ∙ ap₂ (λ (j : ℕ) (d : List ℕ). got (record { shape = shape; cells = cellsFrom t j (drop from s) }, d)) m (sym (drop-drop (n * cellBytes) from s))
+                ∙ sym (of-cells ∙ rw z);
+            end = omega (arith, ap (λ (o : One). o .end) w);
+            fit = λ f. subst (λ (o : One). Fit s (o .head)) (sym w) fit;
+            held = λ f. ap (λ (o : One). o .head) w;
+            past = λ f. ap (λ (o : One). o .end) w ∙ ap (λ (j : ℕ). from + j * cellBytes) (sym m);
+          }
+
+-- ---- from its first byte
+
+module _ (k : ℕ) (s : List ℕ) (at t n : ℕ) (et : t ≡ getD s at 0) (en : n ≡ getD s (at + 1) 0) where
+  abbrev E : List Axis
+  E = eachAxis axisOf n (drop (at + typeBytes) s)
+
+  abbrev M : List Axis
+  M = eachAxis maximumOf n (drop (at + typeBytes) s)
+
+  moved : readArray k (drop at s)
+      ≡ (ensure (isType t) badBytes1 k >> (ensure (between 1 mostAxes n) badBytes1 k >> (ensure (leb (typeBytes + n * axisBytes) (length s - at)) badBytes1 k
+      >> arrayOf k (record { type = t; axes = E; maximum = M }) (drop (at + typeBytes + n * axisBytes) s))))
+  unfolding readArray
+  moved =
+      let z : at + 0 ≡ at = omega arith in
+      let p : getD (drop at s) 0 0 ≡ t = getD-drop at s 0 0 ∙ ap (λ (j : ℕ). getD s j 0) z ∙ sym et in
+      let r : getD (drop at s) 1 0 ≡ n = getD-drop at s 1 0 ∙ sym en in
+      let w : at + (typeBytes + n * axisBytes) ≡ at + typeBytes + n * axisBytes = omega arith in
+      rw (p, r, length-drop at s, drop-drop typeBytes at s, drop-drop (typeBytes + n * axisBytes) at s, w)
+
+  pub head-type : isType t ≡ false → refused (refusal badBytes1 k 0) ≡ readArray k (drop at s)
+  head-type e = sym (moved ∙ rw e)
+
+  module _ (e : isType t ≡ true) where
+    pub head-count : between 1 mostAxes n ≡ false → refused (refusal badBytes1 k 0) ≡ readArray k (drop at s)
+    head-count f = sym (moved ∙ rw (e, f))
+
+    module _ (f : between 1 mostAxes n ≡ true) where
+      pub head-short : length s - at < typeBytes + n * axisBytes → refused (refusal badBytes1 k 0) ≡ readArray k (drop at s)
+      head-short h = let g : leb (typeBytes + n * axisBytes) (length s - at) ≡ false = lt-leb _ _ h in sym (moved ∙ rw (e, f, g))
+
+      -- what array_of says of the form that was read
+      module _ (h : typeBytes + n * axisBytes ≤ length s - at) (x m : Extent) (ex : x ≡ extentOf E) (em : m ≡ extentOf M) where
+        abbrev form : Form
+        form = record { kind = t; extent = x; maximum = m }
+
+        form-is : form ≡ formOf (record { type = t; axes = E; maximum = M })
+        form-is = λ i. record { kind = t; extent = ex i; maximum = em i }
+
+        shape-is : shapeOf form ≡ record { type = t; axes = E; maximum = M }
+        shape-is =
+            let p : axesOf x ≡ E = ap axesOf ex ∙ extent-axes E in
+            let q : axesOf m ≡ M = ap axesOf em ∙ extent-axes M in
+            λ i. record { type = t; axes = p i; maximum = q i }
+
+        length-each : (g : List ℕ → Axis) (j : ℕ) (bs : List ℕ) → length (eachAxis g j bs) ≡ j
+        unfolding eachAxis
+        length-each g zero bs = refl
+        length-each g (suc j) bs = ap suc (length-each g j (drop axisBytes bs))
+
+        pub head-rest : (r : One) → JudgedArray s (at + typeBytes + n * axisBytes) k form r → ReadArray s at k r
+        head-rest r j =
+            let g : leb (typeBytes + n * axisBytes) (length s - at) ≡ true = le-leb _ _ h in
+            let from : ℕ = at + typeBytes + n * axisBytes in
+            let wide : length (shapeOf form .axes) ≡ n = ap (λ (y : Shape). length (y .axes)) shape-is ∙ length-each axisOf n (drop (at + typeBytes) s) in
+            record {
+              said = j .said ∙ ap (λ (y : Shape). arrayOf k y (drop from s)) shape-is ∙ sym (moved ∙ rw (e, f, g));
+              end = j .end;
+              fit = j .fit;
+              tidy = λ z.
+                  let w = j .held z in
+                  let y : shapeOf (r .head .form) ≡ record { type = t; axes = E; maximum = M } = ap (λ (o : Head). shapeOf (o .form)) w ∙ shape-is in
+                  w ∙ (λ i. record { form = (form-is ∙ sym (ap formOf y)) i; at = ap (λ (o : Head). o .at) (sym w) i });
+              lies = λ z.
+                  let w = j .held z in
+                  let a : r .head .at ≡ from = ap (λ (o : Head). o .at) w in
+                  let l : length (shapeOf (r .head .form) .axes) ≡ n = ap (λ (o : Head). length (shapeOf (o .form) .axes)) w ∙ wide in
+                  record { begins = omega arith; ends = j .past z ∙ ap₂ (λ (x y : ℕ). x + y * cellBytes) (sym a) (sym (ap (λ (o : Head). cellsIn (o .form)) w)) };
+            }

@@ -1,0 +1,3 @@
+-- What the loops over a bundle's bytes cite.
+pub mod Judge
+pub mod Axes
