@@ -16,6 +16,7 @@ use Rattle.paper.specs.Axes.{sameName, without}
 use Rattle.paper.specs.Recipe.{alike, sameLimits}
 use Rattle.paper.specs.Answers.{axesOf}
 use Rattle.extent.specs.Rank.{Rank, axisNo, axes-up, axes-end}
+use Rattle.extent.specs.Tests.{and-and}
 use Rattle.compare.specs.declared.Compared.{Compared}
 use Rattle.compare.specs.declared.Compared.the-variants.{Names, All, AllBut}
 
@@ -70,16 +71,12 @@ by-names i (a ∷ E) [] = refl
 by-names i (a ∷ E) (b ∷ F) = ap (λ (t : Bool). sameName a b && t) (by-names (i + 1) E F)
 
 -- a name and a limit, then the other names and the other limits
-both : (n l N L : Bool) → ((n && l) && (N && L)) ≡ ((n && N) && (l && L))
-both true true true L = refl
-both true true false L = refl
-both true false true L = refl
-both true false false L = refl
-both false l N L = refl
-
-one : (n N L : Bool) → (n && (N && L)) ≡ ((n && N) && L)
-one true N L = refl
-one false N L = refl
+pub crossed : (n l N L : Bool) → ((n && l) && (N && L)) ≡ ((n && N) && (l && L))
+crossed true true true L = refl
+crossed true true false L = refl
+crossed true false true L = refl
+crossed true false false L = refl
+crossed false l N L = refl
 
 -- names and all limits
 pub by-all : (i : ℕ) (E F : List Axis) → agreeing All i E F ≡ (alike sameName E F && alike sameLimits E F)
@@ -87,7 +84,7 @@ unfolding agreeing alike
 by-all i [] [] = refl
 by-all i [] (b ∷ F) = refl
 by-all i (a ∷ E) [] = refl
-by-all i (a ∷ E) (b ∷ F) = ap (λ (t : Bool). (sameName a b && sameLimits a b) && t) (by-all (i + 1) E F) ∙ both (sameName a b) (sameLimits a b) (alike sameName E F) (alike sameLimits E F)
+by-all i (a ∷ E) (b ∷ F) = ap (λ (t : Bool). (sameName a b && sameLimits a b) && t) (by-all (i + 1) E F) ∙ crossed (sameName a b) (sameLimits a b) (alike sameName E F) (alike sameLimits E F)
 
 -- past an axis its limits count no more
 past : (k : AxisIndex) (i : ℕ) (E F : List Axis) → k .0 < i → agreeing (AllBut k) i E F ≡ agreeing All i E F
@@ -109,11 +106,11 @@ but-from k (suc n) i [] [] h = refl
 but-from k n i [] (b ∷ F) h = refl
 but-from k n i (a ∷ E) [] h = refl
 but-from k zero i (a ∷ E) (b ∷ F) h =
-    rw (eq-eqb i (k .0) (omega arith)) (ap (λ (t : Bool). sameName a b && t) (past k (i + 1) E F (omega arith) ∙ by-all (i + 1) E F) ∙ one (sameName a b) (alike sameName E F) (alike sameLimits E F))
+    rw (eq-eqb i (k .0) (omega arith)) (ap (λ (t : Bool). sameName a b && t) (past k (i + 1) E F (omega arith) ∙ by-all (i + 1) E F) ∙ and-and (sameName a b) (alike sameName E F) (alike sameLimits E F))
 but-from k (suc n) i (a ∷ E) (b ∷ F) h =
     rw (ne-eqb i (k .0) (λ e. omega arith))
     (ap (λ (t : Bool). (sameName a b && sameLimits a b) && t) (but-from k n (i + 1) E F (omega arith))
-    ∙ both (sameName a b) (sameLimits a b) (alike sameName E F) (alike sameLimits (omit n E) (omit n F)))
+    ∙ crossed (sameName a b) (sameLimits a b) (alike sameName E F) (alike sameLimits (omit n E) (omit n F)))
 
 pub by-all-but : (k : AxisIndex) (E F : List Axis) → agreeing (AllBut k) 1 E F ≡ (alike sameName E F && alike sameLimits (without (k .0) E) (without (k .0) F))
 by-all-but k E F = by (eqb (k .0) 0) refl

@@ -1,6 +1,7 @@
--- One extent covers another where each axis covers the other's: the first and the last coordinate then lie inside.
+-- One extent covers another where each axis covers the other's: the first and the last coordinate then lie inside. The loop keeps the
+-- test of the axes left equal to the whole test.
 use Prim.Native.Nat.{ℕ, _+_, _≤_, _<_}
-use mathlib.Core.Path.{_≡_, refl, sym, ap, _∙_}
+use mathlib.Core.Path.{_≡_, sym, ap, _∙_}
 use mathlib.Core.Bool.{Bool, true, false, _&&_}
 use mathlib.Core.List.{List, map}
 use native.Mathlib.Omega.{arith}
@@ -12,20 +13,15 @@ use Rattle.paper.specs.Recipe.{covers}
 use Rattle.paper.specs.Answers.{axesOf}
 use Rattle.extent.specs.Rank.{Rank, axisNo, axes-up, axes-end}
 use Rattle.place.specs.Positions.{inside-other}
+use Rattle.compare.specs.Agreeing.{crossed}
 
 abbrev pub axisCovers : Axis → Axis → Bool
 axisCovers a b = onAxis a (b .lo) && onAxis a (b .hi)
 
-both : (x y p q : Bool) → ((x && p) && (y && q)) ≡ ((x && y) && (p && q))
-both true true p q = refl
-both true false true q = refl
-both true false false q = refl
-both false y p q = refl
-
 module _ (e f : Extent) (r s : ℕ) (k : Rank e r) (l : Rank f s) (same : s ≡ r) (i : ℕ) where
   pub covers-up : i < r → covers (drop i (axesOf e)) (drop i (axesOf f)) ≡ (axisCovers (axisNo e i) (axisNo f i) && covers (drop (i + 1) (axesOf e)) (drop (i + 1) (axesOf f)))
   unfolding inside
-  covers-up b = rw (axes-up e r k i b, axes-up f s l i (omega arith)) (both (onAxis (axisNo e i) (axisNo f i .lo)) (onAxis (axisNo e i) (axisNo f i .hi)) _ _)
+  covers-up b = rw (axes-up e r k i b, axes-up f s l i (omega arith)) (crossed (onAxis (axisNo e i) (axisNo f i .lo)) _ (onAxis (axisNo e i) (axisNo f i .hi)) _)
 
   pub covers-end : r ≤ i → true ≡ covers (drop i (axesOf e)) (drop i (axesOf f))
   unfolding inside

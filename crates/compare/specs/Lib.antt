@@ -1,3 +1,4 @@
--- Two extents compared axis by axis, and one covered by another: what the loops answer, and that it is what the paper asks.
+-- What the loops of this crate answer, and that it is what the paper asks: two extents compared axis by axis,
+-- and one covered by the other.
 pub mod Agreeing
 pub mod Covering

@@ -25,15 +25,9 @@ fn limits_count(how: Compared, index: usize) -> bool
     ensures { λ r. ⌜ r ≡ limitsCount how index ⌝ }
 {
     match how {
-        Compared::Names => {
-            return false;
-        }
-        Compared::All => {
-            return true;
-        }
-        Compared::AllBut(k) => {
-            return index != k.0 as usize;
-        }
+        Compared::Names => return false,
+        Compared::All => return true,
+        Compared::AllBut(k) => return index != k.0 as usize,
     }
 }
 
@@ -78,42 +72,18 @@ pub fn agrees(op: Operation, k: AxisIndex, e: Extent, f: Extent) -> bool
     ensures { λ r. ⌜ r ≡ agree op (k .0) (axesOf e) (axesOf f) ⌝ }
 {
     match op {
-        Operation::Trim => {
-            return true;
-        }
-        Operation::Slice => {
-            return true;
-        }
-        Operation::Reshape => {
-            return true;
-        }
-        Operation::Shift => {
-            return true;
-        }
-        Operation::Rename => {
-            return true;
-        }
-        Operation::Update => {
-            return all_agree(Compared::Names, e, f);
-        }
-        Operation::Put => {
-            return all_agree(Compared::Names, shape::removed(e, k), f);
-        }
-        Operation::Glue => {
-            return all_agree(Compared::AllBut(k), e, f);
-        }
-        Operation::Pair(_) => {
-            return all_agree(Compared::All, e, f);
-        }
-        Operation::RightScalar(_) => {
-            return true;
-        }
-        Operation::LeftScalar(_) => {
-            return true;
-        }
-        Operation::Single(_) => {
-            return true;
-        }
+        Operation::Trim => return true,
+        Operation::Slice => return true,
+        Operation::Reshape => return true,
+        Operation::Shift => return true,
+        Operation::Rename => return true,
+        Operation::Update => return all_agree(Compared::Names, e, f),
+        Operation::Put => return all_agree(Compared::Names, shape::removed(e, k), f),
+        Operation::Glue => return all_agree(Compared::AllBut(k), e, f),
+        Operation::Pair(_) => return all_agree(Compared::All, e, f),
+        Operation::RightScalar(_) => return true,
+        Operation::LeftScalar(_) => return true,
+        Operation::Single(_) => return true,
     }
 }
 

@@ -1,4 +1,5 @@
--- Names by number: the paper's test of a name's bytes, the lowest first, on the number that they are.
+-- Names by number: the paper's test of a name's bytes, the lowest first, on the number that they are. One byte by where it lies, then
+-- the bytes from byte i on.
 use Prim.Native.Nat.{ℕ, zero, suc, _+_, _-_, _*_, _/_, _%_, _^_, _≤_, _<_}
 use mathlib.Core.Path.{_≡_, refl, sym}
 use mathlib.Core.Bool.{Bool, true, false, _&&_, _||_}

@@ -35,12 +35,12 @@ sound-axis (a ∷ E) (suc i) s = sound-axis E i (s .2)
 abbrev pub axisWithin : Axis → Axis → Bool
 axisWithin a m = leb (m .lo) (a .lo) && (leb (a .hi) (m .hi) && leb (m .hi) (2 * reach))
 
-two : (x y z : Bool) → (x && (y && z)) ≡ ((x && y) && z)
-two true y z = refl
-two false y z = refl
+pub and-and : (x y z : Bool) → (x && (y && z)) ≡ ((x && y) && z)
+and-and true y z = refl
+and-and false y z = refl
 
 three : (x y z w : Bool) → (x && (y && (z && w))) ≡ ((x && (y && z)) && w)
-three true y z w = two y z w
+three true y z w = and-and y z w
 three false y z w = refl
 
 -- ---- every axis
@@ -64,7 +64,7 @@ module _ (e : Extent) (r : ℕ) (k : Rank e r) (i : ℕ) where
 
   pub limits-up : i < r → goodLimits (drop i (axesOf e)) ≡ (inRange (axisNo e i) && goodLimits (drop (i + 1) (axesOf e)))
   unfolding goodLimits
-  limits-up b = rw (axes-up e r k i b) (two (leb (axisNo e i .lo) (axisNo e i .hi)) (leb (axisNo e i .hi) (2 * reach)) _)
+  limits-up b = rw (axes-up e r k i b) (and-and (leb (axisNo e i .lo) (axisNo e i .hi)) (leb (axisNo e i .hi) (2 * reach)) _)
 
   pub limits-end : r ≤ i → true ≡ goodLimits (drop i (axesOf e))
   unfolding goodLimits

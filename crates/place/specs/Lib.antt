@@ -1,2 +1,3 @@
--- A coordinate's positions, and the cases of a place.
+-- What the functions of this crate speak of: a coordinate's positions beside an extent's axes.
+-- The cases of a place, each by its tests.
 pub mod Positions

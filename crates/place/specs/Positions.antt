@@ -1,4 +1,5 @@
--- A coordinate's positions beside an extent's axes, an ordinality in range, and the three cases of a place, each by its tests.
+-- A coordinate's positions beside an extent's axes, and an ordinality in range. The three cases of a place, each by its tests: inside
+-- the extent, inside the maximum, neither.
 use Prim.Native.Nat.{ℕ, _≤_}
 use mathlib.Core.Path.{_≡_, refl, ap}
 use mathlib.Core.Bool.{Bool, true, false}

@@ -31,16 +31,17 @@ keptOf out e a = if out then e else withAxis e a
 padded : (n k : ℕ) → n < k → replicate (k - n) noAxis ≡ noAxis ∷ replicate (k - (n + 1)) noAxis
 padded n k h = let e : k - n ≡ suc (k - (n + 1)) = omega arith in rw e
 
-module _ (E : List Axis) (a : Axis) (room : length E < mostAxes) where
-  longer-by : length (E ++ (a ∷ [])) ≡ length E + 1
-  longer-by = length-append E (a ∷ [])
+-- one more at the end
+one-more : {X : Type 0} (m : List X) (x : X) → length (m ++ (x ∷ [])) ≡ length m + 1
+one-more m x = length-append m (x ∷ [])
 
+module _ (E : List Axis) (a : Axis) (room : length E < mostAxes) where
   pub with-axis : withAxis (extentOf E) a ≡ extentOf (E ++ (a ∷ []))
   with-axis =
       let p = ap (λ (l : List Axis). set (E ++ l) (length E) a) (padded (length E) mostAxes room) ∙ set-at E noAxis (replicate (mostAxes - (length E + 1)) noAxis) a (length E) refl in
       let q : E ++ (a ∷ replicate (mostAxes - (length E + 1)) noAxis) ≡ (E ++ (a ∷ [])) ++ replicate (mostAxes - length (E ++ (a ∷ []))) noAxis =
-      rw (longer-by, append-assoc) in
-      ap₂ {C = Extent} (λ (n : ℕ) (l : List Axis). record { rank = n; axes = l }) (sym longer-by) (p ∙ q)
+      rw (one-more E a, append-assoc) in
+      ap₂ {C = Extent} (λ (n : ℕ) (l : List Axis). record { rank = n; axes = l }) (sym (one-more E a)) (p ∙ q)
 
 -- the first i + 1 of a list
 pub take-more : {X : Type 0} (l : List X) (i : ℕ) (d : X) → i < length l → take (i + 1) l ≡ take i l ++ (getD l i d ∷ [])
@@ -60,14 +61,11 @@ module _ (W : List Axis) (i : ℕ) (here : i < length W) (few : length W ≤ mos
 -- ---- without an axis
 
 module _ {X : Type 0} (k : ℕ) (m : List X) (x : X) where
-  one-more : length (m ++ (x ∷ [])) ≡ length m + 1
-  one-more = length-append m (x ∷ [])
-
   -- the one added is left out
   pub without-it : length m + 1 ≡ k → without k (m ++ (x ∷ [])) ≡ without k m
   without-it e =
       let p : take (k - 1) (m ++ (x ∷ [])) ≡ take (k - 1) m = take-append-le (k - 1) m (x ∷ []) (omega arith) in
-      let q : drop k (m ++ (x ∷ [])) ≡ [] = drop-of-length-le (m ++ (x ∷ [])) {i = k} (omega (arith, one-more)) in
+      let q : drop k (m ++ (x ∷ [])) ≡ [] = drop-of-length-le (m ++ (x ∷ [])) {i = k} (omega (arith, one-more m x)) in
       let s : drop k m ≡ [] = drop-of-length-le m {i = k} (omega arith) in
       ap₂ (λ (a b : List X). a ++ b) p (q ∙ sym s)
 
@@ -82,8 +80,8 @@ module _ {X : Type 0} (k : ℕ) (m : List X) (x : X) where
           ∙ sym (append-assoc (take (k - 1) m) (drop k m) (x ∷ []))
       by false e =
           let l : length m + 2 ≤ k = omega (arith, leb-false k (length m) e, n) in
-          let p : take (k - 1) (m ++ (x ∷ [])) ≡ m ++ (x ∷ []) = take-all (k - 1) (m ++ (x ∷ [])) (omega (arith, one-more)) in
-          let q : drop k (m ++ (x ∷ [])) ≡ [] = drop-of-length-le (m ++ (x ∷ [])) {i = k} (omega (arith, one-more)) in
+          let p : take (k - 1) (m ++ (x ∷ [])) ≡ m ++ (x ∷ []) = take-all (k - 1) (m ++ (x ∷ [])) (omega (arith, one-more m x)) in
+          let q : drop k (m ++ (x ∷ [])) ≡ [] = drop-of-length-le (m ++ (x ∷ [])) {i = k} (omega (arith, one-more m x)) in
           let s : take (k - 1) m ≡ m = take-all (k - 1) m (omega arith) in
           let t : drop k m ≡ [] = drop-of-length-le m {i = k} (omega arith) in
           ap₂ (λ (a b : List X). a ++ b) p q ∙ append-nil (m ++ (x ∷ []))

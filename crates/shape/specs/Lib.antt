@@ -1,4 +1,5 @@
--- Extents built axis by axis, axes made anew from the detail, and two extents glued: the laws that the functions cite.
+-- What the functions of this crate cite: extents built axis by axis, without an axis too; axes made anew from the detail;
+-- two extents glued.
 pub mod Built
 pub mod Renewed
 pub mod Joined

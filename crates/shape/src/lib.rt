@@ -151,15 +151,9 @@ fn axis_anew(how: Change, a: Axis, s: &[u8], at: usize) -> Axis
     ensures { λ r. ⌜ r ≡ fresh how a (drop at (now (s .entry))) ⌝ }
 {
     match how {
-        Change::Limits => {
-            return limits_at(a, s, at);
-        }
-        Change::Moved => {
-            return moved_at(a, s, at);
-        }
-        Change::Named => {
-            return named_at(a, s, at);
-        }
+        Change::Limits => return limits_at(a, s, at),
+        Change::Moved => return moved_at(a, s, at),
+        Change::Named => return named_at(a, s, at),
     }
 }
 

@@ -1,3 +1,4 @@
+-- `compare::agrees` meets its contract.
 -- Each operation by its own case of the paper's table.
 use mathlib.Core.Bool.{Bool}
 use mathlib.Core.List.{List}

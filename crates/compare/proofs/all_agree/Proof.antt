@@ -1,3 +1,4 @@
+-- `compare::all_agree` meets its contract.
 -- As many axes; then the loop keeps the comparison of the axes left equal to the whole.
 use Prim.Native.Nat.{ℕ, _+_, _-_}
 use mathlib.Core.Bool.{Bool, _&&_}

@@ -1,3 +1,4 @@
+-- `compare::axes_agree` meets its contract.
 -- Name, lower limit, upper limit.
 use borrow.Author.Tests.{not-false, not-true}
 use Rattle.compare.specs.Agreeing.{by-uppers, lowers-differ, names-differ, names-only}

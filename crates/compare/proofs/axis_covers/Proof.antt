@@ -1,3 +1,4 @@
+-- `compare::axis_covers` meets its contract.
 -- The lower limit, then the upper.
 use mathlib.Core.Path.{sym, _∙_}
 use borrow.Author.Needs.{needs}

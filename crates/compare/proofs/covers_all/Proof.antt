@@ -1,3 +1,4 @@
+-- `compare::covers_all` meets its contract.
 -- As many axes; then the loop keeps the test of the axes left equal to the whole test.
 use Prim.Native.Nat.{ℕ, _+_, _-_}
 use mathlib.Core.Bool.{_&&_}

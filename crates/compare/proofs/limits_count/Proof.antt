@@ -1,3 +1,4 @@
+-- `compare::limits_count` meets its contract.
 -- Each way of comparing by its own case.
 use mathlib.Core.Path.{ap, sym}
 use borrow.Author.Needs.{needs}

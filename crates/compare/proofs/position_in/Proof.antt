@@ -1,3 +1,4 @@
+-- `compare::position_in` meets its contract.
 -- The axis of that index.
 use mathlib.Core.Path.{ap, _∙_}
 use borrow.Author.Needs.{needs}

@@ -1,3 +1,4 @@
+-- `extent::axis_of` meets its contract.
 -- Past the last axis there is none; before it, the first axes of the array are the extent's.
 use Prim.Native.Nat.{ℕ}
 use mathlib.Core.Path.{ap, _∙_}

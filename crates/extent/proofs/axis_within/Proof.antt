@@ -1,3 +1,4 @@
+-- `extent::axis_within` meets its contract.
 -- The lower limit, then the upper, then the maximum's own range.
 use borrow.Author.Tests.{le-leb, lt-leb}
 use Rattle.extent.proofs.axis_within.Statement.{statement}

@@ -1,3 +1,4 @@
+-- `extent::cells_of` meets its contract.
 -- From the last axis to the first: n is the number of cells of the axes done. Where some axes have too many, all have.
 use Prim.Native.Nat.{_*_, _-_, _<_, _≤_}
 use mathlib.Core.Path.{ap, ap₂, subst, sym, _∙_, _≡_}

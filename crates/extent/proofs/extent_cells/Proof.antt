@@ -1,3 +1,4 @@
+-- `extent::extent_cells` meets its contract.
 -- The number is kept where the extent lies inside its maximum.
 use mathlib.Core.Path.{sym, _∙_}
 use native.Mathlib.Omega.{arith}

@@ -1,3 +1,4 @@
+-- `extent::good_extent` meets its contract.
 -- The tests in the paper's order; the number of cells is the last.
 use mathlib.Core.Path.{sym, _∙_}
 use native.Mathlib.Omega.{arith}

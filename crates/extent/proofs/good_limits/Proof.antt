@@ -1,3 +1,4 @@
+-- `extent::good_limits` meets its contract.
 -- The loop keeps the test of the axes left equal to the whole test.
 use Prim.Native.Nat.{_+_, _-_}
 use mathlib.Core.Bool.{_&&_}

@@ -1,3 +1,4 @@
+-- `extent::in_name` meets its contract.
 -- The ranges of the digits, the underscore and the letters, from the lowest code up.
 use mathlib.Core.Path.{ap, sym}
 use Rattle.extent.specs.Names.{below-digits, between-them, by-letter, digit}

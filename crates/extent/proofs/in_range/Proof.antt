@@ -1,3 +1,4 @@
+-- `extent::in_range` meets its contract.
 -- The limits crossed, out of range, or neither.
 use borrow.Author.Tests.{le-leb, lt-leb}
 use Rattle.extent.proofs.in_range.Statement.{statement}

@@ -1,3 +1,4 @@
+-- `extent::is_name` meets its contract.
 -- The first byte is a letter; the loop keeps the test of the bytes left, from byte i on, equal to that of all after the first.
 use Prim.Native.Nat.{_-_, _<_, _^_, _≤_}
 use mathlib.Core.Path.{refl, sym, _∙_, _≡_}

@@ -1,3 +1,4 @@
+-- `extent::is_named` meets its contract.
 -- The loop keeps the search in the axes left equal to the whole search.
 use Prim.Native.Nat.{_+_, _-_}
 use mathlib.Core.Bool.{_||_}

@@ -1,3 +1,4 @@
+-- `extent::is_within` meets its contract.
 -- As many axes; then the loop keeps the test of the axes left equal to the whole test.
 use Prim.Native.Nat.{_+_, _-_}
 use mathlib.Core.Bool.{_&&_}

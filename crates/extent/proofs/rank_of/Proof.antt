@@ -1,3 +1,4 @@
+-- `extent::rank_of` meets its contract.
 -- The rank, or the room where it passes that: as many as the extent's axes, since no more stand in the array.
 use mathlib.Core.Path.{_≡_}
 use native.Mathlib.Omega.{arith}

@@ -1,3 +1,4 @@
+-- `place::coordinate_of` meets its contract.
 -- From the last axis to the first: the positions from i on are those of what is left over within the axes from i on.
 use Prim.Native.Nat.{ℕ, _%_, _*_, _+_, _-_, _/_, _<_, _≤_}
 use mathlib.Core.List.{List, _∷_}

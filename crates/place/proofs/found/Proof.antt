@@ -1,3 +1,4 @@
+-- `place::found` meets its contract.
 -- Each test's answer picks a case of the definition. A maximum with another number of axes holds no coordinate of the extent.
 use Prim.Native.Nat.{ℕ}
 use mathlib.Core.Bool.{false}

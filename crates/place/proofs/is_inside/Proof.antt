@@ -1,3 +1,4 @@
+-- `place::is_inside` meets its contract.
 -- The loop keeps the test of the axes left equal to the whole test.
 use Prim.Native.Nat.{ℕ, _+_, _-_, _≤_}
 use mathlib.Core.Bool.{_&&_}

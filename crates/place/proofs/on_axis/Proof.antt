@@ -1,3 +1,4 @@
+-- `place::on_axis` meets its contract.
 -- Below the lower limit, or by the upper.
 use borrow.Author.Tests.{le-leb, lt-leb}
 use Rattle.place.proofs.on_axis.Statement.{statement}

@@ -1,3 +1,4 @@
+-- `place::ordinality_of` meets its contract.
 -- From the last axis to the first: the sum and the product of the widths are those of the axes done.
 use Prim.Native.Nat.{ℕ, _*_, _+_, _-_, _<_, _≤_}
 use mathlib.Core.List.{List}
@@ -48,21 +49,27 @@ module _ (c : tie.After-rank-of Inv-loop μ-loop) where
   placed : Inside (take r l) (take r p)
   placed = rw (axes, positions) (c .before .pre .1)
 
-  few : (i : ℕ) → offset (drop i (take r l)) (drop i (take r p)) < mostCells
+  -- the sum and the product at the axes from i on
+  abbrev sumFrom : ℕ → ℕ
+  sumFrom i = offset (drop i (take r l)) (drop i (take r p))
+
+  abbrev cellsFrom : ℕ → ℕ
+  cellsFrom i = cells (drop i (take r l))
+
+  few : (i : ℕ) → sumFrom i < mostCells
   few i = omega (arith, offset-few l p r (c .rank-of .ensures .room) room i sound placed, ap cells axes, c .before .pre .0 .few)
 
-  product : (i : ℕ) → cells (drop i (take r l)) ≤ mostCells
+  product : (i : ℕ) → cellsFrom i ≤ mostCells
   product i = omega (arith, cells-drop (take r l) i sound, ap cells axes, c .before .pre .0 .few)
 
-turn-sum : (c : tie.After-above Inv-loop μ-loop)
-    → c .above .result * c .before .before .before .before .loop .later + c .before .before .before .before .loop .sum ≡ offset (drop (c .before .before .before .before .loop .i - 1) (take (r (c .before .before .before .before .before)) (l (c .before .before .before .before .before)))) (drop (c .before .before .before .before .loop .i - 1) (take (r (c .before .before .before .before .before)) (p (c .before .before .before .before .before))))
+turn-sum : (c : tie.After-above Inv-loop μ-loop) → c .above .result * c .before .before .before .before .loop .later + c .before .before .before .before .loop .sum ≡ sumFrom (c .before .before .before .before .before) (c .before .before .before .before .loop .i - 1)
 turn-sum c =
     let s = c .before .before .before .before .before in
     let v = c .before .before .before .before .loop in
     ap₂ _+_ (ap₂ _*_ (c .above .ensures) (v .inv .2)) (v .inv .1)
     ∙ sym (offset-down (l s) (p s) (r s) (s .rank-of .ensures .room) (room s) (v .i) noAxis 0 (omega arith) (omega arith))
 
-turn-later : (c : tie.After-width-of Inv-loop μ-loop) → c .width-of .result * c .before .before .before .before .before .loop .later ≡ cells (drop (c .before .before .before .before .before .loop .i - 1) (take (r (c .before .before .before .before .before .before)) (l (c .before .before .before .before .before .before))))
+turn-later : (c : tie.After-width-of Inv-loop μ-loop) → c .width-of .result * c .before .before .before .before .before .loop .later ≡ cellsFrom (c .before .before .before .before .before .before) (c .before .before .before .before .before .loop .i - 1)
 turn-later c =
     let s = c .before .before .before .before .before .before in
     let v = c .before .before .before .before .before .loop in

@@ -1,3 +1,4 @@
+-- `positions::bits_of` meets its contract.
 -- Below 0 the bits are two's complement; from 0 on they are the number.
 use borrow.Author.Needs.{needs}
 use Rattle.positions.specs.Moves.{bits-below, bits-from}

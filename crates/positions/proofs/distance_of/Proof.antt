@@ -1,3 +1,4 @@
+-- `positions::distance_of` meets its contract.
 -- 0 moved by a number is that number.
 use mathlib.Core.Path.{_∙_}
 use native.Mathlib.Omega.{arith}

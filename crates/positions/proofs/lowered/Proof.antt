@@ -1,3 +1,4 @@
+-- `positions::lowered` meets its contract.
 -- The test of the definition.
 use borrow.Author.Tests.{le-ltb, lt-ltb}
 use Rattle.positions.proofs.lowered.Statement.{statement}

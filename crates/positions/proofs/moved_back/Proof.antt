@@ -1,3 +1,4 @@
+-- `positions::moved_back` meets its contract.
 -- The two halves of the bits, each the other way.
 use mathlib.Core.Path.{_∙_}
 use borrow.Author.Needs.{needs}

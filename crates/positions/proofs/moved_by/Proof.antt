@@ -1,3 +1,4 @@
+-- `positions::moved_by` meets its contract.
 -- The two halves of the bits.
 use mathlib.Core.Path.{_∙_}
 use borrow.Author.Needs.{needs}

@@ -1,3 +1,4 @@
+-- `positions::position_at` meets its contract.
 -- The distance of the number at the byte.
 use Prim.Native.Nat.{ℕ}
 use mathlib.Core.Path.{ap, _∙_}

@@ -1,3 +1,4 @@
+-- `shape::anew` meets its contract.
 -- The loop builds the extent of the axes made anew so far.
 use Prim.Native.Nat.{ℕ, _*_, _+_, _-_, _<_, _≤_}
 use mathlib.Core.List.{List}

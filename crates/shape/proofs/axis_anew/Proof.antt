@@ -1,3 +1,4 @@
+-- `shape::axis_anew` meets its contract.
 -- Each change by its own function.
 use mathlib.Core.Path.{ap, subst, sym, _∙_, _≡_}
 use borrow.Author.Needs.{needs}

@@ -1,3 +1,4 @@
+-- `shape::glued_along` meets its contract.
 -- The store puts the longer axis in its place; both limits are in range, so the sum fits.
 use Prim.Native.Nat.{_-_, _<_}
 use mathlib.Core.Path.{ap, _≡_}

@@ -1,3 +1,4 @@
+-- `shape::kept` meets its contract.
 -- The test of the definition.
 use borrow.Author.Needs.{needs}
 use Rattle.shape.proofs.kept.Statement.{statement}

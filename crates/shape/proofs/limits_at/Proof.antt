@@ -1,3 +1,4 @@
+-- `shape::limits_at` meets its contract.
 -- The two positions of the pair.
 use Prim.Native.Nat.{ℕ}
 use mathlib.Core.List.{List}

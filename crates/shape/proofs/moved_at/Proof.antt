@@ -1,3 +1,4 @@
+-- `shape::moved_at` meets its contract.
 -- Both limits moved by the amount.
 use Prim.Native.Nat.{ℕ}
 use mathlib.Core.Path.{ap, ap₂, _∙_}

@@ -1,3 +1,4 @@
+-- `shape::named_at` meets its contract.
 -- The name of the detail.
 use Prim.Native.Nat.{ℕ}
 use mathlib.Core.Path.{ap}

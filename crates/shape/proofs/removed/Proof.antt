@@ -1,3 +1,4 @@
+-- `shape::removed` meets its contract.
 -- The loop builds the extent of the axes passed, without the one.
 use Prim.Native.Nat.{_-_, _<_, _≤_}
 use mathlib.Core.List.{List}

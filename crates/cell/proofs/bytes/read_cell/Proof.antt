@@ -3,6 +3,7 @@ use borrow.Author.Needs.{needs}
 use mathlib.Core.Path.{_∙_, sym, ap}
 use lib.ListN.{getD}
 use denote.Ref.{now}
+use Rattle.paper.specs.Limits.{wordBytes}
 use Rattle.paper.specs.Cells.{cellFrom, cellOf}
 use Rattle.cell.proofs.Runs.{run-cons}
 use Rattle.cell.proofs.bytes.read_cell.Statement.{statement}
@@ -25,7 +26,7 @@ returns c =
     let a = c .before .before .before .before .args in
     c .from-parts .ensures
     ∙ ap (cellFrom (a .kind) (getD (now (a .s)) (a .at) 0)) (c .before .word .ensures)
-    ∙ ap (cellOf (a .kind)) (sym (run-cons (now (a .s)) (a .at) 8 (search needs)))
+    ∙ ap (cellOf (a .kind)) (sym (run-cons (now (a .s)) (a .at) wordBytes (search needs)))
 
 pub read-cell-spec : {M : Type 1} → statement M
 read-cell-spec =
