@@ -40,3 +40,8 @@ onward made k m cs = if eqb (m .count) 0 then floatSum made k cs else (sumOn k (
 unfoldable pub after : (Running → Ieee.Float) → ℕ → ℕ → Added → List Numbered → Res Cell
 after made k o (On m) cs = onward made k m cs
 after made k o NoFit cs = refused (refusal noFit12 k o)
+
+-- the number of cells in the mean that goes on
+abbrev pub counted : Added → ℕ
+counted (On m) = m .count
+counted NoFit = 0

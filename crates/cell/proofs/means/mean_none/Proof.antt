@@ -5,4 +5,4 @@ use Rattle.cell.proofs.means.mean_none.Statement.{statement}
 use Rattle.cell.proofs.means.mean_none.Tie as tie
 
 pub mean-none-spec : {M : Type 1} → statement M
-mean-none-spec = tie.close (tie.spec (λ c. λ made k cs. onward-none made k _ cs refl))
+mean-none-spec = tie.close (tie.spec (λ c. (λ made k cs. onward-none made k _ cs refl, refl)))

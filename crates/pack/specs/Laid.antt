@@ -1,0 +1,185 @@
+-- Forms whose cells stand one after the other in a buffer: what it is that each was judged good, the bytes that the bundle then has, and
+-- that packing gives these bytes.
+use Prim.Native.Nat.{ℕ, zero, suc, _+_, _*_, _≤_, _<_}
+use mathlib.Core.Path.{_≡_, refl, sym, ap, ap₂, _∙_}
+use mathlib.Core.Bool.{Bool, true, false, _&&_}
+use mathlib.Core.List.{List, [], _∷_, _++_, map}
+use mathlib.Core.Option.{Option, none, some}
+use native.Mathlib.Omega.{arith}
+use borrow.Author.Tests.{le-leb, eqb-true, eqb-false}
+use lib.Dec.{eqb, leb}
+use lib.ListN.{length, take, drop, replicate, length-append, length-take, length-drop, length-map, length-replicate}
+use lib.Seq.{take-append-le, take-add, length-take-le}
+use Rattle.paper.specs.declared.Axis.{Axis}
+use Rattle.paper.specs.declared.Cell.{Cell}
+use Rattle.paper.specs.declared.Form.{Form}
+use Rattle.paper.specs.Limits.{mostArrays, mostAxes, mostCells, axisBytes, typeBytes, cellBytes}
+use Rattle.paper.specs.Refusals.{got, refused, _>>_, if_then_else_, refusal, ensure, between, badBytes1, smallOutput14}
+use Rattle.paper.specs.Numbers.{concat, none?}
+use Rattle.paper.specs.Axes.{cells, goodExtent, within, Shape, Array}
+use Rattle.paper.specs.Cells.{isType, cellOf, cellsBytes}
+use Rattle.paper.specs.Bundle.{mark, arrayOf, axesBytes, arrayBytes, bundleBytes, packArrays, packed}
+use Rattle.paper.specs.Answers.{axesOf, shapeOf}
+use Rattle.laws.specs.Answers.{noHead}
+use Rattle.laws.specs.Cells.{bytes-back}
+use Rattle.laws.specs.Judged.{is?, orEmpty, firstBad, cellsFrom, judged, cells-judged}
+use Rattle.laws.specs.Numbers.{Bytes, bytes-take, bytes-drop}
+use Rattle.laws.specs.Tests.{and-left, and-right}
+use Rattle.extent.specs.Judged.{good-small}
+use Rattle.extent.specs.Tests.{within-other}
+use Rattle.bundle.specs.Read.{cellsIn}
+use Rattle.pack.specs.Put.{axes-length}
+
+-- ---- the shapes that are packed: `count` of them, so that a count out of range is one of the list
+
+abbrev pub noForm : Form
+noForm = noHead .form
+
+abbrev pub shapesOf : ℕ → List Form → List Shape
+shapesOf count forms = map shapeOf (take count (forms ++ replicate count noForm))
+
+pub shapes-length : (count : ℕ) (forms : List Form) → length (shapesOf count forms) ≡ count
+shapes-length count forms =
+    length-map (take count (forms ++ replicate count noForm)) shapeOf
+    ∙ length-take-le count (forms ++ replicate count noForm) (omega (arith, length-append forms (replicate count noForm), length-replicate count noForm))
+
+pub shapes-few : (count : ℕ) (forms : List Form) → count ≤ length forms → shapesOf count forms ≡ map shapeOf (take count forms)
+shapes-few count forms h = ap (map shapeOf) (take-append-le count forms (replicate count noForm) h)
+
+-- ---- one form
+
+-- the number of its cells' bytes
+abbrev pub cellRoom : Form → ℕ
+cellRoom f = cellsIn f * cellBytes
+
+-- its bytes in the bundle, its cells' being the first of bs
+abbrev pub formBytes : Form → List ℕ → List ℕ
+formBytes f bs = f .kind ∷ length (axesOf (f .extent)) ∷ (axesBytes (axesOf (f .extent)) (axesOf (f .maximum)) ++ take (cellRoom f) bs)
+
+-- the most bytes that an array has
+abbrev pub mostBytes : ℕ
+mostBytes = typeBytes + mostAxes * axisBytes + mostCells * cellBytes
+
+-- every test of it passed
+pub record Ready (f : Form) (bs : List ℕ) : Type 0 where
+  pub type : isType (f .kind) ≡ true
+  pub rank : between 1 mostAxes (length (axesOf (f .extent))) ≡ true
+  pub good : (goodExtent (axesOf (f .extent)) && within (axesOf (f .extent)) (axesOf (f .maximum))) ≡ true
+  pub fits : cellRoom f ≤ length bs
+  pub clean : firstBad (f .kind) 1 (cellsIn f) bs ≡ 0
+
+within-alike : (E M : List Axis) → within E M ≡ true → length M ≡ length E
+within-alike E M e = by (eqb (length M) (length E)) refl
+  where
+    by : (b : Bool) → eqb (length M) (length E) ≡ b → length M ≡ length E
+    by true q = eqb-true (length M) (length E) q
+    by false q =
+        let f : false ≡ true = within-other E M (eqb-false (length M) (length E) q) ∙ e in
+        let z : _≡_ {A = ℕ} 0 1 = cc in
+        absurd (omega arith)
+
+-- cells judged, written again, are their bytes
+first-one : (c : Option Cell) (x o : ℕ) → 0 < o → (if is? c then x else o) ≡ 0 → (c ≡ some (orEmpty c)) × (x ≡ 0)
+first-one none x o p e = absurd (omega arith)
+first-one (some c) x o p e = (refl, e)
+
+cells-written : (n t o : ℕ) (bs : List ℕ) → 0 < o → n * cellBytes ≤ length bs → Bytes bs → firstBad t o n bs ≡ 0 → cellsBytes (cellsFrom t n bs) ≡ take (n * cellBytes) bs
+unfolding firstBad cellsFrom concat
+cells-written zero t o bs p l h e = refl
+cells-written (suc n) t o bs p l h e =
+    let f = first-one (cellOf t (take cellBytes bs)) _ o p e in
+    let s : length (take cellBytes bs) ≡ cellBytes = omega (arith, length-take cellBytes bs) in
+    let w : suc n * cellBytes ≡ cellBytes + n * cellBytes = omega arith in
+    ap₂ (λ (x y : List ℕ). x ++ y)
+    (bytes-back t (take cellBytes bs) _ s (bytes-take cellBytes bs h) (f .0))
+    (cells-written n t (o + 1) (drop cellBytes bs) (omega arith) (omega (arith, length-drop cellBytes bs)) (bytes-drop cellBytes bs h) (f .1))
+    ∙ sym (take-add cellBytes (n * cellBytes) bs) ∙ ap (λ (j : ℕ). take j bs) (sym w)
+
+-- the array that it is
+unfoldable pub arrayIn : Form → List ℕ → Array
+arrayIn f bs = record { shape = shapeOf f; cells = cellsFrom (f .kind) (cellsIn f) bs }
+
+module _ (f : Form) (bs : List ℕ) (v : Ready f bs) where
+  abbrev E : List Axis
+  E = axesOf (f .extent)
+
+  abbrev M : List Axis
+  M = axesOf (f .maximum)
+
+  pub ready-alike : length M ≡ length E
+  ready-alike = within-alike E M (and-right (goodExtent E) (within E M) (v .good))
+
+  pub ready-few : cellsIn f ≤ mostCells
+  ready-few = good-small E (and-left (goodExtent E) (within E M) (v .good)) .few
+
+  pub ready-long : length (formBytes f bs) ≡ typeBytes + length E * axisBytes + cellRoom f
+  ready-long = omega (arith, length-append (axesBytes E M) (take (cellRoom f) bs), axes-length E M ready-alike, length-take-le (cellRoom f) bs (v .fits))
+
+  pub ready-of : (k : ℕ) → arrayOf k (shapeOf f) bs ≡ got (arrayIn f bs, drop (cellRoom f) bs)
+  unfolding arrayOf arrayIn
+  ready-of k =
+      let l : leb (cellRoom f) (length bs) ≡ true = le-leb (cellRoom f) (length bs) (v .fits) in
+      rw (v .good, l, cells-judged (cellsIn f) k (f .kind) 1 bs (omega arith), v .clean)
+
+  ready-bytes : Bytes bs → arrayBytes (arrayIn f bs) ≡ formBytes f bs
+  unfolding arrayBytes arrayIn
+  ready-bytes h =
+      ap (λ (x : List ℕ). f .kind ∷ length E ∷ (axesBytes E M ++ x)) (cells-written (cellsIn f) (f .kind) 1 bs (omega arith) (v .fits) h (v .clean))
+
+-- ---- forms, one after the other
+
+abbrev pub AllReady : List Form → List ℕ → Type 0
+AllReady [] bs = Unit {0}
+AllReady (f ∷ fs) bs = Ready f bs × AllReady fs (drop (cellRoom f) bs)
+
+-- their bytes in the bundle
+unfoldable pub laidBytes : List Form → List ℕ → List ℕ
+laidBytes [] bs = []
+laidBytes (f ∷ fs) bs = formBytes f bs ++ laidBytes fs (drop (cellRoom f) bs)
+
+-- and what is left of bs
+unfoldable pub restOf : List Form → List ℕ → List ℕ
+restOf [] bs = bs
+restOf (f ∷ fs) bs = restOf fs (drop (cellRoom f) bs)
+
+unfoldable arraysIn : List Form → List ℕ → List Array
+arraysIn [] bs = []
+arraysIn (f ∷ fs) bs = arrayIn f bs ∷ arraysIn fs (drop (cellRoom f) bs)
+
+arrays-count : (fs : List Form) (bs : List ℕ) → length (arraysIn fs bs) ≡ length fs
+unfolding arraysIn
+arrays-count [] bs = refl
+arrays-count (f ∷ fs) bs = ap suc (arrays-count fs (drop (cellRoom f) bs))
+
+arrays-packed : (fs : List Form) (k : ℕ) (bs : List ℕ) → AllReady fs bs → packArrays k (map shapeOf fs) bs ≡ got (arraysIn fs bs, restOf fs bs)
+unfolding packArrays arraysIn restOf
+arrays-packed [] k bs v = refl
+arrays-packed (f ∷ fs) k bs v = rw (v .0 .type, v .0 .rank, ready-of f bs (v .0) k, arrays-packed fs (k + 1) (drop (cellRoom f) bs) (v .1))
+
+arrays-bytes : (fs : List Form) (bs : List ℕ) → AllReady fs bs → Bytes bs → concat (map arrayBytes (arraysIn fs bs)) ≡ laidBytes fs bs
+unfolding concat arraysIn laidBytes
+arrays-bytes [] bs v h = refl
+arrays-bytes (f ∷ fs) bs v h =
+    ap₂ (λ (x y : List ℕ). x ++ y) (ready-bytes f bs (v .0) h) (arrays-bytes fs (drop (cellRoom f) bs) (v .1) (bytes-drop (cellRoom f) bs h))
+
+-- ---- the bundle
+
+-- the bytes of a bundle of these forms
+abbrev pub bundleOf : ℕ → List Form → List ℕ → List ℕ
+bundleOf count fs bs = mark ++ (count ∷ laidBytes fs bs)
+
+module _ (count : ℕ) (forms : List Form) (bs : List ℕ) (room : ℕ) (h : count ≤ length forms) (b : between 1 mostArrays count ≡ true) (v : AllReady (take count forms) bs) where
+  -- every form passed its tests, and cell bytes are left over
+  pub packed-left : none? (restOf (take count forms) bs) ≡ false → packed (shapesOf count forms) bs room ≡ refused (refusal badBytes1 0 0)
+  unfolding packed
+  packed-left z = rw (shapes-length count forms, b, shapes-few count forms h, arrays-packed (take count forms) 1 bs v, z)
+
+  -- none are left over: the bundle, where there is room for it
+  pub packed-ready : restOf (take count forms) bs ≡ [] → Bytes bs
+      → packed (shapesOf count forms) bs room
+      ≡ (ensure (leb (length (bundleOf count (take count forms) bs)) room) smallOutput14 0 >> got (bundleOf count (take count forms) bs))
+  unfolding packed bundleBytes
+  packed-ready z g =
+      let fs = take count forms in
+      let n : length (arraysIn (take count forms) bs) ≡ count = arrays-count fs bs ∙ length-take-le count forms h in
+      rw (shapes-length count forms, b, shapes-few count forms h, arrays-packed fs 1 bs v, z, arrays-bytes fs bs v g, n)

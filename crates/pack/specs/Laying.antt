@@ -1,0 +1,182 @@
+-- Arrays written one after the other: an array's parts as the code puts them, the loop over the arrays as a record with a law for each
+-- event, and packing as a whole.
+use Prim.Native.Nat.{ℕ, _+_, _-_, _*_, _≤_, _<_}
+use mathlib.Core.Path.{_≡_, refl, sym, ap, ap₂, subst, _∙_}
+use mathlib.Core.Bool.{true, false}
+use mathlib.Core.List.{List, [], _∷_, _++_}
+use native.Mathlib.Omega.{arith}
+use borrow.Author.Tests.{le-leb, lt-leb, leb-true}
+use lib.Dec.{leb}
+use lib.ListN.{length, take, drop, set, length-append, length-drop, length-set, drop-of-length-le}
+use lib.Seq.{drop-drop}
+use Rattle.paper.specs.declared.Form.{Form}
+use Rattle.paper.specs.declared.Refusal.{Refusal}
+use Rattle.paper.specs.declared.PackAnswer.{PackAnswer}
+use Rattle.paper.specs.declared.PackAnswer.the-variants.{Got, Refused}
+use Rattle.paper.specs.Limits.{mostArrays, axisBytes, typeBytes, cellBytes}
+use Rattle.paper.specs.Refusals.{got, refused, refusal, between, smallOutput14}
+use Rattle.paper.specs.Numbers.{part, over}
+use Rattle.paper.specs.Axes.{Shape}
+use Rattle.paper.specs.Bundle.{mark, markBytes, axesBytes, packed, packInto, pack}
+use Rattle.paper.specs.Answers.{axesOf, packSaid}
+use Rattle.laws.specs.Numbers.{Bytes}
+use Rattle.laws.specs.Tests.{and-left, and-right}
+use Rattle.extent.specs.Judged.{cellsWithin}
+use Rattle.bundle.specs.Read.{cellsIn}
+use Rattle.pack.specs.declared.judge.Verdict.{Verdict}
+use Rattle.pack.specs.declared.put.Ends.{Ends}
+use Rattle.pack.specs.Put.{put, put-none, put-byte, length-put, after, axes-length}
+use Rattle.pack.specs.Laid.{shapesOf, cellRoom, formBytes, Ready, ready-alike, ready-long, AllReady, laidBytes, bundleOf, packed-ready}
+use Rattle.pack.specs.Judging.{JudgedAll}
+
+-- ---- an array
+
+-- a form that was judged, and room for its bytes
+pub record ArrayRoom (form : Form) (bs : List ℕ) (from : ℕ) (d : List ℕ) (at : ℕ) : Type 0 where
+  pub start : from ≤ length bs
+  pub ready : Ready form (drop from bs)
+  pub room : at + length (formBytes form (drop from bs)) ≤ length d
+
+-- its bytes are put, and its cells and its bytes end there
+pub record ArrayPut (form : Form) (bs : List ℕ) (from : ℕ) (d : List ℕ) (at : ℕ) (r : Ends) (y : List ℕ) : Type 0 where
+  pub bytes : y ≡ put d at (formBytes form (drop from bs))
+  pub cells : r .from ≡ from + cellRoom form
+  pub next : r .at ≡ at + length (formBytes form (drop from bs))
+
+module _ (form : Form) (bs : List ℕ) (from : ℕ) (d : List ℕ) (at : ℕ) (q : ArrayRoom form bs from d at) (n : ℕ) (en : n ≡ length (axesOf (form .extent)))
+    (m : ℕ) (em : m ≡ cellsWithin (axesOf (form .extent)) (axesOf (form .maximum))) where
+  abbrev axes : List ℕ
+  axes = axesBytes (axesOf (form .extent)) (axesOf (form .maximum))
+
+  pub its-cells : m ≡ cellsIn form
+  its-cells = em ∙ rw (q .ready .good)
+
+  pub its-long : length (formBytes form (drop from bs)) ≡ typeBytes + n * axisBytes + m * cellBytes
+  its-long = omega (arith, ready-long form (drop from bs) (q .ready), its-cells)
+
+  pub its-fit : from + m * cellBytes ≤ length bs
+  its-fit = omega (arith, q .ready .fits, q .start, length-drop from bs, its-cells)
+
+  its-axes : length (axesBytes (axesOf (form .extent)) (axesOf (form .maximum))) ≡ n * axisBytes
+  its-axes = axes-length _ _ (ready-alike form (drop from bs) (q .ready)) ∙ ap (λ (j : ℕ). j * axisBytes) (sym en)
+
+  -- the buffer after the axes is as long as before
+  pub axes-kept : (y : List ℕ) → y ≡ put (set (set d at (form .kind)) (at + 1) n) (at + typeBytes) axes → length y ≡ length d
+  axes-kept y p =
+      let l : length (set (set d at (form .kind)) (at + 1) n) ≡ length d = length-set (set d at (form .kind)) (at + 1) n ∙ length-set d at (form .kind) in
+      ap length p ∙ length-put (set (set d at (form .kind)) (at + 1) n) (at + typeBytes) axes (omega (arith, its-axes, its-long, q .room)) ∙ l
+
+  -- type, axis count, axes, cells, one after the other
+  pub array-put : (y z : List ℕ) → y ≡ put (set (set d at (form .kind)) (at + 1) n) (at + typeBytes) axes → z ≡ put y (at + typeBytes + n * axisBytes) (part from (m * cellBytes) bs)
+      → z ≡ put d at (formBytes form (drop from bs))
+  array-put y z p w =
+      let l = its-long in
+      let r = q .room in
+      let t : List ℕ = form .kind ∷ n ∷ [] in
+      let d₁ = set d at (form .kind) in
+      let e₁ = put-byte d at (form .kind) (omega arith) in
+      let l₁ = length-set d at (form .kind) in
+      let e₂ = after d at (form .kind ∷ []) (n ∷ []) d₁ _ (at + 1) (omega arith) refl e₁ (put-byte d₁ (at + 1) n (omega arith)) in
+      let e₃ = after d at t axes _ y (at + typeBytes) (omega arith) refl e₂ p in
+      let e₄ = after d at (t ++ axes) (part from (m * cellBytes) bs) y z (at + typeBytes + n * axisBytes) (omega (arith, its-axes)) (omega (arith, its-axes)) e₃ w in
+      e₄ ∙ ap₂ (λ (i j : ℕ). put d at (form .kind ∷ i ∷ (axes ++ take (j * cellBytes) (drop from bs)))) en its-cells
+
+-- ---- arrays in a loop
+
+-- forms that were judged, and room for all their bytes
+pub record AllRoom (count : ℕ) (forms : List Form) (bs d : List ℕ) : Type 0 where
+  pub few : count ≤ mostArrays
+  pub ready : AllReady (take count forms) bs
+  pub room : markBytes + 1 + length (laidBytes (take count forms) bs) ≤ length d
+
+-- i forms of fs are written, up to byte `at`, with their cells before byte `from`
+pub record Laying (fs : List Form) (bs d₀ d : List ℕ) (from at i : ℕ) : Type 0 where
+  pub turns : i ≤ length fs
+  pub long : length d ≡ length d₀
+  pub start : from ≤ length bs
+  pub ready : AllReady (drop i fs) (drop from bs)
+  pub room : at + length (laidBytes (drop i fs) (drop from bs)) ≤ length d
+  pub left : put d at (laidBytes (drop i fs) (drop from bs)) ≡ put d₀ (markBytes + 1) (laidBytes fs bs)
+
+pub laying-start : (fs : List Form) (bs d : List ℕ) → AllReady fs bs → markBytes + 1 + length (laidBytes fs bs) ≤ length d → Laying fs bs d d 0 (markBytes + 1) 0
+laying-start fs bs d v h = record { turns = omega arith; long = refl; start = omega arith; ready = v; room = h; left = refl }
+
+module _ (fs : List Form) (bs d₀ d : List ℕ) (from at i : ℕ) (v : Laying fs bs d₀ d from at i) where
+  module _ (f : Form) (e : drop i fs ≡ f ∷ drop (i + 1) fs) where
+    parted : laidBytes (drop i fs) (drop from bs) ≡ formBytes f (drop from bs) ++ laidBytes (drop (i + 1) fs) (drop (from + cellRoom f) bs)
+    unfolding laidBytes
+    parted = rw (e, drop-drop (cellRoom f) from bs)
+
+    both-long : length (laidBytes (drop i fs) (drop from bs)) ≡ length (formBytes f (drop from bs)) + length (laidBytes (drop (i + 1) fs) (drop (from + cellRoom f) bs))
+    both-long = ap length parted ∙ length-append (formBytes f (drop from bs)) _
+
+    its-ready : Ready f (drop from bs) × AllReady (drop (i + 1) fs) (drop (cellRoom f) (drop from bs))
+    its-ready = rw e at (v .ready)
+
+    pub laying-room : ArrayRoom f bs from d at
+    laying-room = record { start = v .start; ready = its-ready .0; room = omega (arith, v .room, both-long) }
+
+    pub laying-more : i < length fs → (r : Ends) (y : List ℕ) → ArrayPut f bs from d at r y → Laying fs bs d₀ y (r .from) (r .at) (i + 1)
+    laying-more h r y p =
+        let x = formBytes f (drop from bs) in
+        let b : at + length (formBytes f (drop from bs)) ≤ length d = laying-room .room in
+        let l : length y ≡ length d = ap length (p .bytes) ∙ length-put d at x b in
+        let w : AllReady (drop (i + 1) fs) (drop (from + cellRoom f) bs) = rw drop-drop at (its-ready .1) in
+        let z : laidBytes (drop (i + 1) fs) (drop (r .from) bs) ≡ laidBytes (drop (i + 1) fs) (drop (from + cellRoom f) bs) = ap (λ (j : ℕ). laidBytes (drop (i + 1) fs) (drop j bs)) (p .cells) in
+        record {
+          turns = omega arith;
+          long = l ∙ v .long;
+          start = omega (arith, p .cells, its-ready .0 .fits, v .start, length-drop from bs);
+          ready = subst (λ (j : ℕ). AllReady (drop (i + 1) fs) (drop j bs)) (sym (p .cells)) w;
+          room = omega (arith, ap length z, v .room, both-long, p .next);
+          left = ap (put y (r .at)) z ∙ after d at x (laidBytes (drop (i + 1) fs) (drop (from + cellRoom f) bs)) y _ (r .at) b (p .next) (p .bytes) refl ∙ ap (put d at) (sym parted) ∙ v .left;
+        }
+
+  pub laying-end : length fs ≤ i → d ≡ put d₀ (markBytes + 1) (laidBytes fs bs)
+  unfolding laidBytes
+  laying-end h = sym (put-none d at) ∙ (rw (drop-of-length-le fs {i = i} h) at (v .left))
+
+-- ---- packing
+
+range : (n : ℕ) → between 1 mostArrays n ≡ true → (1 ≤ n) × (n ≤ mostArrays)
+range n e = (leb-true 1 n (and-left (leb 1 n) (leb n mostArrays) e), leb-true n mostArrays (and-right (leb 1 n) (leb n mostArrays) e))
+
+-- the promise: the answer and the output buffer after are those that the paper's packing gives of these shapes and cells
+pub record PackedInto (ss : List Shape) (bs out : List ℕ) (r : PackAnswer) (y : List ℕ) : Type 0 where
+  pub said : packSaid r ≡ pack ss bs out .answer
+  pub wrote : y ≡ pack ss bs out .out
+
+pub pack-refused : (ss : List Shape) (bs out : List ℕ) (x : Refusal) → packed ss bs (length out) ≡ refused x → PackedInto ss bs out (Refused x) out
+unfolding packInto
+pack-refused ss bs out x e = record { said = rw e; wrote = rw e }
+
+module _ (count : ℕ) (forms : List Form) (bs out : List ℕ) (l : length forms ≡ mostArrays) (g : Bytes bs) (r : Verdict) (j : JudgedAll count forms bs r) (z : r .refusal .number ≡ 0) where
+  abbrev bundle : List ℕ
+  bundle = bundleOf count (take count forms) bs
+
+  pub count-least : (1 ≤ count) × (count ≤ mostArrays)
+  count-least = range count (j .counted z)
+
+  its-length : length bundle ≡ r .long
+  its-length = omega (arith, j .long z)
+
+  pub pack-small : length out < r .long → PackedInto (shapesOf count forms) bs out (Refused (refusal smallOutput14 0 0)) out
+  pack-small h =
+      let f : leb (length bundle) (length out) ≡ false = lt-leb (length bundle) (length out) (omega (arith, its-length)) in
+      pack-refused _ bs out _ (packed-ready count forms bs (length out) (omega (arith, count-least)) (j .counted z) (j .ready z) (j .rest z) g ∙ rw f)
+
+  pub all-room : r .long ≤ length out → (y : List ℕ) → y ≡ put out 0 (mark ++ (count ∷ [])) → AllRoom count forms bs y
+  all-room h y p =
+      let e : length y ≡ length out = ap length p ∙ length-put out 0 (mark ++ (count ∷ [])) (omega (arith, j .long z)) in
+      record { few = count-least .1; ready = j .ready z; room = omega (arith, j .long z) }
+
+  pub pack-got : r .long ≤ length out → (y w : List ℕ) → y ≡ put out 0 (mark ++ (count ∷ [])) → w ≡ put y (markBytes + 1) (laidBytes (take count forms) bs)
+      → PackedInto (shapesOf count forms) bs out (Got (r .long)) w
+  unfolding packInto
+  pack-got h y w p q =
+      let f : leb (length bundle) (length out) ≡ true = le-leb (length bundle) (length out) (omega (arith, its-length)) in
+      let e : packed (shapesOf count forms) bs (length out) ≡ got bundle =
+      packed-ready count forms bs (length out) (omega (arith, count-least)) (j .counted z) (j .ready z) (j .rest z) g ∙ rw f in
+      let u = after out 0 (mark ++ (count ∷ [])) (laidBytes (take count forms) bs) y w (markBytes + 1) (omega (arith, j .long z)) refl p q in
+      let n : 0 + length bundle ≡ length bundle = omega arith in
+      record { said = rw e (ap got (sym its-length)); wrote = rw e (u ∙ ap (λ (i : ℕ). bundle ++ drop i out) n) }

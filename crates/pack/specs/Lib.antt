@@ -1,0 +1,5 @@
+pub mod Put
+pub mod Laid
+pub mod Judging
+pub mod Laying
+pub mod RoundTrip

@@ -1,0 +1,138 @@
+-- Round trip of the functions `pack` and `bundle::read`, by what they promise: valid arrays packed and read are those arrays
+-- (`packed-then-read`); valid bytes read and packed again from what the reading holds are those bytes (`read-then-packed`); and
+-- whatever packing accepts is read back (`accepted-then-read`).
+use mathlib.Core.Path.{_≡_, refl, sym, ap, ap₂, _∙_}
+use mathlib.Core.List.{List, [], _∷_, _++_, map}
+use Prim.Native.Nat.{ℕ, zero, suc, _+_, _-_, _≤_}
+use borrow.Author.Tests.{eq-eqb}
+use lib.Dec.{eqb}
+use lib.ListN.{length, take, drop, replicate, length-map, length-append}
+use lib.Seq.{take-at, take-append-seam}
+use native.Mathlib.Omega.{arith}
+use mathlib.Core.Bool.{true}
+use Rattle.paper.specs.declared.Form.{Form}
+use Rattle.paper.specs.declared.Head.{Head}
+use Rattle.paper.specs.declared.Reading.{Reading}
+use Rattle.paper.specs.declared.PackAnswer.{PackAnswer}
+use Rattle.paper.specs.declared.PackAnswer.the-variants.{Got}
+use Rattle.paper.specs.Limits.{mostArrays}
+use Rattle.paper.specs.Refusals.{got}
+use Rattle.paper.specs.Numbers.{concat, part, over}
+use Rattle.paper.specs.Axes.{Shape, Array}
+use Rattle.paper.specs.Bundle.{markBytes, readBundle, bundleBytes, Packed, pack}
+use Rattle.paper.specs.Answers.{shapeOf, lyingFrom, reading, readSaid}
+use Rattle.laws.specs.Answers.{formOf, form-shape, readingOf, pack-one}
+use Rattle.laws.specs.Numbers.{Bytes}
+use Rattle.laws.specs.Tests.{got-one}
+use Rattle.roundtrip.specs.Valid.{AllValid, shapes, allCells}
+use Rattle.roundtrip.specs.Packing.{AllNamed, bundle-back}
+use Rattle.roundtrip.specs.Lying.{Lying, reading-lies}
+use Rattle.roundtrip.specs.RoundTrip.{gave, pack-valid, read-pack, accepted-read}
+use Rattle.bundle.specs.Read.{readOf, ReadAll}
+use Rattle.bundle.specs.Whole.{headSaid}
+use Rattle.pack.specs.Laid.{noForm, shapesOf, shapes-few, cellRoom}
+use Rattle.pack.specs.Laying.{PackedInto}
+
+-- packing gave these bytes: the answer is their number, and they are the first of the output buffer, whose other bytes stay
+pub record Gave (bs out : List ℕ) (r : PackAnswer) (y : List ℕ) : Type 0 where
+  pub answer : r ≡ Got (length bs)
+  pub buffer : y ≡ over bs out
+  pub bytes : take (length bs) y ≡ bs
+
+gave-by : (ss : List Shape) (cs bs out : List ℕ) (r : PackAnswer) (y : List ℕ) → PackedInto ss cs out r y → pack ss cs out ≡ gave bs out → Gave bs out r y
+gave-by ss cs bs out r y p e =
+    let w : y ≡ over bs out = p .wrote ∙ ap (λ (q : Packed). q .out) e in
+    record {
+      answer = pack-one r (Got (length bs)) (p .said ∙ ap (λ (q : Packed). q .answer) e);
+      buffer = w;
+      bytes = ap (take (length bs)) w ∙ take-append-seam bs (drop (length bs) out);
+    }
+
+-- ---- packed, then read
+
+-- the forms of arrays, with nothing past the last
+abbrev pub formsOf : List Array → List Form
+formsOf As = map (λ A. formOf (A .shape)) As ++ replicate (mostArrays - length As) noForm
+
+its-forms : (As : List Array) → map shapeOf (map (λ (A : Array). formOf (A .shape)) As) ≡ shapes As
+its-forms [] = refl
+its-forms (A ∷ As) = ap₂ (λ (s : Shape) (l : List Shape). s ∷ l) (form-shape (A .shape)) (its-forms As)
+
+forms-shapes : (As : List Array) → shapesOf (length As) (formsOf As) ≡ shapes As
+forms-shapes As =
+    let forms = map (λ (A : Array). formOf (A .shape)) As in
+    let n : length (map (λ (A : Array). formOf (A .shape)) As) ≡ length As = length-map As (λ (A : Array). formOf (A .shape)) in
+    let e : take (length As) (formsOf As) ≡ forms = take-at forms (replicate (mostArrays - length As) noForm) (length As) n in
+    shapes-few (length As) (formsOf As) (omega (arith, n, length-append forms (replicate (mostArrays - length As) noForm))) ∙ ap (map shapeOf) e ∙ its-forms As
+
+-- what reading answers, where the bytes are a bundle's
+pub record ReadBack (bs : List ℕ) (As : List Array) (r : Reading) : Type 0 where
+  pub arrays : readOf bs r ≡ got As
+  pub figures : r ≡ readingOf (got (lyingFrom (markBytes + 1) As))
+
+read-back : (bs : List ℕ) (As : List Array) (r : Reading) → ReadAll bs r → readBundle bs ≡ got As → ReadBack bs As r
+unfolding reading
+read-back bs As r v e =
+    let q : reading bs ≡ got (lyingFrom (markBytes + 1) As) = rw e in
+    record { arrays = v .arrays ∙ e; figures = v .tidy ∙ ap readingOf (v .said ∙ q) }
+
+-- `pack` called with a valid list of arrays and room for them gives a bundle, and `read` called with its bytes gives those arrays
+pub packed-then-read : (As : List Array) (out : List ℕ) → AllValid As → length (bundleBytes As) ≤ length out
+    → (a : PackAnswer) (y : List ℕ) → PackedInto (shapesOf (length As) (formsOf As)) (allCells As) out a y
+    → Gave (bundleBytes As) out a y × ((r : Reading) → ReadAll (take (length (bundleBytes As)) y) r → ReadBack (take (length (bundleBytes As)) y) As r)
+packed-then-read As out v l a y p =
+    let g = gave-by _ (allCells As) (bundleBytes As) out a y p (ap (λ (ss : List Shape). pack ss (allCells As) out) (forms-shapes As) ∙ pack-valid As out v l) in
+    (g, λ r q. read-back _ As r q (ap readBundle (g .bytes) ∙ bundle-back As v))
+
+-- ---- read, then packed
+
+-- what a reading holds of a bundle's bytes: its forms, and the bytes of their cells, in turn
+abbrev pub formsIn : Reading → List Form
+formsIn r = map (λ h. h .form) (r .heads)
+
+abbrev pub cellsAt : List ℕ → List Head → List ℕ
+cellsAt bs hs = concat (map (λ h. part (h .at) (cellRoom (h .form)) bs) hs)
+
+abbrev pub cellsHeld : List ℕ → Reading → List ℕ
+cellsHeld bs r = cellsAt bs (take (r .count) (r .heads))
+
+first-forms : (hs : List Head) (n : ℕ) → map shapeOf (take n (map (λ (h : Head). h .form) hs)) ≡ map (λ (h : Head). shapeOf (h .form)) (take n hs)
+first-forms hs zero = refl
+first-forms [] (suc n) = refl
+first-forms (h ∷ hs) (suc n) = ap (λ (l : List Shape). shapeOf (h .form) ∷ l) (first-forms hs n)
+
+-- where cells lie, there they are
+lying-cells : (bs : List ℕ) (hs : List Head) (As : List Array) → Lying bs (map headSaid hs) As → (map (λ (h : Head). shapeOf (h .form)) hs ≡ shapes As) × (cellsAt bs hs ≡ allCells As)
+unfolding concat
+lying-cells bs [] [] v = (refl, refl)
+lying-cells bs [] (A ∷ As) v = absurd v
+lying-cells bs (h ∷ hs) [] v = absurd v
+lying-cells bs (h ∷ hs) (A ∷ As) v =
+    let t = lying-cells bs hs As (v .3) in
+    (ap₂ (λ (s : Shape) (l : List Shape). s ∷ l) (v .0) (t .0), ap₂ (λ (x y : List ℕ). x ++ y) (v .2) (t .1))
+
+-- `read` called with bytes that it does not refuse, and `pack` with what the reading holds and room for it: those bytes again
+pub read-then-packed : (bs out : List ℕ) → Bytes bs → length bs ≤ length out → (r : Reading) → ReadAll bs r → r .refusal .number ≡ 0
+    → (a : PackAnswer) (y : List ℕ) → PackedInto (shapesOf (r .count) (formsIn r)) (cellsHeld bs r) out a y → Gave bs out a y
+read-then-packed bs out h l r v z a y p =
+    let hs = take (r .count) (r .heads) in
+    let f : eqb (r .refusal .number) 0 ≡ true = eq-eqb _ _ z in
+    let s : readSaid r ≡ got (map headSaid (take (r .count) (r .heads))) = rw f in
+    let w = reading-lies bs (map headSaid hs) h (sym (v .said) ∙ s) in
+    let t = lying-cells bs hs (w .0) (w .2) in
+    let n : length (formsIn r) ≡ length (r .heads) = length-map (r .heads) (λ (h : Head). h .form) in
+    let e : shapesOf (r .count) (formsIn r) ≡ shapes (w .0) = shapes-few (r .count) (formsIn r) (omega (arith, n, v .room)) ∙ first-forms (r .heads) (r .count) ∙ t .0 in
+    gave-by _ _ bs out a y p (ap₂ (λ (ss : List Shape) (cs : List ℕ). pack ss cs out) e (t .1) ∙ read-pack bs (w .0) out h (w .1) l)
+
+-- ---- accepted, then read
+
+-- whatever forms and cells `pack` accepts, the maxima having the extents' names, `read` gives back
+pub accepted-then-read : (count : ℕ) (forms : List Form) (cs out : List ℕ) → Bytes cs → AllNamed (shapesOf count forms) → (n : ℕ) (y : List ℕ)
+    → PackedInto (shapesOf count forms) cs out (Got n) y → (r : Reading) → ReadAll (take n y) r
+    → (As : List Array) × (shapes As ≡ shapesOf count forms) × (allCells As ≡ cs) × ReadBack (take n y) As r
+accepted-then-read count forms cs out h m n y p r v =
+    let w = accepted-read (shapesOf count forms) cs out n h m (sym (p .said)) in
+    let b = w .3 in
+    let e : b .0 ≡ n = got-one (b .0) n (sym (b .1) ∙ sym (p .said)) in
+    let q : readBundle (take n y) ≡ got (w .0) = ap₂ (λ (j : ℕ) (u : List ℕ). readBundle (take j u)) (sym e) (p .wrote) ∙ b .2 in
+    (w .0, w .1, w .2, read-back (take n y) (w .0) r v q)

@@ -1,0 +1,129 @@
+// Judging what is to be packed, in the paper's order of tests: the count, each array's type, axis count, extent, cell bytes and
+// cells, and leftover cell bytes. A refusal with number 0 is none. Nothing is written here.
+ghost use mathlib.Core.Path.{_≡_};
+ghost use Prim.Native.Nat.{_≤_};
+ghost use lib.ListN.{length};
+ghost use Rattle.paper.specs.Refusals.{refusal, between};
+ghost use Rattle.pack.specs.Judging.{JudgedForm, JudgedAll, stopped, over};
+use crate::put::AXIS;
+use crate::put::TYPED;
+use bundle::array_of;
+use extent::rank_of;
+use paper::Form;
+use paper::Refusal;
+
+// The highest type, and the bytes before the first array.
+const KINDS: usize = 3;
+
+const MARKED: usize = 6;
+
+// One array judged: the byte after its cells, and the number of its bytes in the bundle.
+pub struct Step {
+    pub refusal: Refusal,
+    pub end: usize,
+    pub long: usize,
+}
+
+// All of them: the number of the bundle's bytes.
+pub struct Verdict {
+    pub refusal: Refusal,
+    pub long: usize,
+}
+
+// x is 1 to `most`.
+fn in_range(x: usize, most: usize) -> bool
+    ensures { λ r. ⌜ r ≡ between 1 most x ⌝ }
+{
+    if x < 1 {
+        return false;
+    }
+    x <= most
+}
+
+fn stop(refusal: Refusal) -> Step
+    ensures { λ r. ⌜ r ≡ stopped refusal ⌝ }
+{
+    Step {
+        refusal,
+        end: 0,
+        long: 0,
+    }
+}
+
+fn refuse(refusal: Refusal) -> Verdict
+    ensures { λ r. ⌜ r ≡ over refusal ⌝ }
+{
+    Verdict { refusal, long: 0 }
+}
+
+// Array k of a form, its cells from the byte `from` on.
+fn form_judged(cells: &[u8], from: usize, k: u32, form: Form) -> Step
+    requires { ⌜ from ≤ length (now cells) ⌝ }
+    ensures { λ r. ⌜ JudgedForm (now (cells .entry)) from k form r ⌝ }
+{
+    let bad = Refusal {
+        number: 1,
+        place: k,
+        ordinality: 0,
+    };
+    let kind = form.kind;
+    let extent = form.extent;
+    let rank = rank_of(extent);
+    if !in_range(kind as usize, KINDS) {
+        return stop(bad);
+    }
+    if !in_range(rank, paper::AXES) {
+        return stop(bad);
+    }
+    let one = array_of(cells, from, k, form);
+    let refusal = one.refusal;
+    let end = one.end;
+    if refusal.number != 0 {
+        return stop(refusal);
+    }
+    Step {
+        refusal,
+        end,
+        long: TYPED + rank * AXIS + (end - from),
+    }
+}
+
+// The first `count` forms, with their cells in one buffer.
+pub fn judged(count: usize, forms: [Form; paper::ARRAYS], cells: &[u8]) -> Verdict
+    ensures { λ r. ⌜ JudgedAll count forms (now (cells .entry)) r ⌝ }
+{
+    let bad = Refusal {
+        number: 1,
+        place: 0,
+        ordinality: 0,
+    };
+    if !in_range(count, paper::ARRAYS) {
+        return refuse(bad);
+    }
+    let mut at: usize = 0;
+    let mut long = MARKED;
+    let mut i = 0;
+    while i < count {
+        let form = forms[i];
+        let step = form_judged(cells, at, (i + 1) as u32, form);
+        let refusal = step.refusal;
+        if refusal.number != 0 {
+            return refuse(refusal);
+        }
+        at = step.end;
+        long += step.long;
+        i += 1;
+    }
+    if at < cells.len() {
+        return refuse(bad);
+    }
+    let none = Refusal {
+        number: 0,
+        place: 0,
+        ordinality: 0,
+    };
+    Verdict {
+        refusal: none,
+        long,
+    }
+}

@@ -1,0 +1,145 @@
+// The writers: each puts its bytes into the output buffer from a place on, and leaves the rest of the buffer as it was.
+ghost use mathlib.Core.Path.{_≡_};
+ghost use mathlib.Core.List.{[], _∷_, _++_};
+ghost use Prim.Native.Nat.{_+_, _≤_};
+ghost use lib.ListN.{length, take};
+ghost use Rattle.paper.specs.Limits.{nameBytes, axisBytes};
+ghost use Rattle.paper.specs.Numbers.{leBytes, part};
+ghost use Rattle.paper.specs.Bundle.{mark, markBytes, axesBytes};
+ghost use Rattle.paper.specs.Answers.{axesOf};
+ghost use Rattle.pack.specs.Put.{put, axisPart, AxesRoom};
+ghost use Rattle.pack.specs.Laid.{laidBytes};
+ghost use Rattle.pack.specs.Laying.{ArrayRoom, ArrayPut, AllRoom};
+use cell::bytes::put4;
+use extent::NAME;
+use extent::extent_cells;
+use extent::rank_of;
+use paper::Axis;
+use paper::Extent;
+use paper::Form;
+use positions::LIMIT;
+use positions::bits_of;
+
+// The bytes of an array before its axes, of an axis and of a cell; and of a bundle before its arrays.
+pub const TYPED: usize = 2;
+
+pub const AXIS: usize = NAME + 4 * LIMIT;
+
+const CELL: usize = 9;
+
+const MARKED: usize = 6;
+
+// Where an axis's upper limit stands in its bytes, and its maximum's limits.
+const UPPER: usize = NAME + LIMIT;
+
+const MAXIMUM_LOWER: usize = NAME + 2 * LIMIT;
+
+const MAXIMUM_UPPER: usize = NAME + 3 * LIMIT;
+
+// What half of a name's bytes can hold.
+const HALF: u64 = 4294967296;
+
+// The eight bytes of a name, the lowest first.
+fn put_name(d: &mut [u8], at: usize, n: u64)
+    requires { ⌜ at + nameBytes ≤ length (now d) ⌝ }
+    ensures { λ _. ⌜ now (d .exit) ≡ put (now (d .entry)) at (leBytes nameBytes n) ⌝ }
+{
+    let high = n / HALF;
+    let low = n % HALF;
+    put4(d, at, low as u32);
+    put4(d, at + LIMIT, high as u32);
+}
+
+// An axis with its maximum: name, lower, upper, maximum lower, maximum upper.
+fn put_axis(d: &mut [u8], at: usize, a: Axis, m: Axis)
+    requires { ⌜ at + axisBytes ≤ length (now d) ⌝ }
+    ensures { λ _. ⌜ now (d .exit) ≡ put (now (d .entry)) at (axisPart a m) ⌝ }
+{
+    put_name(d, at, a.name);
+    put4(d, at + NAME, bits_of(a.lo));
+    put4(d, at + UPPER, bits_of(a.hi));
+    put4(d, at + MAXIMUM_LOWER, bits_of(m.lo));
+    put4(d, at + MAXIMUM_UPPER, bits_of(m.hi));
+}
+
+// The axes of an extent with its maximum.
+fn put_axes(d: &mut [u8], at: usize, e: Extent, m: Extent)
+    requires { ⌜ AxesRoom e m at (now d) ⌝ }
+    ensures { λ _. ⌜ now (d .exit) ≡ put (now (d .entry)) at (axesBytes (axesOf e) (axesOf m)) ⌝ }
+{
+    let rank = rank_of(e);
+    let mut i = 0;
+    while i < rank {
+        let a = e.axes[i];
+        let b = m.axes[i];
+        put_axis(d, at + i * AXIS, a, b);
+        i += 1;
+    }
+}
+
+// The n bytes of s from `from` on.
+fn copy_bytes(s: &[u8], from: usize, d: &mut [u8], at: usize, n: usize)
+    requires { ⌜ (from + n ≤ length (now s)) × (at + n ≤ length (now d)) ⌝ }
+    ensures { λ _. ⌜ now (d .exit) ≡ put (now (d .entry)) at (part from n (now (s .entry))) ⌝ }
+{
+    let mut k = 0;
+    while k < n {
+        d[at + k] = s[from + k];
+        k += 1;
+    }
+}
+
+// Where an array's cells end among the cells, and its bytes in the bundle.
+pub struct Ends {
+    pub from: usize,
+    pub at: usize,
+}
+
+// An array: its type, its axis count, its axes, and its cells, which stand from the byte `from` on.
+fn put_array(form: Form, cells: &[u8], from: usize, d: &mut [u8], at: usize) -> Ends
+    requires { ⌜ ArrayRoom form (now cells) from (now d) at ⌝ }
+    ensures { λ r. ⌜ ArrayPut form (now (cells .entry)) from (now (d .entry)) at r (now (d .exit)) ⌝ }
+{
+    let extent = form.extent;
+    let maximum = form.maximum;
+    let rank = rank_of(extent);
+    let n = extent_cells(extent, maximum);
+    d[at] = form.kind;
+    d[at + 1] = rank as u8;
+    put_axes(d, at + TYPED, extent, maximum);
+    copy_bytes(cells, from, d, at + TYPED + rank * AXIS, n * CELL);
+    Ends {
+        from: from + n * CELL,
+        at: at + TYPED + rank * AXIS + n * CELL,
+    }
+}
+
+// The first `count` arrays, with their cells in one buffer.
+pub fn put_arrays(count: usize, forms: [Form; paper::ARRAYS], cells: &[u8], d: &mut [u8])
+    requires { ⌜ AllRoom count forms (now cells) (now d) ⌝ }
+    ensures { λ _. ⌜ now (d .exit) ≡ put (now (d .entry)) (markBytes + 1) (laidBytes (take count forms) (now (cells .entry))) ⌝ }
+{
+    let mut from: usize = 0;
+    let mut at = MARKED;
+    let mut i = 0;
+    while i < count {
+        let form = forms[i];
+        let ends = put_array(form, cells, from, d, at);
+        from = ends.from;
+        at = ends.at;
+        i += 1;
+    }
+}
+
+// The bundle's first bytes: mark, version, count.
+pub fn put_mark(d: &mut [u8], count: u8)
+    requires { ⌜ markBytes + 1 ≤ length (now d) ⌝ }
+    ensures { λ _. ⌜ now (d .exit) ≡ put (now (d .entry)) 0 (mark ++ (count ∷ [])) ⌝ }
+{
+    d[0] = b'R';
+    d[1] = b'M';
+    d[2] = b'A';
+    d[3] = 1;
+    d[4] = 0;
+    d[5] = count;
+}

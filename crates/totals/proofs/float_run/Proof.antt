@@ -1,0 +1,110 @@
+use mathlib.Core.Path.{refl, sym, ap, subst, _∙_}
+use native.Mathlib.Omega.{arith}
+use denote.Ref.{now}
+use borrow.Author.Needs.{needs}
+use Prim.Native.Nat.{_-_, _≤_}
+use Rattle.paper.specs.declared.Cell.{Cell}
+use Rattle.paper.specs.Totals.{filledFrom}
+use Rattle.totals.specs.Cells.{cellsAt, oneAt, filledLeft, filled-next, filled-none}
+use Rattle.totals.specs.Sums.{Going, MeanNext, going-next, going-fails}
+use Rattle.cell.specs.Totals.{onward}
+use Rattle.totals.proofs.float_run.Statement.{statement}
+use Rattle.totals.proofs.float_run.Tie as tie
+
+abbrev Inv-loop : tie.InvT-loop
+Inv-loop s at kind n mean₀ i₀ mean i = (i ≤ n) × Going mean (filledFrom 1 (cellsAt s at kind n)) (filledLeft s at kind n i) i
+
+abbrev μ-loop : tie.MeasureT-loop
+μ-loop s at kind n mean₀ i₀ mean i = n - i
+
+-- src/lib.rt:203:9
+mean-none-requires : tie.Need-mean-none-requires Inv-loop μ-loop
+mean-none-requires c κs = search needs
+
+-- src/lib.rt:205:5
+loop-holds : tie.Need-loop-holds Inv-loop μ-loop
+loop-holds c = (omega arith, record { same = λ made k. c .mean-none .ensures .0 made k _; few = omega (arith, c .mean-none .ensures .1) })
+
+-- src/lib.rt:206:13
+held-cell-requires : tie.Need-held-cell-requires Inv-loop μ-loop
+held-cell-requires c κs = omega (arith, c .before .before .before .before .pre .room, c .before .before .before .before .pre .few)
+
+-- src/lib.rt:207:13
+mean-next-requires : tie.Need-mean-next-requires Inv-loop μ-loop
+mean-next-requires c κs = search needs
+
+-- src/lib.rt:208:23
+enum-known-added : tie.Need-enum-known-added Inv-loop μ-loop
+enum-known-added c = search needs
+
+-- src/lib.rt:209:37
+enum-told : tie.Need-enum-told Inv-loop μ-loop
+enum-told c = search needs
+
+-- src/lib.rt:209:37
+add-t11 : tie.Need-add-t11 Inv-loop μ-loop
+add-t11 c = omega (arith, c .before .before .before .before .before .before .before .before .pre .few)
+
+-- src/lib.rt:209:13
+returns : tie.Need-returns Inv-loop μ-loop
+returns c =
+    let a = c .before .before .before .before .before .before .before .before .args in
+    let l = c .before .before .before .before .before .loop in
+    let d = oneAt (now (a .s)) (a .at) (a .kind) (l .i) in
+    let r = c .before .before .mean-next .result in
+    let x = subst (λ (y : Cell). MeanNext (l .mean) y r) (c .before .before .before .held-cell .ensures) (c .before .before .mean-next .ensures) in
+    let e = filled-next (now (a .s)) (a .at) (a .kind) (a .n) (l .i) (c .before .before .before .before .loop-test .taken) in
+    record {
+      done = λ z. absurd (omega (arith, z));
+      fails = λ z. going-fails (l .mean) _ _ _ (l .i) d r (l .inv .1) (omega (arith, c .before .before .before .before .before .before .before .before .pre .few)) e x (c .enum-told .given .1);
+      few = omega arith;
+    }
+
+-- src/lib.rt:212:9
+add-i : tie.Need-add-i Inv-loop μ-loop
+add-i c = omega (arith, c .before .before .before .before .before .before .before .before .before .pre .few)
+
+-- src/lib.rt:205:5
+loop-less : tie.Need-loop-less Inv-loop μ-loop
+loop-less c = omega arith
+
+-- src/lib.rt:205:5
+loop-again : tie.Need-loop-again Inv-loop μ-loop
+loop-again c =
+    let a = c .before .before .before .before .before .before .before .before .before .args in
+    let l = c .before .before .before .before .before .before .loop in
+    let d = oneAt (now (a .s)) (a .at) (a .kind) (l .i) in
+    let r = c .before .before .before .mean-next .result in
+    let x = subst (λ (y : Cell). MeanNext (l .mean) y r) (c .before .before .before .before .held-cell .ensures) (c .before .before .before .mean-next .ensures) in
+    let e = filled-next (now (a .s)) (a .at) (a .kind) (a .n) (l .i) (c .before .before .before .before .before .loop-test .taken) in
+    (omega arith, going-next (l .mean) _ _ _ (l .i) d r (l .inv .1) (omega (arith, c .before .before .before .before .before .before .before .before .before .pre .few)) e x _ (c .before .added .given .1))
+
+-- src/lib.rt:199:1
+returns-2 : tie.Need-returns-2 Inv-loop μ-loop
+returns-2 c =
+    let a = c .before .before .before .before .args in
+    let l = c .before .loop in
+    record {
+      done = λ z made k. ap (onward made k (l .mean)) (sym (filled-none (now (a .s)) (a .at) (a .kind) (a .n) (l .i) (omega arith))) ∙ l .inv .1 .same made k;
+      fails = λ z. absurd (z refl);
+      few = omega arith;
+    }
+
+pub float-run-spec : {M : Type 1} → statement M
+float-run-spec =
+    tie.close
+    (tie.spec
+    Inv-loop
+    μ-loop
+    mean-none-requires
+    loop-holds
+    held-cell-requires
+    mean-next-requires
+    enum-known-added
+    enum-told
+    add-t11
+    returns
+    add-i
+    loop-less
+    loop-again
+    returns-2)

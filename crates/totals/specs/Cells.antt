@@ -1,0 +1,118 @@
+-- The cells of an array one after the other, from their bytes: what is filled, and what is TRUE, of the cells left.
+use Prim.Native.Nat.{ℕ, zero, suc, _+_, _*_, _≤_, _<_}
+use mathlib.Core.Path.{_≡_, refl, sym, ap, _∙_}
+use mathlib.Core.Bool.{Bool, true, false}
+use mathlib.Core.List.{List, [], _∷_}
+use native.Mathlib.Numerals.{add-one}
+use native.Mathlib.Omega.{arith}
+use lib.ListN.{length, take, drop, getD, drop-of-length-le}
+use lib.Seq.{drop-cons, drop-drop}
+use Rattle.paper.specs.declared.Cell.{Cell}
+use Rattle.paper.specs.declared.Cell.the-variants.{Empty}
+use Rattle.paper.specs.Limits.{mostCells, cellBytes}
+use Rattle.paper.specs.Refusals.{if_then_else_}
+use Rattle.paper.specs.Numbers.{part}
+use Rattle.paper.specs.Cells.{cellOf, isTrue, trues}
+use Rattle.paper.specs.Operators.{emptyCell}
+use Rattle.paper.specs.Totals.{Numbered, filledFrom}
+use Rattle.laws.specs.Judged.{orEmpty, cellsFrom, cell-no}
+
+-- n cells lie in the bytes from `at` on
+pub record Lying (at n : ℕ) (bs : List ℕ) : Type 0 where
+  pub few : n ≤ mostCells
+  pub room : at + n * cellBytes ≤ length bs
+
+-- they are
+abbrev pub cellsAt : List ℕ → ℕ → ℕ → ℕ → List Cell
+cellsAt bs at t n = cellsFrom t n (drop at bs)
+
+-- cell i of them, from 0
+abbrev pub oneAt : List ℕ → ℕ → ℕ → ℕ → Cell
+oneAt bs at t i = orEmpty (cellOf t (part (at + i * cellBytes) cellBytes bs))
+
+-- 1 for a filled cell; for one that is TRUE
+abbrev pub tallyOf : Cell → ℕ
+tallyOf c = if emptyCell c then 0 else 1
+
+abbrev pub tallyTrue : Cell → ℕ
+tallyTrue c = if isTrue c then 1 else 0
+
+-- ---- the next cell
+
+length-cells : (t n : ℕ) (bs : List ℕ) → length (cellsFrom t n bs) ≡ n
+unfolding cellsFrom
+length-cells t zero bs = refl
+length-cells t (suc n) bs = ap suc (length-cells t n (drop cellBytes bs))
+
+-- a cell in front of those filled, if it is
+abbrev pub inFront : Cell → ℕ → List Numbered → List Numbered
+inFront c o later = if emptyCell c then later else record { at = o; cell = c } ∷ later
+
+filled-cons : (o : ℕ) (c : Cell) (cs : List Cell) → filledFrom o (c ∷ cs) ≡ inFront c o (filledFrom (o + 1) cs)
+unfolding filledFrom
+filled-cons o c cs = refl
+
+trues-cons : (o : ℕ) (c : Cell) (cs : List Cell) → length (trues o (c ∷ cs)) ≡ tallyTrue c + length (trues (o + 1) cs)
+unfolding trues
+trues-cons o c cs = by (isTrue c)
+  where
+    by : (b : Bool) → length (if b then o ∷ trues (o + 1) cs else trues (o + 1) cs) ≡ (if b then 1 else 0) + length (trues (o + 1) cs)
+    by true = omega arith
+    by false = omega arith
+
+pub length-front : (c : Cell) (o : ℕ) (later : List Numbered) → length (inFront c o later) ≡ tallyOf c + length later
+length-front c o later = by (emptyCell c)
+  where
+    by : (b : Bool) → length (if b then later else record { at = o; cell = c } ∷ later) ≡ (if b then 0 else 1) + length later
+    by true = omega arith
+    by false = omega arith
+
+pub tally-one : (c : Cell) → tallyOf c ≤ 1
+tally-one c = by (emptyCell c)
+  where
+    by : (b : Bool) → (if b then 0 else 1) ≤ 1
+    by true = omega arith
+    by false = omega arith
+
+pub true-one : (c : Cell) → tallyTrue c ≤ 1
+true-one c = by (isTrue c)
+  where
+    by : (b : Bool) → (if b then 1 else 0) ≤ 1
+    by true = omega arith
+    by false = omega arith
+
+module _ (bs : List ℕ) (at t n : ℕ) where
+  abbrev cs : List Cell
+  cs = cellsAt bs at t n
+
+  -- what is filled of the cells from i on
+  abbrev pub filledLeft : ℕ → List Numbered
+  filledLeft i = filledFrom (i + 1) (drop i (cellsAt bs at t n))
+
+  abbrev pub truesLeft : ℕ → List ℕ
+  truesLeft i = trues (i + 1) (drop i (cellsAt bs at t n))
+
+  module _ (i : ℕ) (h : i < n) where
+    pub cell-next : drop i cs ≡ oneAt bs at t i ∷ drop (i + 1) cs
+    cell-next =
+        let l : i < length cs = omega (arith, length-cells t n (drop at bs)) in
+        let c : getD cs i Empty ≡ oneAt bs at t i = cell-no n t i (drop at bs) h ∙ ap (λ (x : List ℕ). orEmpty (cellOf t (take cellBytes x))) (drop-drop (i * cellBytes) at bs) in
+        drop-cons cs i Empty l ∙ ap (λ (j : ℕ). getD cs i Empty ∷ drop j cs) (sym (add-one i)) ∙ ap (λ (x : Cell). x ∷ drop (i + 1) cs) c
+
+    pub filled-next : filledLeft i ≡ inFront (oneAt bs at t i) (i + 1) (filledLeft (i + 1))
+    filled-next = ap (filledFrom (i + 1)) cell-next ∙ filled-cons (i + 1) (oneAt bs at t i) (drop (i + 1) cs)
+
+    pub trues-next : length (truesLeft i) ≡ tallyTrue (oneAt bs at t i) + length (truesLeft (i + 1))
+    trues-next = ap (λ (x : List Cell). length (trues (i + 1) x)) cell-next ∙ trues-cons (i + 1) (oneAt bs at t i) (drop (i + 1) cs)
+
+  module _ (i : ℕ) (h : n ≤ i) where
+    none-left : drop i cs ≡ []
+    none-left = drop-of-length-le cs {i = i} (omega (arith, length-cells t n (drop at bs)))
+
+    pub filled-none : filledLeft i ≡ []
+    unfolding filledFrom
+    filled-none = ap (filledFrom (i + 1)) none-left
+
+    pub trues-none : truesLeft i ≡ []
+    unfolding trues
+    trues-none = ap (trues (i + 1)) none-left

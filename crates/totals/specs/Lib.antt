@@ -1,0 +1,5 @@
+-- What the loops of the totals cite: the cells one after the other, the best of them, and the running sums.
+pub mod Cells
+pub mod Best
+pub mod Sums
+pub mod Whole
