@@ -1,0 +1,24 @@
+use mathlib.Core.Path.{_≡_, refl, sym, ap, subst, _∙_}
+use borrow.Author.Tests.{not-true, not-false, eq-eqb, ne-eqb, le-leb, lt-leb}
+use Rattle.step.specs.Steps.{and-no, and-yes}
+use borrow.Author.Needs.{needs}
+use Rattle.step.proofs.tests.pair_fits.Statement.{statement}
+use Rattle.step.proofs.tests.pair_fits.Tie as tie
+use Rattle.step.proofs.tests.pair_fits.Reads as reads
+use Rattle.step.proofs.tests.pair_fits.Lts as lts
+use Rattle.operators.proofs.types.takes_pair.Reads as takes-pair-reads
+
+-- src/tests.rt:48:9
+returns : tie.Need-returns
+returns c = and-no _ _ (ne-eqb (c .before .args .t) (c .before .args .u) (c .if1 .taken))
+
+-- src/tests.rt:50:5
+takes-pair-requires : tie.Need-takes-pair-requires
+takes-pair-requires c κs = search needs
+
+-- src/tests.rt:44:1
+returns-2 : tie.Need-returns-2
+returns-2 c = c .takes-pair .ensures ∙ and-yes _ _ (eq-eqb (c .before .before .args .t) (c .before .before .args .u) (c .before .if1 .left))
+
+pub pair-fits-spec : {M : Type 1} → statement M
+pair-fits-spec = tie.close (tie.spec returns takes-pair-requires returns-2)

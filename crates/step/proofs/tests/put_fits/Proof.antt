@@ -1,0 +1,46 @@
+use mathlib.Core.Path.{_≡_, refl, sym, ap, subst, _∙_}
+use borrow.Author.Tests.{not-true, not-false, eq-eqb, ne-eqb, le-leb, lt-leb}
+use Rattle.step.specs.Steps.{and-no, and-yes}
+use mathlib.Core.List.{List}
+use Rattle.paper.specs.declared.Axis.{Axis}
+use Rattle.paper.specs.declared.Extent.{Extent}
+use Rattle.paper.specs.Answers.{axesOf}
+use Rattle.laws.specs.Answers.{extent-axes}
+use Rattle.paper.specs.Axes.{without}
+use Rattle.paper.specs.Recipe.{covers}
+use borrow.Author.Needs.{needs}
+use Rattle.step.proofs.tests.put_fits.Statement.{statement}
+use Rattle.step.proofs.tests.put_fits.Tie as tie
+use Rattle.step.proofs.tests.put_fits.Reads as reads
+use Rattle.step.proofs.tests.put_fits.Lts as lts
+use Rattle.compare.proofs.covers_all.Reads as covers-all-reads
+use Rattle.shape.proofs.removed.Reads as removed-reads
+use Rattle.step.proofs.tests.slice_fits.Reads as slice-fits-reads
+
+-- src/tests.rt:115:9
+slice-fits-requires : tie.Need-slice-fits-requires
+slice-fits-requires c κs = search needs
+
+-- src/tests.rt:116:9
+returns : tie.Need-returns
+returns c = and-no _ _ (sym (c .before .slice-fits .ensures) ∙ not-true _ (c .if1 .taken))
+
+-- src/tests.rt:118:16
+removed-requires : tie.Need-removed-requires
+removed-requires c κs = search needs
+
+-- src/tests.rt:118:5
+covers-all-requires : tie.Need-covers-all-requires
+covers-all-requires c κs = search needs
+
+-- src/tests.rt:111:1
+returns-2 : tie.Need-returns-2
+returns-2 c =
+    let F = axesOf (c .before .before .before .before .before .args .f) in
+    c .covers-all .ensures ∙ ap (λ (x : Extent). covers (axesOf x) F) (c .before .removed .ensures)
+    ∙ ap (λ (l : List Axis). covers l F) (extent-axes (without (c .before .before .before .before .before .args .k .0) (axesOf (c .before .before .before .before .before .args .e))))
+    ∙ and-yes _ _ (sym (c .before .before .before .slice-fits .ensures) ∙ not-false _ (c .before .before .if1 .left))
+
+pub put-fits-spec : {M : Type 1} → statement M
+put-fits-spec =
+    tie.close (tie.spec slice-fits-requires returns removed-requires covers-all-requires returns-2)

@@ -1,0 +1,35 @@
+use mathlib.Core.Path.{_≡_, refl, sym, ap, subst, _∙_}
+use mathlib.Core.List.{List}
+use Rattle.paper.specs.declared.Axis.{Axis}
+use Rattle.paper.specs.declared.Extent.{Extent}
+use Rattle.paper.specs.Answers.{axesOf}
+use Rattle.laws.specs.Answers.{extent-axes}
+use denote.Ref.{now}
+use Rattle.paper.specs.Limits.{detailBytes}
+use Rattle.paper.specs.Numbers.{part}
+use Rattle.paper.specs.Recipe.{covers, withLimits}
+use borrow.Author.Needs.{needs}
+use Rattle.step.proofs.tests.trim_fits.Statement.{statement}
+use Rattle.step.proofs.tests.trim_fits.Tie as tie
+use Rattle.step.proofs.tests.trim_fits.Reads as reads
+use Rattle.step.proofs.tests.trim_fits.Lts as lts
+use Rattle.compare.proofs.covers_all.Reads as covers-all-reads
+use Rattle.shape.proofs.with_limits.Reads as with-limits-reads
+
+-- src/tests.rt:99:19
+with-limits-requires : tie.Need-with-limits-requires
+with-limits-requires c κs = search needs
+
+-- src/tests.rt:99:5
+covers-all-requires : tie.Need-covers-all-requires
+covers-all-requires c κs = search needs
+
+-- src/tests.rt:94:1
+returns : tie.Need-returns
+returns c =
+    let E = axesOf (c .before .before .before .args .e) in
+    c .covers-all .ensures ∙ ap (λ (x : Extent). covers E (axesOf x)) (c .before .with-limits .ensures)
+    ∙ ap (λ (l : List Axis). covers E l) (extent-axes (withLimits E (part (c .before .before .before .args .at) detailBytes (now (c .before .before .before .args .s)))))
+
+pub trim-fits-spec : {M : Type 1} → statement M
+trim-fits-spec = tie.close (tie.spec with-limits-requires covers-all-requires returns)
