@@ -1,10 +1,10 @@
 -- One array read, by cases: each way out of the code from the tests that lead to it, at offsets into the bundle's bytes.
 use Prim.Native.Nat.{ℕ, zero, suc, _+_, _-_, _*_, _≤_, _<_}
 use mathlib.Core.Path.{_≡_, refl, sym, ap, ap₂, subst, _∙_}
-use mathlib.Core.Bool.{Bool, true, false, _&&_}
+use mathlib.Core.Bool.{true, false, _&&_}
 use mathlib.Core.List.{List}
 use native.Mathlib.Omega.{arith}
-use borrow.Author.Tests.{ne-eqb, le-leb, lt-leb, leb-true}
+use borrow.Author.Tests.{ne-eqb, le-leb, lt-leb}
 use lib.Dec.{eqb, leb}
 use lib.ListN.{length, getD, drop, length-drop}
 use lib.Seq.{drop-drop, getD-drop}
@@ -14,17 +14,16 @@ use Rattle.paper.specs.declared.Head.{Head}
 use Rattle.paper.specs.declared.Extent.{Extent}
 use Rattle.paper.specs.declared.Refusal.{Refusal}
 use Rattle.paper.specs.Limits.{mostAxes, typeBytes, axisBytes, cellBytes}
-use Rattle.paper.specs.Refusals.{Res, got, refused, _>>=_, _>>_, if_then_else_, refusal, ensure, between, badBytes1, badExtent2, badCell3}
-use Rattle.paper.specs.Axes.{cells, goodExtent, within, Shape, Array}
+use Rattle.paper.specs.Refusals.{got, refused, _>>=_, _>>_, refusal, ensure, between, badBytes1, badExtent2, badCell3}
+use Rattle.paper.specs.Axes.{cells, goodExtent, within, Shape}
 use Rattle.paper.specs.Cells.{isType}
-use Rattle.paper.specs.Bundle.{axisOf, maximumOf, eachAxis, headShape, cellsOf, arrayOf, readArray}
+use Rattle.paper.specs.Bundle.{axisOf, maximumOf, eachAxis, arrayOf, readArray}
 use Rattle.paper.specs.Answers.{axesOf, extentOf, shapeOf, unless}
-use Rattle.laws.specs.Tests.{and-right}
 use Rattle.laws.specs.Judged.{firstBad, cellsFrom, judged, cells-judged}
-use Rattle.laws.specs.Answers.{extent-axes, formOf, headOf}
+use Rattle.laws.specs.Answers.{extent-axes, formOf}
 use Rattle.extent.specs.Judged.{cellsWithin, within-zero, within-some}
 use Rattle.bundle.specs.declared.One.{One}
-use Rattle.bundle.specs.Read.{cellsIn, arrayAt, oneOf, none, Fit, JudgedArray, TidyHead, LiesAt, ReadArray}
+use Rattle.bundle.specs.Read.{cellsIn, arrayAt, oneOf, none, Fit, JudgedArray, ReadArray}
 
 -- ---- an answer that is a refusal
 

@@ -2,7 +2,7 @@
 use Prim.Native.Nat.{ℕ, _+_, _*_, _≤_, _<_}
 use mathlib.Core.Path.{_≡_}
 use mathlib.Core.Bool.{true, _&&_}
-use mathlib.Core.List.{List, [], _∷_, map}
+use mathlib.Core.List.{List, map}
 use lib.ListN.{length, take, drop, getD}
 use Rattle.paper.specs.declared.Form.{Form}
 use Rattle.paper.specs.declared.Head.{Head}
@@ -10,10 +10,9 @@ use Rattle.paper.specs.declared.Reading.{Reading}
 use Rattle.paper.specs.declared.Refusal.{Refusal}
 use Rattle.paper.specs.Limits.{typeBytes, axisBytes, cellBytes}
 use Rattle.paper.specs.Refusals.{Res}
-use Rattle.paper.specs.Axes.{cells, goodExtent, within, Shape, Array}
-use Rattle.paper.specs.Cells.{isType}
+use Rattle.paper.specs.Axes.{cells, goodExtent, within, Array}
 use Rattle.paper.specs.Bundle.{arrayOf, readArray, readBundle}
-use Rattle.paper.specs.Answers.{axesOf, shapeOf, unless, reading, readSaid}
+use Rattle.paper.specs.Answers.{shapeOf, unless, reading, readSaid}
 use Rattle.laws.specs.Judged.{firstBad, cellsFrom}
 use Rattle.laws.specs.Answers.{headOf, noHead, readingOf}
 use Rattle.bundle.specs.declared.One.{One}

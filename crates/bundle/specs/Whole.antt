@@ -9,22 +9,20 @@ use borrow.Author.Tests.{eq-eqb, ne-eqb, eqb-true, eqb-false, leb-true}
 use lib.Dec.{eqb, leb}
 use lib.ListN.{length, getD, take, drop, set, replicate, length-drop, length-set, length-map, take-append-drop}
 use lib.Seq.{getD-set-same, getD-set-other, drop-drop, take-suc-set, length-take-le}
-use Rattle.paper.specs.declared.Axis.{Axis}
-use Rattle.paper.specs.declared.Form.{Form}
 use Rattle.paper.specs.declared.Head.{Head}
 use Rattle.paper.specs.declared.Reading.{Reading}
 use Rattle.paper.specs.declared.Refusal.{Refusal}
 use Rattle.paper.specs.Limits.{mostArrays, typeBytes, axisBytes, cellBytes}
-use Rattle.paper.specs.Refusals.{Res, got, refused, _>>=_, _>>_, if_then_else_, refusal, ensure, between, badBytes1}
-use Rattle.paper.specs.Numbers.{same, none?}
-use Rattle.paper.specs.Axes.{cells, Shape, Array}
+use Rattle.paper.specs.Refusals.{Res, got, refused, _>>=_, _>>_, refusal, ensure, between, badBytes1}
+use Rattle.paper.specs.Numbers.{same}
+use Rattle.paper.specs.Axes.{Shape, Array}
 use Rattle.paper.specs.Bundle.{mark, markBytes, readArray, readArrays, readBundle}
-use Rattle.paper.specs.Answers.{shapeOf, unless, lyingFrom, reading, readSaid}
+use Rattle.paper.specs.Answers.{shapeOf, lyingFrom, reading, readSaid}
 use Rattle.laws.specs.Tests.{and-right}
 use Rattle.laws.specs.Answers.{headOf, noHead, readingOf}
 use Rattle.parts.specs.Judge.{past}
 use Rattle.bundle.specs.declared.One.{One}
-use Rattle.bundle.specs.Read.{cellsIn, arrayAt, oneOf, Fit, LiesAt, ReadArray, AllFit, readOf, ReadAll}
+use Rattle.bundle.specs.Read.{cellsIn, arrayAt, Fit, LiesAt, ReadArray, AllFit, readOf, ReadAll}
 
 -- what a head says: a shape, and the byte at which the cells begin
 abbrev pub headSaid : Head → Shape × ℕ

@@ -12,7 +12,7 @@ use lib.Seq.{drop-drop}
 use Rattle.paper.specs.declared.Form.{Form}
 use Rattle.paper.specs.declared.Refusal.{Refusal}
 use Rattle.paper.specs.Limits.{mostArrays, mostAxes, axisBytes, typeBytes}
-use Rattle.paper.specs.Refusals.{Res, got, refused, _>>=_, _>>_, if_then_else_, refusal, ensure, between, badBytes1}
+use Rattle.paper.specs.Refusals.{Res, got, refused, _>>=_, _>>_, refusal, ensure, between, badBytes1}
 use Rattle.paper.specs.Numbers.{none?}
 use Rattle.paper.specs.Axes.{Shape, Array}
 use Rattle.paper.specs.Cells.{isType}

@@ -22,7 +22,7 @@ use Rattle.paper.specs.Bundle.{mark, arrayOf, axesBytes, arrayBytes, bundleByte
 use Rattle.paper.specs.Answers.{axesOf, shapeOf}
 use Rattle.laws.specs.Answers.{noHead}
 use Rattle.laws.specs.Cells.{bytes-back}
-use Rattle.laws.specs.Judged.{is?, orEmpty, firstBad, cellsFrom, judged, cells-judged}
+use Rattle.laws.specs.Judged.{is?, orEmpty, firstBad, cellsFrom, cells-judged}
 use Rattle.laws.specs.Numbers.{Bytes, bytes-take, bytes-drop}
 use Rattle.laws.specs.Tests.{and-left, and-right}
 use Rattle.extent.specs.Judged.{good-small}

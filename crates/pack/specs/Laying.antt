@@ -1,6 +1,6 @@
 -- Arrays written one after the other: an array's parts as the code puts them, the loop over the arrays as a record with a law for each
 -- event, and packing as a whole.
-use Prim.Native.Nat.{ℕ, _+_, _-_, _*_, _≤_, _<_}
+use Prim.Native.Nat.{ℕ, _+_, _*_, _≤_, _<_}
 use mathlib.Core.Path.{_≡_, refl, sym, ap, ap₂, subst, _∙_}
 use mathlib.Core.Bool.{true, false}
 use mathlib.Core.List.{List, [], _∷_, _++_}
@@ -15,7 +15,7 @@ use Rattle.paper.specs.declared.PackAnswer.{PackAnswer}
 use Rattle.paper.specs.declared.PackAnswer.the-variants.{Got, Refused}
 use Rattle.paper.specs.Limits.{mostArrays, axisBytes, typeBytes, cellBytes}
 use Rattle.paper.specs.Refusals.{got, refused, refusal, between, smallOutput14}
-use Rattle.paper.specs.Numbers.{part, over}
+use Rattle.paper.specs.Numbers.{part}
 use Rattle.paper.specs.Axes.{Shape}
 use Rattle.paper.specs.Bundle.{mark, markBytes, axesBytes, packed, packInto, pack}
 use Rattle.paper.specs.Answers.{axesOf, packSaid}

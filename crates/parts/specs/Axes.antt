@@ -6,11 +6,9 @@ use mathlib.Core.Bool.{Bool, true, false, _&&_}
 use mathlib.Core.List.{List, [], _∷_, _++_, append-assoc, append-nil}
 use native.Mathlib.Numerals.{add-one}
 use native.Mathlib.Omega.{arith}
-use borrow.Author.Tests.{lt-ltb, le-ltb}
 use lib.Dec.{eqb}
 use lib.ListN.{length, getD, take, drop, set, replicate, take-append-drop, length-set}
-use lib.Seq.{drop-drop, take-take, take-nil, take-suc-set}
-use lib.IntN.{pos, negsuc}
+use lib.Seq.{drop-drop, take-take, take-suc-set}
 use mir.Syntax.{w32}
 use mir.Val.{toZ}
 use Rattle.paper.specs.declared.Axis.{Axis}

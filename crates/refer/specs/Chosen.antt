@@ -1,20 +1,20 @@
 -- An array of a bundle, chosen by its number, as the paper chooses it; and its cells by index.
 use Prim.Native.Nat.{ℕ, zero, suc, _+_, _-_, _*_, _≤_, _<_}
 use mathlib.Core.Path.{_≡_, refl, sym, ap, subst, _∙_}
-use mathlib.Core.Bool.{Bool, true, false}
+use mathlib.Core.Bool.{true, false}
 use mathlib.Core.List.{List, [], _∷_, map}
-use mathlib.Core.Option.{Option, none, some}
+use mathlib.Core.Option.{none, some}
 use native.Mathlib.Omega.{arith}
 use borrow.Author.Tests.{eq-eqb, ne-eqb}
 use lib.Dec.{eqb}
-use lib.ListN.{length, take, drop, getD, getElem?, length-map}
+use lib.ListN.{length, take, drop, getD, length-map}
 use lib.Seq.{drop-drop, length-take-le}
 use Rattle.paper.specs.declared.Cell.the-variants.{Empty}
 use Rattle.paper.specs.declared.Head.{Head}
 use Rattle.paper.specs.declared.Reading.{Reading}
 use Rattle.paper.specs.declared.Refusal.{Refusal}
-use Rattle.paper.specs.Limits.{mostArrays, cellBytes}
-use Rattle.paper.specs.Refusals.{Res, got, refused, _>>=_, if_then_else_, refusal, present, unknown4}
+use Rattle.paper.specs.Limits.{cellBytes}
+use Rattle.paper.specs.Refusals.{Res, got, refused, _>>=_, refusal, unknown4}
 use Rattle.paper.specs.Numbers.{part, nth}
 use Rattle.paper.specs.Axes.{Array}
 use Rattle.paper.specs.Cells.{cellOf}
@@ -22,8 +22,8 @@ use Rattle.paper.specs.Bundle.{readBundle}
 use Rattle.paper.specs.Reference.{chosen}
 use Rattle.paper.specs.Answers.{unless}
 use Rattle.laws.specs.Answers.{noHead}
-use Rattle.laws.specs.Judged.{orEmpty, cellsFrom, cell-no}
-use Rattle.bundle.specs.Read.{cellsIn, arrayAt, Fit, readOf, ReadAll}
+use Rattle.laws.specs.Judged.{orEmpty, cell-no}
+use Rattle.bundle.specs.Read.{cellsIn, arrayAt, Fit, ReadAll}
 use Rattle.refer.specs.declared.Chosen.{Chosen}
 
 -- the array, or the refusal

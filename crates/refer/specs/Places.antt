@@ -1,40 +1,37 @@
 -- A reference by the place found, and a walk by its walking place: each way out of the code from the tests that lead to it.
-use Prim.Native.Nat.{ℕ, zero, suc, _+_, _-_, _*_, _≤_, _<_}
-use mathlib.Core.Path.{_≡_, refl, sym, ap, ap₂, subst, _∙_}
-use mathlib.Core.Bool.{Bool, true, false, _&&_}
-use mathlib.Core.List.{List, [], _∷_, _++_, map, append-assoc, append-nil}
+use Prim.Native.Nat.{ℕ, _+_, _-_, _*_, _≤_, _<_}
+use mathlib.Core.Path.{_≡_, refl, sym, ap, ap₂, _∙_}
+use mathlib.Core.Bool.{Bool, true, false}
+use mathlib.Core.List.{List, [], _∷_, _++_, map}
 use native.Mathlib.Numerals.{add-one}
 use native.Mathlib.Omega.{arith}
 use borrow.Author.Tests.{eq-eqb, ne-eqb, le-leb, lt-leb}
 use lib.Dec.{eqb, leb}
 use lib.ListN.{length, take, getD, set, length-map, List·getD-map}
 use lib.Seq.{take-suc-set, take-suc, take-all}
-use lib.IntN.{ℤ, pos, negsuc}
+use lib.IntN.{ℤ, pos}
 use Rattle.paper.specs.declared.Cell.{Cell}
 use Rattle.paper.specs.declared.Cell.the-variants.{Empty}
 use Rattle.paper.specs.declared.Head.{Head}
 use Rattle.paper.specs.declared.Place.{Place}
 use Rattle.paper.specs.declared.Place.the-variants.{At, InMaximum, Beyond}
 use Rattle.paper.specs.declared.Ordinality.{Ordinality}
-use Rattle.paper.specs.declared.Refusal.{Refusal}
 use Rattle.paper.specs.declared.Seen.{Seen}
 use Rattle.paper.specs.declared.Seen.the-variants.{Held, End}
-use Rattle.paper.specs.declared.ReferenceAnswer.{ReferenceAnswer}
-use Rattle.paper.specs.declared.Walk.{Walk}
 use Rattle.paper.specs.Limits.{cellBytes}
-use Rattle.paper.specs.Refusals.{Res, got, refused, _>>=_, _>>_, if_then_else_, refusal, ensure, between, badAxis5, outside6}
+use Rattle.paper.specs.Refusals.{Res, got, refused, _>>=_, _>>_, if_then_else_, refusal, between, badAxis5, outside6}
 use Rattle.paper.specs.Numbers.{part, distance}
 use Rattle.paper.specs.Axes.{cells, goodExtent, inside, ordinality, placeOf, cellNo, Shape, Array}
 use Rattle.paper.specs.Cells.{cellOf}
 use Rattle.paper.specs.Reference.{chosen, referred, reference, seen, walkedOn, Walked, walk}
-use Rattle.paper.specs.Answers.{shapeOf, unless}
+use Rattle.paper.specs.Answers.{shapeOf}
 use Rattle.coordinates.specs.Places.{inside-true, ordinality-bounds}
 use Rattle.laws.specs.Judged.{orEmpty}
 use Rattle.laws.specs.Tests.{and-left}
 use Rattle.extent.specs.Judged.{goodCells}
-use Rattle.bundle.specs.Read.{cellsIn, arrayAt, Fit}
+use Rattle.bundle.specs.Read.{cellsIn, arrayAt}
 use Rattle.refer.specs.declared.Chosen.{Chosen}
-use Rattle.refer.specs.Chosen.{chosenOf, ChosenHead, cell-at}
+use Rattle.refer.specs.Chosen.{ChosenHead, cell-at}
 
 -- ---- a coordinate's positions, one after the other
 

@@ -5,16 +5,15 @@ use mathlib.Core.Bool.{Bool, true, false, not, _&&_, _||_}
 use mathlib.Core.List.{List, [], _∷_, _++_}
 use native.Mathlib.Omega.{arith}
 use native.Mathlib.Numerals.{add-one}
-use borrow.Author.Tests.{eq-eqb, ne-eqb, eqb-true}
-use lib.Dec.{eqb, leb}
-use lib.ListN.{take, drop, length, getD, length-drop, length-take}
+use lib.Dec.{eqb}
+use lib.ListN.{drop, length, getD, length-drop, length-take}
 use lib.Seq.{drop-cons, take-all}
 use Rattle.paper.specs.declared.Operation.{Operation}
 use Rattle.paper.specs.declared.Operation.the-variants.{Trim, Slice, Reshape, Shift, Rename, Update, Put, Glue, Pair, RightScalar, LeftScalar, Single}
 use Rattle.paper.specs.Limits.{mostAxes, pairBytes, limitBytes, nameBytes, wordBytes, detailBytes, scalarAt}
 use Rattle.paper.specs.Refusals.{if_then_else_, between}
 use Rattle.paper.specs.Numbers.{part, zeros}
-use Rattle.paper.specs.Recipe.{Step, Uses, uses, unusedZero, axisIn}
+use Rattle.paper.specs.Recipe.{Step, uses, unusedZero, axisIn}
 use Rattle.positions.specs.Runs.{part-part}
 use Rattle.extent.specs.Tests.{and-and}
 use Rattle.step.specs.declared.unused.Used.{Used}

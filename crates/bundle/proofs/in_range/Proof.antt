@@ -1,8 +1,6 @@
 use borrow.Author.Tests.{le-leb, lt-leb}
 use Rattle.bundle.proofs.in_range.Statement.{statement}
 use Rattle.bundle.proofs.in_range.Tie as tie
-use Rattle.bundle.proofs.in_range.Reads as reads
-use Rattle.bundle.proofs.in_range.Lts as lts
 
 -- src/lib.rt:84:9
 returns : tie.Need-returns

@@ -1,9 +1,6 @@
 use borrow.Author.Needs.{needs}
 use Rattle.bundle.proofs.no_head.Statement.{statement}
 use Rattle.bundle.proofs.no_head.Tie as tie
-use Rattle.bundle.proofs.no_head.Reads as reads
-use Rattle.bundle.proofs.no_head.Lts as lts
-use Rattle.bundle.proofs.no_extent.Reads as no-extent-reads
 
 -- src/lib.rt:53:9
 no-extent-requires : tie.Need-no-extent-requires

@@ -2,9 +2,6 @@ use Rattle.paper.specs.Refusals.{refusal}
 use borrow.Author.Needs.{needs}
 use Rattle.bundle.proofs.refusing.Statement.{statement}
 use Rattle.bundle.proofs.refusing.Tie as tie
-use Rattle.bundle.proofs.refusing.Reads as reads
-use Rattle.bundle.proofs.refusing.Lts as lts
-use Rattle.bundle.proofs.no_head.Reads as no-head-reads
 
 -- src/lib.rt:71:9
 no-head-requires : tie.Need-no-head-requires

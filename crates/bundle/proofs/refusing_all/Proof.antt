@@ -1,12 +1,9 @@
-use mathlib.Core.Path.{_≡_, refl, sym, ap, ap₂, subst, _∙_}
+use mathlib.Core.Path.{ap}
 use lib.ListN.{replicate}
 use Rattle.paper.specs.Limits.{mostArrays}
 use borrow.Author.Needs.{needs}
 use Rattle.bundle.proofs.refusing_all.Statement.{statement}
 use Rattle.bundle.proofs.refusing_all.Tie as tie
-use Rattle.bundle.proofs.refusing_all.Reads as reads
-use Rattle.bundle.proofs.refusing_all.Lts as lts
-use Rattle.bundle.proofs.no_head.Reads as no-head-reads
 
 -- src/lib.rt:148:9
 no-head-requires : tie.Need-no-head-requires

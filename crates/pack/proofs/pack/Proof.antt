@@ -22,9 +22,6 @@ module _ (c : tie.Else1) where
   least : (1 ≤ c .before .before .before .before .before .before .args .count) × (c .before .before .before .before .before .before .args .count ≤ mostArrays)
   least = count-least (c .before .before .before .before .before .before .args .count) (c .before .before .before .before .before .before .args .forms) (now (c .before .before .before .before .before .before .args .cells)) (now (c .before .before .before .before .before .before .args .out)) (full (c .before .before .before .before .before .before)) bytes (c .before .before .before .judged .result) (c .before .before .before .judged .ensures) (c .if1 .left)
 
-judged-requires : tie.Need-judged-requires
-judged-requires c κs = search needs
-
 returns : tie.Need-returns
 returns c = pack-refused _ (now (c .before .before .before .before .before .before .args .cells)) (now (c .before .before .before .before .before .before .args .out)) _ (c .before .before .before .judged .ensures .no (c .if1 .taken) (length (now (c .before .before .before .before .before .before .args .out))))
 
@@ -44,12 +41,6 @@ put-arrays-requires c κs =
     let a = c .before .before .before .before .before .before .before .before .before .before .before .before .args in
     all-room (a .count) (a .forms) (now (a .cells)) (now (a .out)) (full (c .before .before .before .before .before .before .before .before .before .before .before .before)) (bytes (c .before .before .before .before .before .before)) (c .before .before .before .before .before .before .before .before .before .judged .result) (c .before .before .before .before .before .before .before .before .before .judged .ensures) (c .before .before .before .before .before .before .if1 .left) (c .before .before .before .before .before .if2 .left) (c .before .before .before .put-mark .last .0) (c .before .before .before .put-mark .ensures)
 
-cast-t17 : tie.Need-cast-t17
-cast-t17 c = search needs
-
-same-length : tie.Need-same-length
-same-length c = search needs
-
 returns-3 : tie.Need-returns-3
 returns-3 c =
     let a = c .before .before .before .before .before .before .before .before .before .before .before .before .before .before .before .args in
@@ -60,12 +51,5 @@ pub pack-spec : {M : Type 1} → statement M
 pack-spec =
     tie.close
     (tie.spec
-    judged-requires
-    returns
-    returns-2
-    cast-put-mark
-    put-mark-requires
-    put-arrays-requires
-    cast-t17
-    same-length
-    returns-3)
+    (λ c κs. search needs) returns returns-2 cast-put-mark put-mark-requires put-arrays-requires (λ c. search needs)
+    (λ c. search needs) returns-3)

@@ -3,8 +3,6 @@ use denote.Ref.{now}
 use borrow.Author.Needs.{needs}
 use Rattle.parts.proofs.byte_at.Statement.{statement}
 use Rattle.parts.proofs.byte_at.Tie as tie
-use Rattle.parts.proofs.byte_at.Reads as reads
-use Rattle.parts.proofs.byte_at.Lts as lts
 
 -- src/lib.rt:58:16
 shared-slice-read-result : tie.Need-shared-slice-read-result

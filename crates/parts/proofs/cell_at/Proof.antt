@@ -5,14 +5,10 @@ use lib.ListN.{getD}
 use Prim.Native.Nat.{ℕ}
 use mathlib.Core.List.{List}
 use denote.Ref.{now}
-use mathlib.Core.Path.{_≡_, ap, sym, _∙_}
+use mathlib.Core.Path.{ap, sym, _∙_}
 use borrow.Author.Needs.{needs}
 use Rattle.parts.proofs.cell_at.Statement.{statement}
 use Rattle.parts.proofs.cell_at.Tie as tie
-use Rattle.parts.proofs.cell_at.Reads as reads
-use Rattle.parts.proofs.cell_at.Lts as lts
-use Rattle.parts.proofs.is_cell.Reads as is-cell-reads
-use Rattle.cell.proofs.bytes.word.Reads as word-reads
 
 -- src/lib.rt:93:19
 shared-slice-read-is-cell : tie.Need-shared-slice-read-is-cell

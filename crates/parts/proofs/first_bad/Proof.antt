@@ -1,17 +1,13 @@
 use Rattle.paper.specs.Limits.{cellBytes}
 use borrow.Author.Tests.{not-true, not-false}
 use Rattle.laws.specs.Judged.{firstBad, bad-more, bad-here, bad-none, bad-start}
-use lib.ListN.{length, take, drop}
+use lib.ListN.{drop}
 use denote.Ref.{now}
-use borrow.Author.Needs.{needs}
 use native.Mathlib.Omega.{arith}
-use mathlib.Core.Path.{_≡_, refl, sym, ap, _∙_}
-use Prim.Native.Nat.{ℕ, _+_, _-_, _*_, _≤_, _<_}
+use mathlib.Core.Path.{_≡_, sym, _∙_}
+use Prim.Native.Nat.{_+_, _-_, _*_, _≤_}
 use Rattle.parts.proofs.first_bad.Statement.{statement}
 use Rattle.parts.proofs.first_bad.Tie as tie
-use Rattle.parts.proofs.first_bad.Reads as reads
-use Rattle.parts.proofs.first_bad.Lts as lts
-use Rattle.parts.proofs.cell_at.Reads as cell-at-reads
 
 abbrev Inv-loop : tie.InvT-loop
 Inv-loop s at kind n i₀ i = (i ≤ n) × (firstBad kind (i + 1) (n - i) (drop (at + i * cellBytes) s) ≡ firstBad kind 1 n (drop at s))
@@ -19,49 +15,39 @@ Inv-loop s at kind n i₀ i = (i ≤ n) × (firstBad kind (i + 1) (n - i) (drop 
 abbrev μ-loop : tie.MeasureT-loop
 μ-loop s at kind n i₀ i = n - i
 
--- src/lib.rt:25:5
 loop-holds : tie.Need-loop-holds Inv-loop μ-loop
 loop-holds c = let a = c .before .args in (omega arith, bad-start (now (a .s)) (a .at) (a .kind) (a .n))
 
--- src/lib.rt:26:29
 mul-cell-at : tie.Need-mul-cell-at Inv-loop μ-loop
 mul-cell-at c = omega arith
 
--- src/lib.rt:26:24
 add-cell-at : tie.Need-add-cell-at Inv-loop μ-loop
 add-cell-at c = omega arith
 
--- src/lib.rt:26:13
 cell-at-requires : tie.Need-cell-at-requires Inv-loop μ-loop
 cell-at-requires c κs = omega arith
 
--- src/lib.rt:27:20
 add-result : tie.Need-add-result Inv-loop μ-loop
 add-result c = omega arith
 
--- src/lib.rt:27:13
 returns : tie.Need-returns Inv-loop μ-loop
 returns c =
     let a = c .before .before .before .before .before .args in
     let l = c .before .before .before .loop in
     (bad-here (now (a .s)) (a .at) (a .kind) (a .n) (l .i) (c .before .before .loop-test .taken) (sym (c .before .cell-at .ensures) ∙ not-true _ (c .if1 .taken)) ∙ l .inv .1, omega arith)
 
--- src/lib.rt:29:9
 add-i : tie.Need-add-i Inv-loop μ-loop
 add-i c = omega arith
 
--- src/lib.rt:25:5
 loop-less : tie.Need-loop-less Inv-loop μ-loop
 loop-less c = omega arith
 
--- src/lib.rt:25:5
 loop-again : tie.Need-loop-again Inv-loop μ-loop
 loop-again c =
     let a = c .before .before .before .before .before .args in
     let l = c .before .before .before .loop in
     (omega arith, bad-more (now (a .s)) (a .at) (a .kind) (a .n) (l .i) (c .before .before .loop-test .taken) (sym (c .before .cell-at .ensures) ∙ not-false _ (c .if1 .left)) ∙ l .inv .1)
 
--- src/lib.rt:20:1
 returns-2 : tie.Need-returns-2 Inv-loop μ-loop
 returns-2 c =
     let a = c .before .before .before .args in
@@ -72,15 +58,5 @@ pub first-bad-spec : {M : Type 1} → statement M
 first-bad-spec =
     tie.close
     (tie.spec
-    Inv-loop
-    μ-loop
-    loop-holds
-    mul-cell-at
-    add-cell-at
-    cell-at-requires
-    add-result
-    returns
-    add-i
-    loop-less
-    loop-again
+    Inv-loop μ-loop loop-holds mul-cell-at add-cell-at cell-at-requires add-result returns add-i loop-less loop-again
     returns-2)

@@ -2,11 +2,9 @@ use Rattle.laws.specs.Judged.{is?}
 use Rattle.paper.specs.Cells.{cellFrom}
 use Rattle.parts.specs.Judge.{is-int, is-float, is-truth, is-empty, is-none}
 use Prim.Native.Nat.{ℕ}
-use mathlib.Core.Path.{_≡_, ap, sym, _∙_}
+use mathlib.Core.Path.{ap, sym, _∙_}
 use Rattle.parts.proofs.is_cell.Statement.{statement}
 use Rattle.parts.proofs.is_cell.Tie as tie
-use Rattle.parts.proofs.is_cell.Reads as reads
-use Rattle.parts.proofs.is_cell.Lts as lts
 
 -- src/lib.rt:75:13
 returns : tie.Need-returns

@@ -4,7 +4,7 @@ use Rattle.paper.specs.Numbers.{distance}
 use denote.Ref.{now}
 use lib.ListN.{length, take, getD, length-set}
 use mathlib.Core.List.{map}
-use mathlib.Core.Path.{_≡_, refl, sym, ap, _∙_}
+use mathlib.Core.Path.{_≡_, refl, ap, _∙_}
 use native.Mathlib.Omega.{arith}
 use borrow.Author.Needs.{needs, sfits-of}
 use mir.Syntax.{w32}
@@ -14,8 +14,6 @@ use lib.IntN.{pos}
 use Prim.Native.Nat.{_-_, _≤_}
 use Rattle.refer.proofs.coordinate_at.Statement.{statement}
 use Rattle.refer.proofs.coordinate_at.Tie as tie
-use Rattle.refer.proofs.coordinate_at.Reads as reads
-use Rattle.refer.proofs.coordinate_at.Lts as lts
 
 abbrev Inv-loop : tie.InvT-loop
 Inv-loop zs at₀ i₀ at i = (i ≤ length zs) × (length at ≡ mostAxes) × (take i at ≡ take i (map distance zs))
@@ -23,39 +21,27 @@ Inv-loop zs at₀ i₀ at i = (i ≤ length zs) × (length at ≡ mostAxes) × (
 abbrev μ-loop : tie.MeasureT-loop
 μ-loop zs at₀ i₀ at i = length zs - i
 
--- src/lib.rt:106:5
 loop-holds : tie.Need-loop-holds Inv-loop μ-loop
 loop-holds c = (omega arith, refl, refl)
 
--- src/lib.rt:107:37
 mul-distance-to : tie.Need-mul-distance-to Inv-loop μ-loop
 mul-distance-to c = omega arith
 
--- src/lib.rt:107:37
 shared-slice-copy-out-distance-to : tie.Need-shared-slice-copy-out-distance-to Inv-loop μ-loop
 shared-slice-copy-out-distance-to c = omega arith
 
--- x
-distance-to-requires : tie.Need-distance-to-requires Inv-loop μ-loop
-distance-to-requires c κs = search needs
-
--- src/lib.rt:107:9
 mul-at : tie.Need-mul-at Inv-loop μ-loop
 mul-at c = omega arith
 
--- src/lib.rt:107:9
 array-write-at : tie.Need-array-write-at Inv-loop μ-loop
 array-write-at c = omega arith
 
--- src/lib.rt:108:9
 add-i : tie.Need-add-i Inv-loop μ-loop
 add-i c = omega arith
 
--- src/lib.rt:106:5
 loop-less : tie.Need-loop-less Inv-loop μ-loop
 loop-less c = omega arith
 
--- src/lib.rt:106:5
 loop-again : tie.Need-loop-again Inv-loop μ-loop
 loop-again c =
     let l = c .before .before .before .loop in
@@ -63,7 +49,6 @@ loop-again c =
     let f : SFits w32 (getD zs (l .i) (pos 0)) = sfits-of (search needs) in
     (omega arith, simp length-set (l .inv .1), coordinate-more (now (c .before .before .before .before .args .zs)) (l .at) (l .i) _ (c .before .before .loop-test .taken) (omega arith) (c .distance-to .ensures ∙ ap distance (toZ-ofZ w32 (getD zs (l .i) (pos 0)) f)) (l .inv .2))
 
--- src/lib.rt:100:1
 returns : tie.Need-returns Inv-loop μ-loop
 returns c = coordinate-end (now (c .before .before .args .zs)) (c .before .loop .at) (c .before .loop .i) (omega arith) (omega arith) (c .before .loop .inv .2)
 
@@ -71,15 +56,5 @@ pub coordinate-at-spec : {M : Type 1} → statement M
 coordinate-at-spec =
     tie.close
     (tie.spec
-    Inv-loop
-    μ-loop
-    loop-holds
-    mul-distance-to
-    shared-slice-copy-out-distance-to
-    distance-to-requires
-    mul-at
-    array-write-at
-    add-i
-    loop-less
-    loop-again
-    returns)
+    Inv-loop μ-loop loop-holds mul-distance-to shared-slice-copy-out-distance-to (λ c κs. search needs) mul-at
+    array-write-at add-i loop-less loop-again returns)

@@ -1,11 +1,8 @@
-use mathlib.Core.Path.{_≡_, refl, sym, ap, ap₂, subst, _∙_}
+use mathlib.Core.Path.{sym, ap, _∙_}
 use Rattle.refer.specs.Places.{elsewhereOf}
 use borrow.Author.Needs.{needs}
 use Rattle.refer.proofs.elsewhere.Statement.{statement}
 use Rattle.refer.proofs.elsewhere.Tie as tie
-use Rattle.refer.proofs.elsewhere.Reads as reads
-use Rattle.refer.proofs.elsewhere.Lts as lts
-use Rattle.refer.proofs.no_cell.Reads as no-cell-reads
 
 -- src/lib.rt:124:46
 enum-told : tie.Need-enum-told

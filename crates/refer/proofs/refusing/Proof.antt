@@ -1,9 +1,6 @@
 use borrow.Author.Needs.{needs}
 use Rattle.refer.proofs.refusing.Statement.{statement}
 use Rattle.refer.proofs.refusing.Tie as tie
-use Rattle.refer.proofs.refusing.Reads as reads
-use Rattle.refer.proofs.refusing.Lts as lts
-use Rattle.bundle.proofs.no_head.Reads as no-head-reads
 
 -- src/lib.rt:42:9
 no-head-requires : tie.Need-no-head-requires

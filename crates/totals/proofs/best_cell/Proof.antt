@@ -16,27 +16,18 @@ Inv-loop s at kind n largest b₀ i₀ b i = (i ≤ n) × (bestOn largest b (fil
 abbrev μ-loop : tie.MeasureT-loop
 μ-loop s at kind n largest b₀ i₀ b i = n - i
 
--- src/lib.rt:135:5
 loop-holds : tie.Need-loop-holds Inv-loop μ-loop
 loop-holds c = (omega arith, best-start (c .before .args .largest) _)
 
--- src/lib.rt:136:13
 held-cell-requires : tie.Need-held-cell-requires Inv-loop μ-loop
 held-cell-requires c κs = omega (arith, c .before .before .before .pre .room, c .before .before .before .pre .few)
 
--- src/lib.rt:137:9
-better-requires : tie.Need-better-requires Inv-loop μ-loop
-better-requires c κs = search needs
-
--- src/lib.rt:138:9
 add-i : tie.Need-add-i Inv-loop μ-loop
 add-i c = omega (arith, c .before .before .before .before .before .pre .few)
 
--- src/lib.rt:135:5
 loop-less : tie.Need-loop-less Inv-loop μ-loop
 loop-less c = omega arith
 
--- src/lib.rt:135:5
 loop-again : tie.Need-loop-again Inv-loop μ-loop
 loop-again c =
     let a = c .before .before .before .before .before .args in
@@ -50,7 +41,6 @@ loop-again c =
           ∙ l .inv .1,
     )
 
--- src/lib.rt:129:1
 returns : tie.Need-returns Inv-loop μ-loop
 returns c = let a = c .before .before .before .args in let l = c .before .loop in sym (best-end (a .largest) (l .b)) ∙ ap (bestOn (a .largest) (l .b)) (sym (filled-none (now (a .s)) (a .at) (a .kind) (a .n) (l .i) (omega arith))) ∙ l .inv .1
 
@@ -58,12 +48,4 @@ pub best-cell-spec : {M : Type 1} → statement M
 best-cell-spec =
     tie.close
     (tie.spec
-    Inv-loop
-    μ-loop
-    loop-holds
-    held-cell-requires
-    better-requires
-    add-i
-    loop-less
-    loop-again
-    returns)
+    Inv-loop μ-loop loop-holds held-cell-requires (λ c κs. search needs) add-i loop-less loop-again returns)

@@ -16,31 +16,21 @@ Inv-loop s at kind n count₀ i₀ count i = (i ≤ n) × (count ≤ i) × (coun
 abbrev μ-loop : tie.MeasureT-loop
 μ-loop s at kind n count₀ i₀ count i = n - i
 
--- src/lib.rt:66:5
 loop-holds : tie.Need-loop-holds Inv-loop μ-loop
 loop-holds c = (omega arith, omega arith, omega arith)
 
--- src/lib.rt:67:13
 held-cell-requires : tie.Need-held-cell-requires Inv-loop μ-loop
 held-cell-requires c κs = omega (arith, c .before .before .before .pre .room, c .before .before .before .pre .few)
 
--- src/lib.rt:68:18
-tally-requires : tie.Need-tally-requires Inv-loop μ-loop
-tally-requires c κs = search needs
-
--- src/lib.rt:68:9
 add-count : tie.Need-add-count Inv-loop μ-loop
 add-count c = omega (arith, tally-one (c .before .held-cell .result), c .tally .ensures, c .before .before .before .before .before .pre .few)
 
--- src/lib.rt:69:9
 add-i : tie.Need-add-i Inv-loop μ-loop
 add-i c = omega (arith, c .before .before .before .before .before .pre .few)
 
--- src/lib.rt:66:5
 loop-less : tie.Need-loop-less Inv-loop μ-loop
 loop-less c = omega arith
 
--- src/lib.rt:66:5
 loop-again : tie.Need-loop-again Inv-loop μ-loop
 loop-again c =
     let a = c .before .before .before .before .before .args in
@@ -49,7 +39,6 @@ loop-again c =
     let t = c .tally .ensures ∙ ap tallyOf (c .before .held-cell .ensures) in
     (omega arith, omega (arith, tally-one (c .before .held-cell .result), c .tally .ensures), omega (arith, f, t, l .inv .2))
 
--- src/lib.rt:60:1
 returns : tie.Need-returns Inv-loop μ-loop
 returns c = let a = c .before .before .before .args in let l = c .before .loop in omega (arith, ap length (filled-none (now (a .s)) (a .at) (a .kind) (a .n) (l .i) (omega arith)), l .inv .2)
 
@@ -57,13 +46,4 @@ pub count-filled-spec : {M : Type 1} → statement M
 count-filled-spec =
     tie.close
     (tie.spec
-    Inv-loop
-    μ-loop
-    loop-holds
-    held-cell-requires
-    tally-requires
-    add-count
-    add-i
-    loop-less
-    loop-again
-    returns)
+    Inv-loop μ-loop loop-holds held-cell-requires (λ c κs. search needs) add-count add-i loop-less loop-again returns)

@@ -15,31 +15,21 @@ Inv-loop s at kind n count₀ i₀ count i = (i ≤ n) × (count ≤ i) × (coun
 abbrev μ-loop : tie.MeasureT-loop
 μ-loop s at kind n count₀ i₀ count i = n - i
 
--- src/lib.rt:81:5
 loop-holds : tie.Need-loop-holds Inv-loop μ-loop
 loop-holds c = (omega arith, omega arith, omega arith)
 
--- src/lib.rt:82:13
 held-cell-requires : tie.Need-held-cell-requires Inv-loop μ-loop
 held-cell-requires c κs = omega (arith, c .before .before .before .pre .room, c .before .before .before .pre .few)
 
--- src/lib.rt:83:18
-tally-true-requires : tie.Need-tally-true-requires Inv-loop μ-loop
-tally-true-requires c κs = search needs
-
--- src/lib.rt:83:9
 add-count : tie.Need-add-count Inv-loop μ-loop
 add-count c = omega (arith, true-one (c .before .held-cell .result), c .tally-true .ensures, c .before .before .before .before .before .pre .few)
 
--- src/lib.rt:84:9
 add-i : tie.Need-add-i Inv-loop μ-loop
 add-i c = omega (arith, c .before .before .before .before .before .pre .few)
 
--- src/lib.rt:81:5
 loop-less : tie.Need-loop-less Inv-loop μ-loop
 loop-less c = omega arith
 
--- src/lib.rt:81:5
 loop-again : tie.Need-loop-again Inv-loop μ-loop
 loop-again c =
     let a = c .before .before .before .before .before .args in
@@ -48,7 +38,6 @@ loop-again c =
     let t = c .tally-true .ensures ∙ ap tallyTrue (c .before .held-cell .ensures) in
     (omega arith, omega (arith, true-one (c .before .held-cell .result), c .tally-true .ensures), omega (arith, f, t, l .inv .2))
 
--- src/lib.rt:75:1
 returns : tie.Need-returns Inv-loop μ-loop
 returns c = let a = c .before .before .before .args in let l = c .before .loop in omega (arith, ap length (trues-none (now (a .s)) (a .at) (a .kind) (a .n) (l .i) (omega arith)), l .inv .2)
 
@@ -56,13 +45,4 @@ pub count-true-spec : {M : Type 1} → statement M
 count-true-spec =
     tie.close
     (tie.spec
-    Inv-loop
-    μ-loop
-    loop-holds
-    held-cell-requires
-    tally-true-requires
-    add-count
-    add-i
-    loop-less
-    loop-again
-    returns)
+    Inv-loop μ-loop loop-holds held-cell-requires (λ c κs. search needs) add-count add-i loop-less loop-again returns)

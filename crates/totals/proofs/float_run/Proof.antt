@@ -17,35 +17,15 @@ Inv-loop s at kind n mean₀ i₀ mean i = (i ≤ n) × Going mean (filledFrom 1
 abbrev μ-loop : tie.MeasureT-loop
 μ-loop s at kind n mean₀ i₀ mean i = n - i
 
--- src/lib.rt:203:9
-mean-none-requires : tie.Need-mean-none-requires Inv-loop μ-loop
-mean-none-requires c κs = search needs
-
--- src/lib.rt:205:5
 loop-holds : tie.Need-loop-holds Inv-loop μ-loop
 loop-holds c = (omega arith, record { same = λ made k. c .mean-none .ensures .0 made k _; few = omega (arith, c .mean-none .ensures .1) })
 
--- src/lib.rt:206:13
 held-cell-requires : tie.Need-held-cell-requires Inv-loop μ-loop
 held-cell-requires c κs = omega (arith, c .before .before .before .before .pre .room, c .before .before .before .before .pre .few)
 
--- src/lib.rt:207:13
-mean-next-requires : tie.Need-mean-next-requires Inv-loop μ-loop
-mean-next-requires c κs = search needs
-
--- src/lib.rt:208:23
-enum-known-added : tie.Need-enum-known-added Inv-loop μ-loop
-enum-known-added c = search needs
-
--- src/lib.rt:209:37
-enum-told : tie.Need-enum-told Inv-loop μ-loop
-enum-told c = search needs
-
--- src/lib.rt:209:37
 add-t11 : tie.Need-add-t11 Inv-loop μ-loop
 add-t11 c = omega (arith, c .before .before .before .before .before .before .before .before .pre .few)
 
--- src/lib.rt:209:13
 returns : tie.Need-returns Inv-loop μ-loop
 returns c =
     let a = c .before .before .before .before .before .before .before .before .args in
@@ -60,15 +40,12 @@ returns c =
       few = omega arith;
     }
 
--- src/lib.rt:212:9
 add-i : tie.Need-add-i Inv-loop μ-loop
 add-i c = omega (arith, c .before .before .before .before .before .before .before .before .before .pre .few)
 
--- src/lib.rt:205:5
 loop-less : tie.Need-loop-less Inv-loop μ-loop
 loop-less c = omega arith
 
--- src/lib.rt:205:5
 loop-again : tie.Need-loop-again Inv-loop μ-loop
 loop-again c =
     let a = c .before .before .before .before .before .before .before .before .before .args in
@@ -79,7 +56,6 @@ loop-again c =
     let e = filled-next (now (a .s)) (a .at) (a .kind) (a .n) (l .i) (c .before .before .before .before .before .loop-test .taken) in
     (omega arith, going-next (l .mean) _ _ _ (l .i) d r (l .inv .1) (omega (arith, c .before .before .before .before .before .before .before .before .before .pre .few)) e x _ (c .before .added .given .1))
 
--- src/lib.rt:199:1
 returns-2 : tie.Need-returns-2 Inv-loop μ-loop
 returns-2 c =
     let a = c .before .before .before .before .args in
@@ -94,17 +70,5 @@ pub float-run-spec : {M : Type 1} → statement M
 float-run-spec =
     tie.close
     (tie.spec
-    Inv-loop
-    μ-loop
-    mean-none-requires
-    loop-holds
-    held-cell-requires
-    mean-next-requires
-    enum-known-added
-    enum-told
-    add-t11
-    returns
-    add-i
-    loop-less
-    loop-again
-    returns-2)
+    Inv-loop μ-loop (λ c κs. search needs) loop-holds held-cell-requires (λ c κs. search needs) (λ c. search needs)
+    (λ c. search needs) add-t11 returns add-i loop-less loop-again returns-2)

@@ -21,29 +21,11 @@ module _ (c : tie.After-array-of) where
   counted : between 1 mostAxes (length (axesOf (c .before .before .before .before .before .before .before .before .args .form .extent))) ≡ true
   counted = ap (between 1 mostAxes) (sym (c .before .before .before .before .before .rank-of .ensures .number)) ∙ sym (c .before .before .in-range2 .ensures) ∙ not-false _ (c .before .if2 .left)
 
-rank-of-requires : tie.Need-rank-of-requires
-rank-of-requires c κs = search needs
-
-cast-in-range : tie.Need-cast-in-range
-cast-in-range c = search needs
-
-in-range-requires : tie.Need-in-range-requires
-in-range-requires c κs = search needs
-
-stop-requires : tie.Need-stop-requires
-stop-requires c κs = search needs
-
 returns : tie.Need-returns
 returns c =
     let a = c .before .before .before .before .before .before .args in
     form-refused (now (a .cells)) (a .from) (a .k) (a .form) (c .stop .result) _ (c .stop .ensures) (λ e. omega arith)
     (form-type (now (a .cells)) (a .from) (a .k) (a .form) (sym (c .before .before .in-range .ensures) ∙ not-true _ (c .before .if1 .taken)))
-
-in-range-requires-2 : tie.Need-in-range-requires-2
-in-range-requires-2 c κs = search needs
-
-stop-requires-2 : tie.Need-stop-requires-2
-stop-requires-2 c κs = search needs
 
 returns-2 : tie.Need-returns-2
 returns-2 c =
@@ -51,12 +33,6 @@ returns-2 c =
     form-refused (now (a .cells)) (a .from) (a .k) (a .form) (c .stop2 .result) _ (c .stop2 .ensures) (λ e. omega arith)
     (form-count (now (a .cells)) (a .from) (a .k) (a .form) (sym (c .before .before .before .before .in-range .ensures) ∙ not-false _ (c .before .before .before .if1 .left))
     (ap (between 1 mostAxes) (sym (c .before .before .before .before .before .rank-of .ensures .number)) ∙ sym (c .before .before .in-range2 .ensures) ∙ not-true _ (c .before .if2 .taken)))
-
-array-of-requires : tie.Need-array-of-requires
-array-of-requires c κs = search needs
-
-stop-requires-3 : tie.Need-stop-requires-3
-stop-requires-3 c κs = search needs
 
 returns-3 : tie.Need-returns-3
 returns-3 c =
@@ -67,14 +43,8 @@ returns-3 c =
 mul-t13 : tie.Need-mul-t13
 mul-t13 c = omega (arith, c .before .before .before .before .before .before .before .before .rank-of .ensures .few)
 
-add-t15 : tie.Need-add-t15
-add-t15 c = search needs
-
 sub-t16 : tie.Need-sub-t16
 sub-t16 c = omega (arith, c .before .before .before .array-of .ensures .past (c .if3 .left))
-
-add-t17 : tie.Need-add-t17
-add-t17 c = search needs
 
 returns-4 : tie.Need-returns-4
 returns-4 c =
@@ -85,19 +55,6 @@ pub form-judged-spec : {M : Type 1} → statement M
 form-judged-spec =
     tie.close
     (tie.spec
-    rank-of-requires
-    cast-in-range
-    in-range-requires
-    stop-requires
-    returns
-    in-range-requires-2
-    stop-requires-2
-    returns-2
-    array-of-requires
-    stop-requires-3
-    returns-3
-    mul-t13
-    add-t15
-    sub-t16
-    add-t17
-    returns-4)
+    (λ c κs. search needs) (λ c. search needs) (λ c κs. search needs) (λ c κs. search needs) returns (λ c κs. search needs)
+    (λ c κs. search needs) returns-2 (λ c κs. search needs) (λ c κs. search needs) returns-3 mul-t13 (λ c. search needs)
+    sub-t16 (λ c. search needs) returns-4)

@@ -37,12 +37,6 @@ module _ (c : tie.In-loop Inv-loop μ-loop) where
   next : (d : Form) → drop (c .before .loop .i) (take (c .before .before .before .before .before .args .count) (c .before .before .before .before .before .args .t2)) ≡ getD (c .before .before .before .before .before .args .t2) (c .before .loop .i) d ∷ drop (c .before .loop .i + 1) (take (c .before .before .before .before .before .args .count) (c .before .before .before .before .before .args .t2))
   next d = next-form (c .before .before .before .before .before .args .count) (c .before .before .before .before .before .args .t2) (now (c .before .before .before .before .before .args .cells)) (counted (c .before .before)) (full (c .before .before)) (c .before .loop .i) d (c .loop-test .taken)
 
-in-range-requires : tie.Need-in-range-requires Inv-loop μ-loop
-in-range-requires c κs = search needs
-
-refuse-requires : tie.Need-refuse-requires Inv-loop μ-loop
-refuse-requires c κs = search needs
-
 returns : tie.Need-returns Inv-loop μ-loop
 returns c =
     let a = c .before .before .before .before .args in
@@ -66,9 +60,6 @@ cast-form-judged c = omega (arith, few (c .before .before .before))
 form-judged-requires : tie.Need-form-judged-requires Inv-loop μ-loop
 form-judged-requires c κs = c .before .before .loop .inv .room
 
-refuse-requires-2 : tie.Need-refuse-requires-2 Inv-loop μ-loop
-refuse-requires-2 c κs = search needs
-
 returns-2 : tie.Need-returns-2 Inv-loop μ-loop
 returns-2 c =
     let a = c .before .before .before .before .before .before .before .before .before .before .before .args in
@@ -91,9 +82,6 @@ loop-again c =
     judging-more (take (a .count) (a .t2)) (now (a .cells)) (c .before .before .before .before .before .before .before .loop .at) (c .before .before .before .before .before .before .before .loop .long) (c .before .before .before .before .before .before .before .loop .i) (c .before .before .before .before .before .before .before .loop .inv) _ (next (c .before .before .before .before .before .before) _) (c .before .before .before .before .form-judged .result) (c .before .before .before .before .form-judged .ensures) (c .before .if2 .left)
     (omega (arith, count-first (a .count) (a .t2) (now (a .cells)) (counted (c .before .before .before .before .before .before .before .before)) (full (c .before .before .before .before .before .before .before .before))))
 
-refuse-requires-3 : tie.Need-refuse-requires-3 Inv-loop μ-loop
-refuse-requires-3 c κs = search needs
-
 returns-3 : tie.Need-returns-3 Inv-loop μ-loop
 returns-3 c =
     let a = c .before .before .before .before .before .before .before .args in
@@ -109,23 +97,6 @@ pub judged-spec : {M : Type 1} → statement M
 judged-spec =
     tie.close
     (tie.spec
-    Inv-loop
-    μ-loop
-    in-range-requires
-    refuse-requires
-    returns
-    loop-holds
-    mul-form
-    array-copy-out-form
-    add-form-judged
-    cast-form-judged
-    form-judged-requires
-    refuse-requires-2
-    returns-2
-    add-long
-    add-i
-    loop-less
-    loop-again
-    refuse-requires-3
-    returns-3
-    returns-4)
+    Inv-loop μ-loop (λ c κs. search needs) (λ c κs. search needs) returns loop-holds mul-form array-copy-out-form
+    add-form-judged cast-form-judged form-judged-requires (λ c κs. search needs) returns-2 add-long add-i loop-less
+    loop-again (λ c κs. search needs) returns-3 returns-4)

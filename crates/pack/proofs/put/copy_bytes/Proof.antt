@@ -46,15 +46,5 @@ pub copy-bytes-spec : {M : Type 1} → statement M
 copy-bytes-spec =
     tie.close
     (tie.spec
-    Inv-loop
-    μ-loop
-    loop-holds
-    add-d
-    shared-slice-read-d
-    add-d-2
-    slice-write-d
-    add-k
-    loop-less
-    loop-again
-    same-length
+    Inv-loop μ-loop loop-holds add-d shared-slice-read-d add-d-2 slice-write-d add-k loop-less loop-again same-length
     returns)

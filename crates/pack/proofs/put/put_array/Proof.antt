@@ -30,65 +30,14 @@ module _ (c : tie.After-slice-known3) where
       array-put (a .form) (now (a .cells)) (a .from) (now (a .d)) (a .at) (c .before .before .before .before .before .before .before .before .before .before .before .before .before .before .pre) _ (c .before .before .before .before .before .before .before .before .before .rank-of .ensures .number) _ (c .before .before .before .before .before .before .before .before .extent-cells .ensures .0)
       (c .before .before .before .before .before .before .put-axes .last .0) (c .before .before .copy-bytes .last .1 .1 .0) (c .before .before .before .before .before .before .put-axes .ensures) (c .before .before .copy-bytes .ensures)
 
-rank-of-requires : tie.Need-rank-of-requires
-rank-of-requires c κs = search needs
-
-extent-cells-requires : tie.Need-extent-cells-requires
-extent-cells-requires c κs = search needs
-
-slice-write-d : tie.Need-slice-write-d
-slice-write-d c = search needs
-
-cast-d : tie.Need-cast-d
-cast-d c = search needs
-
-add-d : tie.Need-add-d
-add-d c = search needs
-
 slice-write-d-2 : tie.Need-slice-write-d-2
 slice-write-d-2 c = simp length-set (omega (arith, c .before .before .before .before .before .before .pre .room, long c))
-
-add-put-axes : tie.Need-add-put-axes
-add-put-axes c = search needs
 
 put-axes-requires : tie.Need-put-axes-requires
 put-axes-requires c κs = record { alike = ready-alike (c .before .before .before .before .before .before .before .args .form) (drop (c .before .before .before .before .before .before .before .args .from) (now (c .before .before .before .before .before .before .before .args .cells))) (c .before .before .before .before .before .before .before .pre .ready); room = simp length-set (omega (arith, c .before .before .before .before .before .before .before .pre .room, long (c .before), c .before .before .rank-of .ensures .number)) }
 
-add-copy-bytes : tie.Need-add-copy-bytes
-add-copy-bytes c = search needs
-
-mul-copy-bytes : tie.Need-mul-copy-bytes
-mul-copy-bytes c = search needs
-
-add-copy-bytes-2 : tie.Need-add-copy-bytes-2
-add-copy-bytes-2 c = search needs
-
-mul-copy-bytes-2 : tie.Need-mul-copy-bytes-2
-mul-copy-bytes-2 c = search needs
-
 copy-bytes-requires : tie.Need-copy-bytes-requires
 copy-bytes-requires c κs = (fit (c .before .before .before .before .before), omega (arith, c .before .before .before .before .before .before .before .before .before .before .before .pre .room, long (c .before .before .before .before .before), kept (c .before .before .before)))
-
-mul-t12 : tie.Need-mul-t12
-mul-t12 c = search needs
-
-add-t21 : tie.Need-add-t21
-add-t21 c = search needs
-
-add-t20 : tie.Need-add-t20
-add-t20 c = search needs
-
-mul-t19 : tie.Need-mul-t19
-mul-t19 c = search needs
-
-add-t22 : tie.Need-add-t22
-add-t22 c = search needs
-
-mul-t23 : tie.Need-mul-t23
-mul-t23 c = search needs
-
-add-t24 : tie.Need-add-t24
-add-t24 c = search needs
 
 same-length : tie.Need-same-length
 same-length c = ap length (written c) ∙ length-put (now (c .before .before .before .before .before .before .before .before .before .before .before .before .before .before .args .d)) (c .before .before .before .before .before .before .before .before .before .before .before .before .before .before .args .at) (formBytes (c .before .before .before .before .before .before .before .before .before .before .before .before .before .before .args .form) (drop (c .before .before .before .before .before .before .before .before .before .before .before .before .before .before .args .from) (now (c .before .before .before .before .before .before .before .before .before .before .before .before .before .before .args .cells)))) (c .before .before .before .before .before .before .before .before .before .before .before .before .before .before .pre .room)
@@ -106,25 +55,7 @@ pub put-array-spec : {M : Type 1} → statement M
 put-array-spec =
     tie.close
     (tie.spec
-    rank-of-requires
-    extent-cells-requires
-    slice-write-d
-    cast-d
-    add-d
-    slice-write-d-2
-    add-put-axes
-    put-axes-requires
-    add-copy-bytes
-    mul-copy-bytes
-    add-copy-bytes-2
-    mul-copy-bytes-2
-    copy-bytes-requires
-    mul-t12
-    add-t21
-    add-t20
-    mul-t19
-    add-t22
-    mul-t23
-    add-t24
-    same-length
-    returns)
+    (λ c κs. search needs) (λ c κs. search needs) (λ c. search needs) (λ c. search needs) (λ c. search needs)
+    slice-write-d-2 (λ c. search needs) put-axes-requires (λ c. search needs) (λ c. search needs) (λ c. search needs)
+    (λ c. search needs) copy-bytes-requires (λ c. search needs) (λ c. search needs) (λ c. search needs) (λ c. search needs)
+    (λ c. search needs) (λ c. search needs) (λ c. search needs) same-length returns)

@@ -66,14 +66,5 @@ pub put-arrays-spec : {M : Type 1} → statement M
 put-arrays-spec =
     tie.close
     (tie.spec
-    Inv-loop
-    μ-loop
-    loop-holds
-    mul-form
-    array-copy-out-form
-    put-array-requires
-    add-i
-    loop-less
-    loop-again
-    same-length
+    Inv-loop μ-loop loop-holds mul-form array-copy-out-form put-array-requires add-i loop-less loop-again same-length
     returns)

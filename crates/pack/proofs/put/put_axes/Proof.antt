@@ -26,20 +26,11 @@ module _ (c : tie.After-rank-of Inv-loop μ-loop) where
   other : Rank (c .before .before .args .t4) (c .rank-of .result)
   other = ranked (c .before .before .args .t4) (c .rank-of .result) (full (c .before .before)) (c .rank-of .ensures .number ∙ sym (c .before .before .pre .alike))
 
-rank-of-requires : tie.Need-rank-of-requires Inv-loop μ-loop
-rank-of-requires c κs = search needs
-
 loop-holds : tie.Need-loop-holds Inv-loop μ-loop
 loop-holds c = axes-start (c .before .before .args .t3) (c .before .before .args .t4) (now (c .before .before .args .d)) (c .before .before .args .at)
 
-mul-a : tie.Need-mul-a Inv-loop μ-loop
-mul-a c = search needs
-
 element-copy-out-a : tie.Need-element-copy-out-a Inv-loop μ-loop
 element-copy-out-a c = omega (arith, c .before .before .rank-of .ensures .few)
-
-mul-b : tie.Need-mul-b Inv-loop μ-loop
-mul-b c = search needs
 
 element-copy-out-b : tie.Need-element-copy-out-b Inv-loop μ-loop
 element-copy-out-b c = omega (arith, c .before .before .before .rank-of .ensures .few)
@@ -72,19 +63,5 @@ pub put-axes-spec : {M : Type 1} → statement M
 put-axes-spec =
     tie.close
     (tie.spec
-    Inv-loop
-    μ-loop
-    rank-of-requires
-    loop-holds
-    mul-a
-    element-copy-out-a
-    mul-b
-    element-copy-out-b
-    mul-put-axis
-    add-put-axis
-    put-axis-requires
-    add-i
-    loop-less
-    loop-again
-    same-length
-    returns)
+    Inv-loop μ-loop (λ c κs. search needs) loop-holds (λ c. search needs) element-copy-out-a (λ c. search needs)
+    element-copy-out-b mul-put-axis add-put-axis put-axis-requires add-i loop-less loop-again same-length returns)

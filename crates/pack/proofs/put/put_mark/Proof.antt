@@ -9,9 +9,6 @@ use lib.ListN.{length-set}
 use Rattle.cell.proofs.Runs.{stores-at}
 use Rattle.paper.specs.Bundle.{mark}
 
-slice-write-d : tie.Need-slice-write-d
-slice-write-d c = search needs
-
 slice-write-d-2 : tie.Need-slice-write-d-2
 slice-write-d-2 c = simp length-set (omega arith)
 
@@ -24,12 +21,6 @@ slice-write-d-4 c = simp length-set (omega arith)
 slice-write-d-5 : tie.Need-slice-write-d-5
 slice-write-d-5 c = simp length-set (omega arith)
 
-slice-write-d-6 : tie.Need-slice-write-d-6
-slice-write-d-6 c = search needs
-
-same-length : tie.Need-same-length
-same-length c = search needs
-
 returns : tie.Need-returns
 returns c = stores-at (mark ++ (c .args .count ∷ [])) (now (c .args .d)) 0 (c .pre)
 
@@ -37,11 +28,5 @@ pub put-mark-spec : {M : Type 1} → statement M
 put-mark-spec =
     tie.close
     (tie.spec
-    slice-write-d
-    slice-write-d-2
-    slice-write-d-3
-    slice-write-d-4
-    slice-write-d-5
-    slice-write-d-6
-    same-length
-    returns)
+    (λ c. search needs) slice-write-d-2 slice-write-d-3 slice-write-d-4 slice-write-d-5 (λ c. search needs)
+    (λ c. search needs) returns)

@@ -1,13 +1,10 @@
-use mathlib.Core.Path.{_≡_, refl, sym, ap, subst, _∙_}
+use mathlib.Core.Path.{sym, ap, _∙_}
 use mathlib.Core.Option.{Option·map}
 use Rattle.operators.specs.Told.{toldPair}
 use Rattle.paper.specs.declared.Operation.the-variants.{LeftScalar}
 use borrow.Author.Needs.{needs}
 use Rattle.step.proofs.operation.of_left.Statement.{statement}
 use Rattle.step.proofs.operation.of_left.Tie as tie
-use Rattle.step.proofs.operation.of_left.Reads as reads
-use Rattle.step.proofs.operation.of_left.Lts as lts
-use Rattle.operators.proofs.numbers.pair_op.Reads as pair-op-reads
 
 -- src/operation.rt:45:9
 pair-op-requires : tie.Need-pair-op-requires

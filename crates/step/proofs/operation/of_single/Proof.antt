@@ -1,13 +1,10 @@
-use mathlib.Core.Path.{_≡_, refl, sym, ap, subst, _∙_}
+use mathlib.Core.Path.{sym, ap, _∙_}
 use mathlib.Core.Option.{Option·map}
 use Rattle.operators.specs.Told.{toldSingle}
 use Rattle.paper.specs.declared.Operation.the-variants.{Single}
 use borrow.Author.Needs.{needs}
 use Rattle.step.proofs.operation.of_single.Statement.{statement}
 use Rattle.step.proofs.operation.of_single.Tie as tie
-use Rattle.step.proofs.operation.of_single.Reads as reads
-use Rattle.step.proofs.operation.of_single.Lts as lts
-use Rattle.operators.proofs.numbers.single_op.Reads as single-op-reads
 
 -- src/operation.rt:56:9
 single-op-requires : tie.Need-single-op-requires

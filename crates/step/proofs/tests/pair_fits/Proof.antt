@@ -1,12 +1,9 @@
-use mathlib.Core.Path.{_≡_, refl, sym, ap, subst, _∙_}
-use borrow.Author.Tests.{not-true, not-false, eq-eqb, ne-eqb, le-leb, lt-leb}
+use mathlib.Core.Path.{_∙_}
+use borrow.Author.Tests.{eq-eqb, ne-eqb}
 use Rattle.step.specs.Steps.{and-no, and-yes}
 use borrow.Author.Needs.{needs}
 use Rattle.step.proofs.tests.pair_fits.Statement.{statement}
 use Rattle.step.proofs.tests.pair_fits.Tie as tie
-use Rattle.step.proofs.tests.pair_fits.Reads as reads
-use Rattle.step.proofs.tests.pair_fits.Lts as lts
-use Rattle.operators.proofs.types.takes_pair.Reads as takes-pair-reads
 
 -- src/tests.rt:48:9
 returns : tie.Need-returns

@@ -1,5 +1,5 @@
-use mathlib.Core.Path.{_≡_, refl, sym, ap, subst, _∙_}
-use borrow.Author.Tests.{not-true, not-false, eq-eqb, ne-eqb, le-leb, lt-leb}
+use mathlib.Core.Path.{sym, ap, _∙_}
+use borrow.Author.Tests.{not-true, not-false}
 use Rattle.step.specs.Steps.{and-no, and-yes}
 use mathlib.Core.List.{List}
 use Rattle.paper.specs.declared.Axis.{Axis}
@@ -11,11 +11,6 @@ use Rattle.paper.specs.Recipe.{covers}
 use borrow.Author.Needs.{needs}
 use Rattle.step.proofs.tests.put_fits.Statement.{statement}
 use Rattle.step.proofs.tests.put_fits.Tie as tie
-use Rattle.step.proofs.tests.put_fits.Reads as reads
-use Rattle.step.proofs.tests.put_fits.Lts as lts
-use Rattle.compare.proofs.covers_all.Reads as covers-all-reads
-use Rattle.shape.proofs.removed.Reads as removed-reads
-use Rattle.step.proofs.tests.slice_fits.Reads as slice-fits-reads
 
 -- src/tests.rt:115:9
 slice-fits-requires : tie.Need-slice-fits-requires

@@ -1,4 +1,4 @@
-use mathlib.Core.Path.{_≡_, refl, sym, ap, subst, _∙_}
+use mathlib.Core.Path.{ap, _∙_}
 use Prim.Native.Nat.{ℕ}
 use denote.Ref.{now}
 use Rattle.paper.specs.Axes.{onAxis, axisAt}
@@ -7,10 +7,6 @@ use Rattle.step.specs.Steps.{position-there}
 use borrow.Author.Needs.{needs}
 use Rattle.step.proofs.tests.slice_fits.Statement.{statement}
 use Rattle.step.proofs.tests.slice_fits.Tie as tie
-use Rattle.step.proofs.tests.slice_fits.Reads as reads
-use Rattle.step.proofs.tests.slice_fits.Lts as lts
-use Rattle.compare.proofs.position_in.Reads as position-in-reads
-use Rattle.positions.proofs.position_at.Reads as position-at-reads
 
 -- src/tests.rt:107:23
 position-at-requires : tie.Need-position-at-requires

@@ -1,4 +1,4 @@
-use mathlib.Core.Path.{_≡_, refl, sym, ap, subst, _∙_}
+use mathlib.Core.Path.{ap, _∙_}
 use mathlib.Core.List.{List}
 use Rattle.paper.specs.declared.Axis.{Axis}
 use Rattle.paper.specs.declared.Extent.{Extent}
@@ -11,10 +11,6 @@ use Rattle.paper.specs.Recipe.{covers, withLimits}
 use borrow.Author.Needs.{needs}
 use Rattle.step.proofs.tests.trim_fits.Statement.{statement}
 use Rattle.step.proofs.tests.trim_fits.Tie as tie
-use Rattle.step.proofs.tests.trim_fits.Reads as reads
-use Rattle.step.proofs.tests.trim_fits.Lts as lts
-use Rattle.compare.proofs.covers_all.Reads as covers-all-reads
-use Rattle.shape.proofs.with_limits.Reads as with-limits-reads
 
 -- src/tests.rt:99:19
 with-limits-requires : tie.Need-with-limits-requires

@@ -1,12 +1,9 @@
-use mathlib.Core.Path.{_≡_, refl, sym, ap, subst, _∙_}
-use borrow.Author.Tests.{not-true, not-false, eq-eqb, ne-eqb, le-leb, lt-leb}
+use mathlib.Core.Path.{sym, _∙_}
+use borrow.Author.Tests.{not-true, not-false, le-leb, lt-leb}
 use Rattle.step.specs.Using.{axis-by}
 use borrow.Author.Needs.{needs}
 use Rattle.step.proofs.unused.axis_in.Statement.{statement}
 use Rattle.step.proofs.unused.axis_in.Tie as tie
-use Rattle.step.proofs.unused.axis_in.Reads as reads
-use Rattle.step.proofs.unused.axis_in.Lts as lts
-use Rattle.step.proofs.unused.used_by.Reads as used-by-reads
 
 -- src/unused.rt:135:9
 used-by-requires : tie.Need-used-by-requires

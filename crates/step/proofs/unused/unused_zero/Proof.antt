@@ -1,5 +1,5 @@
-use mathlib.Core.Path.{_≡_, refl, sym, ap, subst, _∙_}
-use borrow.Author.Tests.{not-true, not-false, eq-eqb, ne-eqb, le-leb, lt-leb}
+use mathlib.Core.Path.{sym, subst, _∙_}
+use borrow.Author.Tests.{not-true, not-false}
 use Rattle.step.specs.Steps.{and-no, and-yes}
 use Prim.Native.Nat.{_≤_}
 use denote.Ref.{now}
@@ -10,37 +10,16 @@ use Rattle.step.specs.declared.unused.Used.{Used}
 use borrow.Author.Needs.{needs}
 use Rattle.step.proofs.unused.unused_zero.Statement.{statement}
 use Rattle.step.proofs.unused.unused_zero.Tie as tie
-use Rattle.step.proofs.unused.unused_zero.Reads as reads
-use Rattle.step.proofs.unused.unused_zero.Lts as lts
-use Rattle.step.proofs.unused.detail_zero.Reads as detail-zero-reads
-use Rattle.step.proofs.unused.used_by.Reads as used-by-reads
-use Rattle.step.proofs.unused.used_or_zero.Reads as used-or-zero-reads
 
--- src/unused.rt:121:9
-used-by-requires : tie.Need-used-by-requires
-used-by-requires c κs = search needs
-
--- src/unused.rt:122:9
-used-or-zero-requires : tie.Need-used-or-zero-requires
-used-or-zero-requires c κs = search needs
-
--- src/unused.rt:123:9
 returns : tie.Need-returns
 returns c = let a = c .before .before .before .before in and-no _ _ (sym (c .before .used-or-zero .ensures) ∙ not-true _ (c .if1 .taken)) ∙ sym (unused-by (a .args .step .operation) (a .args .n) _ (c .before .before .used-by .ensures) (stepIn (now (a .args .s)) (a .args .step)))
 
--- src/unused.rt:125:9
-used-or-zero-requires-2 : tie.Need-used-or-zero-requires-2
-used-or-zero-requires-2 c κs = search needs
-
--- src/unused.rt:126:9
 returns-2 : tie.Need-returns-2
 returns-2 c = let a = c .before .before .before .before .before .before in and-no _ _ (sym (c .before .used-or-zero2 .ensures) ∙ not-true _ (c .if2 .taken)) ∙ and-yes _ _ (sym (c .before .before .before .used-or-zero .ensures) ∙ not-false _ (c .before .before .if1 .left)) ∙ sym (unused-by (a .args .step .operation) (a .args .n) _ (c .before .before .before .before .used-by .ensures) (stepIn (now (a .args .s)) (a .args .step)))
 
--- src/unused.rt:128:5
 detail-zero-requires : tie.Need-detail-zero-requires
 detail-zero-requires c κs = let a = c .before .before .before .before .before .before in (subst (λ (u : Used). u .from ≤ detailBytes) (sym (c .before .before .before .before .used-by .ensures)) (few-used (a .args .step .operation) (a .args .n) (a .pre .0)), a .pre .1)
 
--- src/unused.rt:114:1
 returns-3 : tie.Need-returns-3
 returns-3 c = let a = c .before .before .before .before .before .before .before in c .detail-zero .ensures ∙ and-yes _ _ (sym (c .before .before .used-or-zero2 .ensures) ∙ not-false _ (c .before .if2 .left)) ∙ and-yes _ _ (sym (c .before .before .before .before .used-or-zero .ensures) ∙ not-false _ (c .before .before .before .if1 .left)) ∙ sym (unused-by (a .args .step .operation) (a .args .n) _ (c .before .before .before .before .before .used-by .ensures) (stepIn (now (a .args .s)) (a .args .step)))
 
@@ -48,10 +27,4 @@ pub unused-zero-spec : {M : Type 1} → statement M
 unused-zero-spec =
     tie.close
     (tie.spec
-    used-by-requires
-    used-or-zero-requires
-    returns
-    used-or-zero-requires-2
-    returns-2
-    detail-zero-requires
-    returns-3)
+    (λ c κs. search needs) (λ c κs. search needs) returns (λ c κs. search needs) returns-2 detail-zero-requires returns-3)

@@ -1,8 +1,6 @@
 use borrow.Author.Needs.{needs}
 use Rattle.step.proofs.unused.used_or_zero.Statement.{statement}
 use Rattle.step.proofs.unused.used_or_zero.Tie as tie
-use Rattle.step.proofs.unused.used_or_zero.Reads as reads
-use Rattle.step.proofs.unused.used_or_zero.Lts as lts
 
 -- src/unused.rt:107:9
 returns : tie.Need-returns
