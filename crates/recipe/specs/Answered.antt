@@ -16,7 +16,7 @@ use Rattle.paper.specs.Axes.{cells, Shape}
 use Rattle.paper.specs.Recipe.{operation, stepOf, goodResult, planStep}
 use Rattle.paper.specs.Recipe as Paper
 use Rattle.paper.specs.Answers.{axesOf}
-use Rattle.positions.specs.Runs.{part-part}
+use Rattle.positions.specs.Runs.{Holds, part-part}
 use Rattle.extent.specs.Judged.{Small, goodCells, good-zero, good-some, good-small}
 use Rattle.step.specs.declared.StepHead.{StepHead}
 use Rattle.step.specs.declared.Typed.{Typed}
@@ -36,23 +36,24 @@ plannedOf bs p = record { step = stepIn bs (p .step); shape = resultFor (p .resu
 abbrev pub oneOf : ℕ → List ℕ → One → Res Paper.Planned
 oneOf k bs r = if eqb (r .number) 0 then got (plannedOf bs (r .planned)) else refused (refusal (r .number) k 0)
 
--- the result of a step planned is good, and these are its cells
-pub record Kept (r : One) : Type 0 where
+-- the result of a step planned is good, these are its cells, and its detail lies in the recipe
+pub record Kept (bs : List ℕ) (r : One) : Type 0 where
   pub small : r .number ≡ 0 → Small (axesOf (r .planned .result .extent))
-  pub count : r .number ≡ 0 → r .cells ≡ cells (axesOf (r .planned .result .extent))
-  pub few : r .cells ≤ mostCells
+  pub count : r .number ≡ 0 → r .planned .cells ≡ cells (axesOf (r .planned .result .extent))
+  pub detail : r .number ≡ 0 → Holds (r .planned .step .at) detailBytes bs
+  pub few : r .planned .cells ≤ mostCells
 
 -- an answer whose place is any step
 pub record Said (bs : List ℕ) (r : One) (m : ℕ → Res Paper.Planned) : Type 0 where
   pub said : (k : ℕ) → oneOf k bs r ≡ m k
-  pub kept : Kept r
+  pub kept : Kept bs r
 
-pub said-refused : (bs : List ℕ) (r : One) (m : ℕ → Res Paper.Planned) (n : ℕ) → r .number ≡ n → r .cells ≡ 0 → (n ≡ 0 → ⊥) → ((k : ℕ) → refused (refusal n k 0) ≡ m k) → Said bs r m
+pub said-refused : (bs : List ℕ) (r : One) (m : ℕ → Res Paper.Planned) (n : ℕ) → r .number ≡ n → r .planned .cells ≡ 0 → (n ≡ 0 → ⊥) → ((k : ℕ) → refused (refusal n k 0) ≡ m k) → Said bs r m
 said-refused bs r m n e z h q =
     let f : eqb (r .number) 0 ≡ false = ne-eqb (r .number) 0 (λ g. h (sym e ∙ g)) in
     record {
       said = λ k. rw f (ap (λ (j : ℕ). refused (refusal j k 0)) e ∙ q k);
-      kept = record { small = λ g. absurd (h (sym e ∙ g)); count = λ g. absurd (h (sym e ∙ g)); few = omega arith };
+      kept = record { small = λ g. absurd (h (sym e ∙ g)); count = λ g. absurd (h (sym e ∙ g)); detail = λ g. absurd (h (sym e ∙ g)); few = omega arith };
     }
 
 pub said-as : (bs : List ℕ) (r : One) (m w : ℕ → Res Paper.Planned) → Said bs r m → ((k : ℕ) → m k ≡ w k) → Said bs r w
@@ -65,27 +66,28 @@ and-none true = refl
 and-none false = refl
 
 module _ (bs : List ℕ) (step : StepHead) (X : Typed) (S : Shape) (q : resultFor X ≡ S) where
-  finish-no : goodResult (axesOf (X .extent)) ≡ false → (r : One) → r .number ≡ badResult9 → r .cells ≡ 0 → Said bs r (λ k. finishBy k (stepIn bs step) S)
+  finish-no : goodResult (axesOf (X .extent)) ≡ false → (r : One) → r .number ≡ badResult9 → r .planned .cells ≡ 0 → Said bs r (λ k. finishBy k (stepIn bs step) S)
   finish-no h r e z =
       said-refused bs r _ badResult9 e z (λ g. omega arith)
       (λ k. (let t : refused (refusal badResult9 k 0) ≡ finishBy k (stepIn bs step) (resultFor X) = rw h in t) ∙ ap (finishBy k (stepIn bs step)) q)
 
-  pub finish-bad : goodCells (axesOf (X .extent)) ≡ 0 → (r : One) → r .number ≡ badResult9 → r .cells ≡ 0 → Said bs r (λ k. finishBy k (stepIn bs step) S)
+  pub finish-bad : goodCells (axesOf (X .extent)) ≡ 0 → (r : One) → r .number ≡ badResult9 → r .planned .cells ≡ 0 → Said bs r (λ k. finishBy k (stepIn bs step) S)
   finish-bad h = finish-no (rw (good-zero (axesOf (X .extent)) h) (and-none (not (none? (axesOf (X .extent))))))
 
-  pub finish-none : length (axesOf (X .extent)) ≡ 0 → (r : One) → r .number ≡ badResult9 → r .cells ≡ 0 → Said bs r (λ k. finishBy k (stepIn bs step) S)
+  pub finish-none : length (axesOf (X .extent)) ≡ 0 → (r : One) → r .number ≡ badResult9 → r .planned .cells ≡ 0 → Said bs r (λ k. finishBy k (stepIn bs step) S)
   finish-none h = finish-no (rw h)
 
-  pub finish-good : (n : ℕ) → n ≡ goodCells (axesOf (X .extent)) → n ≤ mostCells → (n ≡ 0 → ⊥) → (length (axesOf (X .extent)) ≡ 0 → ⊥) → (r : One)
-      → r ≡ record { number = 0; cells = n; planned = record { step = step; result = X } } → Said bs r (λ k. finishBy k (stepIn bs step) S)
-  finish-good n e l h w r f =
+  pub finish-good : (n : ℕ) → n ≡ goodCells (axesOf (X .extent)) → n ≤ mostCells → (n ≡ 0 → ⊥) → (length (axesOf (X .extent)) ≡ 0 → ⊥) → Holds (step .at) detailBytes bs → (r : One)
+      → r ≡ record { number = 0; planned = record { step = step; result = X; cells = n; at = 0 } } → Said bs r (λ k. finishBy k (stepIn bs step) S)
+  finish-good n e l h w y r f =
       let g = good-some (axesOf (X .extent)) (λ z. h (e ∙ z)) in
       record {
-        said = λ k. ap (oneOf k bs) f ∙ (let t : got (plannedOf bs (record { step = step; result = X })) ≡ finishBy k (stepIn bs step) (resultFor X) = rw (ne-eqb (length (axesOf (X .extent))) 0 w, g .0) in t) ∙ ap (finishBy k (stepIn bs step)) q;
+        said = λ k. ap (oneOf k bs) f ∙ (let t : got (plannedOf bs (record { step = step; result = X; cells = n; at = 0 })) ≡ finishBy k (stepIn bs step) (resultFor X) = rw (ne-eqb (length (axesOf (X .extent))) 0 w, g .0) in t) ∙ ap (finishBy k (stepIn bs step)) q;
         kept = record {
           small = λ z. subst (λ (o : One). Small (axesOf (o .planned .result .extent))) (sym f) (good-small (axesOf (X .extent)) (g .0));
-          count = λ z. subst (λ (o : One). o .cells ≡ cells (axesOf (o .planned .result .extent))) (sym f) (e ∙ sym (g .1));
-          few = subst (λ (o : One). o .cells ≤ mostCells) (sym f) l;
+          count = λ z. subst (λ (o : One). o .planned .cells ≡ cells (axesOf (o .planned .result .extent))) (sym f) (e ∙ sym (g .1));
+          detail = λ z. subst (λ (o : One). Holds (o .planned .step .at) detailBytes bs) (sym f) y;
+          few = subst (λ (o : One). o .planned .cells ≤ mostCells) (sym f) l;
         };
       }
 

@@ -4,3 +4,4 @@ pub mod Testing
 pub mod Answered
 pub mod Whole
 pub mod Given
+pub mod Passed

@@ -6,8 +6,7 @@ ghost use lib.ListN.{length};
 ghost use Rattle.paper.specs.Limits.{detailBytes, stepBytes, mostSteps, mostCells};
 ghost use Rattle.paper.specs.Refusals.{if_then_else_, refusal};
 ghost use Rattle.paper.specs.Axes.{cells};
-ghost use Rattle.paper.specs.Numbers.{nth};
-ghost use Rattle.paper.specs.Numbers.{part};
+ghost use Rattle.paper.specs.Numbers.{nth, part};
 ghost use Rattle.paper.specs.Recipe.{operand, noShape, resultOf, planStep};
 ghost use Rattle.paper.specs.Answers.{axesOf};
 ghost use Rattle.positions.specs.Runs.{Holds};
@@ -41,12 +40,18 @@ pub const STEPS: usize = 16;
 
 pub const STEP: usize = 36;
 
-const RESULTS: usize = 16;
+pub const RESULTS: usize = 16;
 
-// A step that passed its tests, and the type and extent of its result, whose maximum is `*` everywhere.
+// The bytes of a cell.
+const CELL: usize = 9;
+
+// A step that passed its tests, the type and extent of its result, whose maximum is `*` everywhere, the number of its cells, and the
+// byte of the work area at which they begin.
 pub struct Planned {
     pub step: StepHead,
     pub result: Typed,
+    pub cells: usize,
+    pub at: usize,
 }
 
 // The steps planned, the first `count` of these, and the number of cells of all their results.
@@ -63,10 +68,9 @@ pub struct Operand {
     pub array: Typed,
 }
 
-// One step's answer: the number of its refusal, or the step planned and the cells of its result.
+// One step's answer: the number of its refusal, or the step planned, as if it were the first.
 pub struct One {
     pub number: u8,
-    pub cells: usize,
     pub planned: Planned,
 }
 
@@ -121,7 +125,7 @@ fn of_steps(plan: Plan, n: usize) -> Operand
 }
 
 // Operand n: an array of the bundle, or the result of an earlier step.
-fn operand_of(reading: Reading, plan: Plan, n: u8) -> Operand
+pub fn operand_of(reading: Reading, plan: Plan, n: u8) -> Operand
     requires { ⌜ GoodArrays reading ⌝ }
     requires { ⌜ GoodResults plan ⌝ }
     ensures { λ r. ⌜ Stands (operand (arraysOf reading) (resultsOf plan) n) r ⌝ }
@@ -134,7 +138,7 @@ fn operand_of(reading: Reading, plan: Plan, n: u8) -> Operand
 }
 
 // Operand B, or what stands for it.
-fn operand_b(reading: Reading, plan: Plan, step: StepHead) -> Operand
+pub fn operand_b(reading: Reading, plan: Plan, step: StepHead) -> Operand
     requires { ⌜ GoodArrays reading ⌝ }
     requires { ⌜ GoodResults plan ⌝ }
     ensures { λ r. ⌜ Stands (operandB (arraysOf reading) (resultsOf plan) (step .operation) (step .b)) r ⌝ }
@@ -180,7 +184,7 @@ fn fault(step: StepHead, a: Typed, b: Typed, s: &[u8]) -> u8
 // ---- the answer
 
 fn refusing(number: u8) -> One
-    ensures { λ r. ⌜ (r .number ≡ number) × (r .cells ≡ 0) ⌝ }
+    ensures { λ r. ⌜ (r .number ≡ number) × (r .planned .cells ≡ 0) ⌝ }
 {
     let extent = empty();
     let step = StepHead {
@@ -191,12 +195,13 @@ fn refusing(number: u8) -> One
         at: 0,
     };
     let result = Typed { kind: 0, extent };
-    let planned = Planned { step, result };
-    One {
-        number,
+    let planned = Planned {
+        step,
+        result,
         cells: 0,
-        planned,
-    }
+        at: 0,
+    };
+    One { number, planned }
 }
 
 // The step with its result, or 9. Its tests before 9 found no fault.
@@ -216,12 +221,13 @@ fn finish(step: StepHead, a: Typed, b: Typed, s: &[u8]) -> One
     if rank_of(extent) == 0 {
         return refusing(9);
     }
-    let planned = Planned { step, result };
-    One {
-        number: 0,
+    let planned = Planned {
+        step,
+        result,
         cells: n,
-        planned,
-    }
+        at: 0,
+    };
+    One { number: 0, planned }
 }
 
 // A step whose operation is known: its operands, its tests, its result.
@@ -294,17 +300,18 @@ fn no_plan(number: u8, place: u32) -> Plan
     }
 }
 
-// One step more.
+// One step more, whose result begins where the last one ends.
 fn with_step(plan: Plan, one: One) -> Plan
-    requires { ⌜ (plan .count < mostSteps) × (plan .cells ≤ mostSteps * mostCells) × (one .cells ≤ mostCells) ⌝ }
+    requires { ⌜ (plan .count < mostSteps) × (plan .cells ≤ mostSteps * mostCells) × (one .planned .cells ≤ mostCells) ⌝ }
     ensures { λ r. ⌜ r ≡ withStep plan one ⌝ }
 {
-    let at = plan.count;
-    let p = one.planned;
+    let i = plan.count;
+    let mut p = one.planned;
+    p.at = plan.cells * CELL;
     let mut new = plan;
-    new.steps[at] = p;
-    new.count = at + 1;
-    new.cells = plan.cells + one.cells;
+    new.steps[i] = p;
+    new.count = i + 1;
+    new.cells = plan.cells + p.cells;
     new
 }
 

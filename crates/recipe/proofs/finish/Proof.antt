@@ -20,7 +20,7 @@ returns-2 : tie.Need-returns-2
 returns-2 c = let a = c .before .before .before .before .before .before .before .before in finish-none (now (a .args .s)) (a .args .step) (c .before .before .before .before .before .before .result-of .result) (resultOf (a .args .step .operation) (stepIn (now (a .args .s)) (a .args .step)) (shapeFor (a .args .a)) (shapeFor (a .args .b))) (c .before .before .before .before .before .before .result-of .ensures) (sym (c .before .before .rank-of .ensures .number) ∙ c .before .if2 .taken) (c .refusing2 .result) (c .refusing2 .ensures .0) (c .refusing2 .ensures .1)
 
 returns-3 : tie.Need-returns-3
-returns-3 c = let a = c .before .before .before .before .before .before .before in finish-good (now (a .args .s)) (a .args .step) (c .before .before .before .before .before .result-of .result) (resultOf (a .args .step .operation) (stepIn (now (a .args .s)) (a .args .step)) (shapeFor (a .args .a)) (shapeFor (a .args .b))) (c .before .before .before .before .before .result-of .ensures) (c .before .before .before .good-extent .result) (c .before .before .before .good-extent .ensures .0) (c .before .before .before .good-extent .ensures .1) (c .before .before .if1 .left) (λ z. c .if2 .left (c .before .rank-of .ensures .number ∙ z)) _ refl
+returns-3 c = let a = c .before .before .before .before .before .before .before in finish-good (now (a .args .s)) (a .args .step) (c .before .before .before .before .before .result-of .result) (resultOf (a .args .step .operation) (stepIn (now (a .args .s)) (a .args .step)) (shapeFor (a .args .a)) (shapeFor (a .args .b))) (c .before .before .before .before .before .result-of .ensures) (c .before .before .before .good-extent .result) (c .before .before .before .good-extent .ensures .0) (c .before .before .before .good-extent .ensures .1) (c .before .before .if1 .left) (λ z. c .if2 .left (c .before .rank-of .ensures .number ∙ z)) (c .before .before .before .before .before .before .before .pre .1 .1 .0) _ refl
 
 pub finish-spec : {M : Type 1} → statement M
 finish-spec =
