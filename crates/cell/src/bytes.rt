@@ -1,14 +1,15 @@
-// The nine bytes of a cell, read and written, and numbers of four and eight bytes.
+// The nine bytes of a cell, read and written; numbers of four and eight bytes; bytes copied.
 use paper::Cell;
 ghost use mathlib.Core.Path.{_≡_};
 ghost use mathlib.Core.List.{[], _∷_, _++_};
 ghost use Prim.Native.Nat.{_+_, _<_, _≤_};
-ghost use lib.ListN.{length, getD, take, drop};
+ghost use lib.ListN.{length, take, drop};
 ghost use mir.Syntax.{w64};
 ghost use mir.Val.{toZ, ofZ};
 ghost use Rattle.paper.specs.Limits.{limitBytes, wordBytes, cellBytes};
 ghost use Rattle.paper.specs.Numbers.{leOf, leBytes, part};
 ghost use Rattle.paper.specs.Cells.{filled, cellFrom, cellOf, markOf, wordOf, encode};
+ghost use Rattle.laws.specs.Put.{put};
 ghost use Rattle.cell.specs.Reads.{told};
 
 // What nine bytes are: a cell, or no cell.
@@ -114,6 +115,18 @@ pub fn put4(d: &mut [u8], at: usize, n: u32)
     d[at + 1] = (n1 % 256) as u8;
     d[at + 2] = (n2 % 256) as u8;
     d[at + 3] = (n3 % 256) as u8;
+}
+
+// The n bytes of s from `from` on, into d from `at` on. The rest of d stays.
+pub fn copy_bytes(s: &[u8], from: usize, d: &mut [u8], at: usize, n: usize)
+    requires { ⌜ (from + n ≤ length (now s)) × (at + n ≤ length (now d)) ⌝ }
+    ensures { λ _. ⌜ now (d .exit) ≡ put (now (d .entry)) at (part from n (now (s .entry))) ⌝ }
+{
+    let mut k = 0;
+    while k < n {
+        d[at + k] = s[from + k];
+        k += 1;
+    }
 }
 
 // A filled cell of the type `kind`, from its eight bytes' number. With the sign bit taken off, the bits of a finite number

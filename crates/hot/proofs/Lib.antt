@@ -1,5 +1,3 @@
--- Laws for the loop over cells, and of the codes.
+-- The codes of types and operators, and the cases of `standing`.
 pub mod Coded
-pub mod Judged
-pub mod Results
 pub mod Standing

@@ -89,7 +89,12 @@ bad-start s at t n =
     let f : at + 0 * cellBytes ≡ at = omega arith in
     rw (e, f)
 
--- ---- what later code reads: cell i, and that it is one
+-- ---- what later code reads: how many, cell i, and that it is one
+
+pub length-cells : (t n : ℕ) (bs : List ℕ) → length (cellsFrom t n bs) ≡ n
+unfolding cellsFrom
+length-cells t zero bs = refl
+length-cells t (suc n) bs = ap suc (length-cells t n (drop cellBytes bs))
 
 pub cell-no : (n t i : ℕ) (bs : List ℕ) → i < n → getD (cellsFrom t n bs) i Empty ≡ orEmpty (cellOf t (take cellBytes (drop (i * cellBytes) bs)))
 unfolding cellsFrom

@@ -1,20 +1,21 @@
 -- Forms judged one after the other: what is known of one, the loop as a record with a law for each event, and what is known of all.
 use Prim.Native.Nat.{ℕ, _+_, _-_, _*_, _≤_, _<_}
 use mathlib.Core.Path.{_≡_, refl, sym, ap, subst, _∙_}
-use mathlib.Core.Bool.{Bool, true, false}
+use mathlib.Core.Bool.{Bool, true, false, _&&_}
 use mathlib.Core.List.{List, [], _∷_, _++_, map}
 use native.Mathlib.Numerals.{add-one}
 use native.Mathlib.Omega.{arith}
-use borrow.Author.Tests.{ne-eqb, leb-true}
+use borrow.Author.Tests.{ne-eqb, lt-leb, leb-true}
 use lib.Dec.{eqb, leb}
 use lib.ListN.{length, getD, take, drop, length-append, length-drop, drop-of-length-le}
-use lib.Seq.{drop-drop}
+use lib.Seq.{drop-drop, length-take-le}
+use Rattle.paper.specs.declared.Axis.{Axis}
 use Rattle.paper.specs.declared.Form.{Form}
 use Rattle.paper.specs.declared.Refusal.{Refusal}
 use Rattle.paper.specs.Limits.{mostArrays, mostAxes, axisBytes, typeBytes}
-use Rattle.paper.specs.Refusals.{Res, got, refused, _>>=_, _>>_, refusal, ensure, between, badBytes1}
+use Rattle.paper.specs.Refusals.{Res, got, refused, _>>=_, _>>_, refusal, ensure, between, badBytes1, badExtent2}
 use Rattle.paper.specs.Numbers.{none?}
-use Rattle.paper.specs.Axes.{Shape, Array}
+use Rattle.paper.specs.Axes.{goodExtent, within, Shape, Array}
 use Rattle.paper.specs.Cells.{isType}
 use Rattle.paper.specs.Bundle.{markBytes, arrayOf, packArrays, packed}
 use Rattle.paper.specs.Answers.{axesOf, shapeOf}
@@ -24,7 +25,7 @@ use Rattle.bundle.specs.declared.One.{One}
 use Rattle.bundle.specs.Read.{Fit, JudgedArray}
 use Rattle.pack.specs.declared.judge.Step.{Step}
 use Rattle.pack.specs.declared.judge.Verdict.{Verdict}
-use Rattle.pack.specs.Laid.{shapesOf, shapes-length, shapes-few, cellRoom, formBytes, mostBytes, Ready, ready-of, ready-few, ready-long, AllReady, laidBytes, restOf, packed-left}
+use Rattle.pack.specs.Laid.{heldAxes, heldShape, held-whole, held-count, shapesOf, shapes-length, shapes-few, cellRoom, formBytes, mostBytes, Ready, ready-of, ready-few, ready-long, AllReady, laidBytes, restOf, packed-left}
 
 -- ---- one form
 
@@ -43,14 +44,14 @@ abbrev pub over : Refusal → Verdict
 over x = record { refusal = x; long = 0 }
 
 pub record JudgedForm (bs : List ℕ) (from k : ℕ) (form : Form) (r : Step) : Type 0 where
-  pub no : (r .refusal .number ≡ 0 → ⊥) → packForm k (shapeOf form) (drop from bs) ≡ refused (r .refusal)
+  pub no : (r .refusal .number ≡ 0 → ⊥) → packForm k (heldShape form) (drop from bs) ≡ refused (r .refusal)
   pub ready : r .refusal .number ≡ 0 → Ready form (drop from bs)
   pub end : r .refusal .number ≡ 0 → r .end ≡ from + cellRoom form
   pub long : r .refusal .number ≡ 0 → r .long ≡ length (formBytes form (drop from bs))
   pub few : r .long ≤ mostBytes
   pub room : r .end ≤ length bs
 
-pub form-refused : (bs : List ℕ) (from k : ℕ) (form : Form) (r : Step) (x : Refusal) → r ≡ stopped x → (x .number ≡ 0 → ⊥) → packForm k (shapeOf form) (drop from bs) ≡ refused x → JudgedForm bs from k form r
+pub form-refused : (bs : List ℕ) (from k : ℕ) (form : Form) (r : Step) (x : Refusal) → r ≡ stopped x → (x .number ≡ 0 → ⊥) → packForm k (heldShape form) (drop from bs) ≡ refused x → JudgedForm bs from k form r
 form-refused bs from k form r x e h q =
     let z : r .refusal .number ≡ 0 → ⊥ = λ f. h (sym (ap (λ (o : Step). o .refusal .number) e) ∙ f) in
     record {
@@ -62,45 +63,79 @@ form-refused bs from k form r x e h q =
       room = omega (arith, ap (λ (o : Step). o .end) e);
     }
 
+pub few-axes : (n : ℕ) → between 1 mostAxes n ≡ true → n ≤ mostAxes
+few-axes n e = leb-true n mostAxes (and-right (leb 1 n) (leb n mostAxes) e)
+
+-- axes do not lie inside a maximum that has none
+none-within : (E : List Axis) → between 1 mostAxes (length E) ≡ true → (goodExtent E && within E []) ≡ false
+unfolding within
+none-within [] e =
+    let f : false ≡ true = e in
+    let z : _≡_ {A = ℕ} 0 1 = cc in
+    absurd (omega arith)
+none-within (a ∷ E) e = by (goodExtent (a ∷ E))
+  where
+    by : (b : Bool) → (b && false) ≡ false
+    by true = refl
+    by false = refl
+
 module _ (bs : List ℕ) (from k : ℕ) (form : Form) where
-  pub form-type : isType (form .kind) ≡ false → packForm k (shapeOf form) (drop from bs) ≡ refused (refusal badBytes1 k 0)
-  unfolding packForm
+  pub form-type : isType (form .kind) ≡ false → packForm k (heldShape form) (drop from bs) ≡ refused (refusal badBytes1 k 0)
+  unfolding packForm heldShape
   form-type e = rw e
 
-  module _ (t : isType (form .kind) ≡ true) where
-    pub form-count : between 1 mostAxes (length (axesOf (form .extent))) ≡ false → packForm k (shapeOf form) (drop from bs) ≡ refused (refusal badBytes1 k 0)
-    unfolding packForm
-    form-count e = rw (t, e)
+  module _ (t : isType (form .kind) ≡ true) (l : length (form .extent .axes) ≡ mostAxes) where
+    pub form-count : between 1 mostAxes (form .extent .rank) ≡ false → packForm k (heldShape form) (drop from bs) ≡ refused (refusal badBytes1 k 0)
+    unfolding packForm heldShape
+    form-count e = let n = held-count (form .extent) l ∙ e in rw (t, n)
 
-    module _ (b : between 1 mostAxes (length (axesOf (form .extent))) ≡ true) (o : One) (j : JudgedArray bs from k form o) where
-      form-array : packForm k (shapeOf form) (drop from bs) ≡ arrayOf k (shapeOf form) (drop from bs)
-      unfolding packForm
-      form-array = rw (t, b)
+    module _ (b : between 1 mostAxes (form .extent .rank) ≡ true) where
+      -- no axes at all are not a maximum
+      pub form-maximum : mostAxes < form .maximum .rank → packForm k (heldShape form) (drop from bs) ≡ refused (refusal badExtent2 k 0)
+      unfolding packForm heldShape arrayOf
+      form-maximum h =
+          let n = held-count (form .extent) l ∙ b in
+          let m : leb (form .maximum .rank) mostAxes ≡ false = lt-leb _ _ h in
+          rw (t, n, m, none-within (heldAxes (form .extent)) n)
 
-      pub form-bad : (o .refusal .number ≡ 0 → ⊥) → packForm k (shapeOf form) (drop from bs) ≡ refused (o .refusal)
-      form-bad h = let f : eqb (o .refusal .number) 0 ≡ false = ne-eqb _ _ h in form-array ∙ sym (j .said) ∙ rw f
+      module _ (h : form .maximum .rank ≤ mostAxes) (o : One) (j : JudgedArray bs from k form o) where
+        whole : heldShape form ≡ shapeOf form
+        whole = held-whole form (few-axes (form .extent .rank) b) h
 
-      module _ (h : from ≤ length bs) (z : o .refusal .number ≡ 0) where
-        form-ready : Ready form (drop from bs)
-        form-ready =
-            let f : Fit bs (record { form = form; at = from }) = subst (Fit bs) (j .held z) (j .fit z) in
-            record { type = t; rank = b; good = f .good; fits = omega (arith, length-drop from bs, f .fits); clean = f .clean }
+        rank-is : length (axesOf (form .extent)) ≡ form .extent .rank
+        rank-is = length-take-le (form .extent .rank) (form .extent .axes) (omega (arith, few-axes (form .extent .rank) b, l))
 
-        pub form-got : (n : ℕ) → n ≡ length (axesOf (form .extent)) → (r : Step) → r ≡ record { refusal = o .refusal; end = o .end; long = typeBytes + n * axisBytes + (o .end - from) }
-            → JudgedForm bs from k form r
-        form-got n q r e =
-            let v = form-ready in
-            let p = j .past z in
-            let m = leb-true n mostAxes (and-right (leb 1 n) (leb n mostAxes) (subst (λ (x : ℕ). between 1 mostAxes x ≡ true) (sym q) b)) in
-            let w : r .long ≡ typeBytes + n * axisBytes + (o .end - from) = ap (λ (y : Step). y .long) e in
-            record {
-              no = λ f. absurd (f (ap (λ (y : Step). y .refusal .number) e ∙ z));
-              ready = λ f. v;
-              end = λ f. ap (λ (y : Step). y .end) e ∙ p;
-              long = λ f. omega (arith, ready-long form (drop from bs) v);
-              few = omega (arith, ready-few form (drop from bs) v);
-              room = omega (arith, ap (λ (y : Step). y .end) e, j .end);
-            }
+        counted : between 1 mostAxes (length (axesOf (form .extent))) ≡ true
+        counted = ap (between 1 mostAxes) rank-is ∙ b
+
+        form-array : packForm k (heldShape form) (drop from bs) ≡ arrayOf k (shapeOf form) (drop from bs)
+        unfolding packForm
+        form-array = rw (whole, t, counted)
+
+        pub form-bad : (o .refusal .number ≡ 0 → ⊥) → packForm k (heldShape form) (drop from bs) ≡ refused (o .refusal)
+        form-bad f = let g : eqb (o .refusal .number) 0 ≡ false = ne-eqb _ _ f in form-array ∙ sym (j .said) ∙ rw g
+
+        module _ (w : from ≤ length bs) (z : o .refusal .number ≡ 0) where
+          form-ready : Ready form (drop from bs)
+          form-ready =
+              let f : Fit bs (record { form = form; at = from }) = subst (Fit bs) (j .held z) (j .fit z) in
+              record { whole = whole; type = t; rank = counted; good = f .good; fits = omega (arith, length-drop from bs, f .fits); clean = f .clean }
+
+          pub form-got : (r : Step) → r ≡ record { refusal = o .refusal; end = o .end; long = typeBytes + form .extent .rank * axisBytes + (o .end - from) }
+              → JudgedForm bs from k form r
+          form-got r e =
+              let v = form-ready in
+              let p = j .past z in
+              let m = few-axes (form .extent .rank) b in
+              let w : r .long ≡ typeBytes + form .extent .rank * axisBytes + (o .end - from) = ap (λ (y : Step). y .long) e in
+              record {
+                no = λ f. absurd (f (ap (λ (y : Step). y .refusal .number) e ∙ z));
+                ready = λ f. v;
+                end = λ f. ap (λ (y : Step). y .end) e ∙ p;
+                long = λ f. omega (arith, rank-is, ready-long form (drop from bs) v);
+                few = omega (arith, ready-few form (drop from bs) v);
+                room = omega (arith, ap (λ (y : Step). y .end) e, j .end);
+              }
 
 -- ---- arrays in a loop
 
@@ -122,7 +157,7 @@ pub record Judging (fs : List Form) (bs : List ℕ) (at long i : ℕ) : Type 0 w
   pub turns : i ≤ length fs
   pub few : long ≤ markBytes + 1 + i * mostBytes
   pub room : at ≤ length bs
-  pub no : (x : Refusal) → packArrays (i + 1) (map shapeOf (drop i fs)) (drop at bs) ≡ refused x → packArrays 1 (map shapeOf fs) bs ≡ refused x
+  pub no : (x : Refusal) → packArrays (i + 1) (map heldShape (drop i fs)) (drop at bs) ≡ refused x → packArrays 1 (map heldShape fs) bs ≡ refused x
   pub ready : AllReady (drop i fs) (drop at bs) → AllReady fs bs
   pub rest : restOf (drop i fs) (drop at bs) ≡ restOf fs bs
   pub size : long + length (laidBytes (drop i fs) (drop at bs)) ≡ markBytes + 1 + length (laidBytes fs bs)
@@ -132,17 +167,17 @@ judging-start fs bs = record { turns = omega arith; few = omega arith; room = om
 
 module _ (fs : List Form) (bs : List ℕ) (at long i : ℕ) (v : Judging fs bs at long i) (f : Form) (e : drop i fs ≡ f ∷ drop (i + 1) fs) (r : Step)
     (j : JudgedForm bs at (i + 1) f r) where
-  pub judging-refused : (r .refusal .number ≡ 0 → ⊥) → packArrays 1 (map shapeOf fs) bs ≡ refused (r .refusal)
+  pub judging-refused : (r .refusal .number ≡ 0 → ⊥) → packArrays 1 (map heldShape fs) bs ≡ refused (r .refusal)
   judging-refused h =
-      v .no (r .refusal) (ap (λ (l : List Form). packArrays (i + 1) (map shapeOf l) (drop at bs)) e ∙ arrays-step (i + 1) (shapeOf f) (map shapeOf (drop (i + 1) fs)) (drop at bs) ∙ rw (j .no h))
+      v .no (r .refusal) (ap (λ (l : List Form). packArrays (i + 1) (map heldShape l) (drop at bs)) e ∙ arrays-step (i + 1) (heldShape f) (map heldShape (drop (i + 1) fs)) (drop at bs) ∙ rw (j .no h))
 
   module _ (z : r .refusal .number ≡ 0) where
     further : drop (cellRoom f) (drop at bs) ≡ drop (r .end) bs
     further = drop-drop (cellRoom f) at bs ∙ ap (λ (n : ℕ). drop n bs) (sym (j .end z))
 
-    form-read : packForm (i + 1) (shapeOf f) (drop at bs) ≡ arrayOf (i + 1) (shapeOf f) (drop at bs)
+    form-read : packForm (i + 1) (heldShape f) (drop at bs) ≡ arrayOf (i + 1) (shapeOf f) (drop at bs)
     unfolding packForm
-    form-read = let y = j .ready z in rw (y .type, y .rank)
+    form-read = let y = j .ready z in rw (y .whole, y .type, y .rank)
 
     pub judging-more : i < length fs → Judging fs bs (r .end) (long + r .long) (i + 1)
     unfolding laidBytes restOf
@@ -155,7 +190,7 @@ module _ (fs : List Form) (bs : List ℕ) (at long i : ℕ) (v : Judging fs bs a
           room = j .room;
           no = λ x q.
               v .no x
-              (ap (λ (l : List Form). packArrays (i + 1) (map shapeOf l) (drop at bs)) e ∙ arrays-step (i + 1) (shapeOf f) (map shapeOf (drop (i + 1) fs)) (drop at bs)
+              (ap (λ (l : List Form). packArrays (i + 1) (map heldShape l) (drop at bs)) e ∙ arrays-step (i + 1) (heldShape f) (map heldShape (drop (i + 1) fs)) (drop at bs)
               ∙ rw (form-read, ready-of f (drop at bs) y (i + 1), g, q));
           ready = λ a. v .ready (rw e (y, rw g a));
           rest = ap (restOf (drop (i + 1) fs)) (sym g) ∙ sym (ap (λ (l : List Form). restOf l (drop at bs)) e) ∙ v .rest;
@@ -201,7 +236,7 @@ module _ (count : ℕ) (forms : List Form) (bs : List ℕ) where
     pub next-form : (i : ℕ) (d : Form) → i < count → drop i (take count forms) ≡ getD forms i d ∷ drop (i + 1) (take count forms)
     next-form i d h = rw add-one (drop-first-cons forms count count-few i d h)
 
-    pub all-bad : (x : Refusal) → packArrays 1 (map shapeOf (take count forms)) bs ≡ refused x → (room : ℕ) → packed (shapesOf count forms) bs room ≡ refused x
+    pub all-bad : (x : Refusal) → packArrays 1 (map heldShape (take count forms)) bs ≡ refused x → (room : ℕ) → packed (shapesOf count forms) bs room ≡ refused x
     unfolding packed
     all-bad x e room = rw (shapes-length count forms, b, shapes-few count forms count-few, e)
 

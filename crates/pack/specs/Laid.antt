@@ -6,17 +6,18 @@ use mathlib.Core.Bool.{Bool, true, false, _&&_}
 use mathlib.Core.List.{List, [], _∷_, _++_, map}
 use mathlib.Core.Option.{Option, none, some}
 use native.Mathlib.Omega.{arith}
-use borrow.Author.Tests.{le-leb, eqb-true, eqb-false}
+use borrow.Author.Tests.{le-leb, leb-true, leb-false, eqb-true, eqb-false}
 use lib.Dec.{eqb, leb}
 use lib.ListN.{length, take, drop, replicate, length-append, length-take, length-drop, length-map, length-replicate}
 use lib.Seq.{take-append-le, take-add, length-take-le}
 use Rattle.paper.specs.declared.Axis.{Axis}
 use Rattle.paper.specs.declared.Cell.{Cell}
+use Rattle.paper.specs.declared.Extent.{Extent}
 use Rattle.paper.specs.declared.Form.{Form}
 use Rattle.paper.specs.Limits.{mostArrays, mostAxes, mostCells, axisBytes, typeBytes, cellBytes}
 use Rattle.paper.specs.Refusals.{got, refused, _>>_, if_then_else_, refusal, ensure, between, badBytes1, smallOutput14}
 use Rattle.paper.specs.Numbers.{concat, none?}
-use Rattle.paper.specs.Axes.{cells, goodExtent, within, Shape, Array}
+use Rattle.paper.specs.Axes.{cells, goodExtent, within, Shape, Array, shaped}
 use Rattle.paper.specs.Cells.{isType, cellOf, cellsBytes}
 use Rattle.paper.specs.Bundle.{mark, arrayOf, axesBytes, arrayBytes, bundleBytes, packArrays, packed}
 use Rattle.paper.specs.Answers.{axesOf, shapeOf}
@@ -35,16 +36,40 @@ use Rattle.pack.specs.Put.{axes-length}
 abbrev pub noForm : Form
 noForm = noHead .form
 
+-- an extent's axes, where its rank says no more than there is room for; else none, since they are not all there
+abbrev pub heldAxes : Extent → List Axis
+heldAxes e = if leb (e .rank) mostAxes then axesOf e else []
+
+-- a form's shape: so an extent that says too many axes has a bad axis count, and does not lie inside a maximum that says too many
+unfoldable pub heldShape : Form → Shape
+heldShape f = shaped (f .kind) (heldAxes (f .extent)) (heldAxes (f .maximum))
+
 abbrev pub shapesOf : ℕ → List Form → List Shape
-shapesOf count forms = map shapeOf (take count (forms ++ replicate count noForm))
+shapesOf count forms = map heldShape (take count (forms ++ replicate count noForm))
 
 pub shapes-length : (count : ℕ) (forms : List Form) → length (shapesOf count forms) ≡ count
 shapes-length count forms =
-    length-map (take count (forms ++ replicate count noForm)) shapeOf
+    length-map (take count (forms ++ replicate count noForm)) heldShape
     ∙ length-take-le count (forms ++ replicate count noForm) (omega (arith, length-append forms (replicate count noForm), length-replicate count noForm))
 
-pub shapes-few : (count : ℕ) (forms : List Form) → count ≤ length forms → shapesOf count forms ≡ map shapeOf (take count forms)
-shapes-few count forms h = ap (map shapeOf) (take-append-le count forms (replicate count noForm) h)
+pub shapes-few : (count : ℕ) (forms : List Form) → count ≤ length forms → shapesOf count forms ≡ map heldShape (take count forms)
+shapes-few count forms h = ap (map heldShape) (take-append-le count forms (replicate count noForm) h)
+
+-- nothing is missing where both ranks are small enough
+pub held-whole : (f : Form) → f .extent .rank ≤ mostAxes → f .maximum .rank ≤ mostAxes → heldShape f ≡ shapeOf f
+unfolding heldShape
+held-whole f h k =
+    let a : leb (f .extent .rank) mostAxes ≡ true = le-leb _ _ h in
+    let b : leb (f .maximum .rank) mostAxes ≡ true = le-leb _ _ k in
+    rw (a, b)
+
+-- the axis count is good where the rank is
+pub held-count : (e : Extent) → length (e .axes) ≡ mostAxes → between 1 mostAxes (length (heldAxes e)) ≡ between 1 mostAxes (e .rank)
+held-count e l = by (leb (e .rank) mostAxes) refl
+  where
+    by : (b : Bool) → leb (e .rank) mostAxes ≡ b → between 1 mostAxes (length (heldAxes e)) ≡ between 1 mostAxes (e .rank)
+    by true q = let n : length (take (e .rank) (e .axes)) ≡ e .rank = length-take-le (e .rank) (e .axes) (omega (arith, leb-true (e .rank) mostAxes q)) in rw (q, n, q)
+    by false q = let o : leb 1 (e .rank) ≡ true = le-leb 1 (e .rank) (omega (arith, leb-false (e .rank) mostAxes q)) in rw (q, o)
 
 -- ---- one form
 
@@ -62,13 +87,14 @@ mostBytes = typeBytes + mostAxes * axisBytes + mostCells * cellBytes
 
 -- every test of it passed
 pub record Ready (f : Form) (bs : List ℕ) : Type 0 where
+  pub whole : heldShape f ≡ shapeOf f
   pub type : isType (f .kind) ≡ true
   pub rank : between 1 mostAxes (length (axesOf (f .extent))) ≡ true
   pub good : (goodExtent (axesOf (f .extent)) && within (axesOf (f .extent)) (axesOf (f .maximum))) ≡ true
   pub fits : cellRoom f ≤ length bs
   pub clean : firstBad (f .kind) 1 (cellsIn f) bs ≡ 0
 
-within-alike : (E M : List Axis) → within E M ≡ true → length M ≡ length E
+pub within-alike : (E M : List Axis) → within E M ≡ true → length M ≡ length E
 within-alike E M e = by (eqb (length M) (length E)) refl
   where
     by : (b : Bool) → eqb (length M) (length E) ≡ b → length M ≡ length E
@@ -151,10 +177,10 @@ unfolding arraysIn
 arrays-count [] bs = refl
 arrays-count (f ∷ fs) bs = ap suc (arrays-count fs (drop (cellRoom f) bs))
 
-arrays-packed : (fs : List Form) (k : ℕ) (bs : List ℕ) → AllReady fs bs → packArrays k (map shapeOf fs) bs ≡ got (arraysIn fs bs, restOf fs bs)
+arrays-packed : (fs : List Form) (k : ℕ) (bs : List ℕ) → AllReady fs bs → packArrays k (map heldShape fs) bs ≡ got (arraysIn fs bs, restOf fs bs)
 unfolding packArrays arraysIn restOf
 arrays-packed [] k bs v = refl
-arrays-packed (f ∷ fs) k bs v = rw (v .0 .type, v .0 .rank, ready-of f bs (v .0) k, arrays-packed fs (k + 1) (drop (cellRoom f) bs) (v .1))
+arrays-packed (f ∷ fs) k bs v = rw (v .0 .whole, v .0 .type, v .0 .rank, ready-of f bs (v .0) k, arrays-packed fs (k + 1) (drop (cellRoom f) bs) (v .1))
 
 arrays-bytes : (fs : List Form) (bs : List ℕ) → AllReady fs bs → Bytes bs → concat (map arrayBytes (arraysIn fs bs)) ≡ laidBytes fs bs
 unfolding concat arraysIn laidBytes

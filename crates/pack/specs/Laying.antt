@@ -25,7 +25,8 @@ use Rattle.extent.specs.Judged.{cellsWithin}
 use Rattle.bundle.specs.Read.{cellsIn}
 use Rattle.pack.specs.declared.judge.Verdict.{Verdict}
 use Rattle.pack.specs.declared.put.Ends.{Ends}
-use Rattle.pack.specs.Put.{put, put-none, put-byte, length-put, after, axes-length}
+use Rattle.laws.specs.Put.{put, put-none, put-byte, length-put, after}
+use Rattle.pack.specs.Put.{axes-length}
 use Rattle.pack.specs.Laid.{shapesOf, cellRoom, formBytes, Ready, ready-alike, ready-long, AllReady, laidBytes, bundleOf, packed-ready}
 use Rattle.pack.specs.Judging.{JudgedAll}
 

@@ -1,84 +1,20 @@
--- Bytes put into a buffer at a place, and what writers cite: two parts put one after the other are put as one, and a buffer keeps its
--- length. A loop that writes keeps it true that what is left, put where it now stands, gives what the whole gave at the start.
-use Prim.Native.Nat.{ℕ, suc, _+_, _-_, _*_, _/_, _%_, _^_, _≤_, _<_}
+-- What the bundle's writers cite: names, positions and axes. A loop that writes keeps it true that
+-- what is left, put where it now stands, gives what the whole gave at the start.
+use Prim.Native.Nat.{ℕ, _+_, _*_, _/_, _%_, _^_, _≤_, _<_}
 use mathlib.Core.Path.{_≡_, refl, sym, ap, _∙_}
-use mathlib.Core.List.{List, [], _∷_, _++_, append-assoc, append-nil}
+use mathlib.Core.List.{List, [], _∷_, _++_}
 use native.Mathlib.Omega.{arith}
-use lib.ListN.{length, getD, take, drop, set, length-append, length-drop, take-append-drop}
-use lib.Seq.{length-take-le, take-at, drop-at, drop-drop, drop-cons, sets-eq}
+use lib.ListN.{length, take, drop, length-append}
 use Rattle.paper.specs.declared.Axis.{Axis}
 use Rattle.paper.specs.declared.Extent.{Extent}
 use mir.Syntax.{w32}
 use mir.Val.{ofZ}
 use Rattle.paper.specs.Limits.{limitBytes, pairBytes, nameBytes, axisBytes}
-use Rattle.paper.specs.Numbers.{leBytes, part, position, positionBytes}
+use Rattle.paper.specs.Numbers.{leBytes, position, positionBytes}
 use Rattle.paper.specs.Bundle.{axesBytes}
 use Rattle.paper.specs.Answers.{axesOf}
+use Rattle.laws.specs.Put.{put, put-none, length-put, put-put, after}
 use Rattle.extent.specs.Rank.{Rank, axisNo, axes-up, axes-end}
-
--- x stands in d from byte `at` on; the rest stays
-abbrev pub put : List ℕ → ℕ → List ℕ → List ℕ
-put d at x = take at d ++ x ++ drop (at + length x) d
-
-pub put-none : (d : List ℕ) (at : ℕ) → put d at [] ≡ d
-put-none d at = let e : at + 0 ≡ at = omega arith in rw (append-nil (take at d), e) (take-append-drop at d)
-
--- one byte
-pub put-byte : (d : List ℕ) (at b : ℕ) → at < length d → set d at b ≡ put d at (b ∷ [])
-put-byte d at b h = sets-eq (b ∷ []) d at (omega arith)
-
-module _ (d : List ℕ) (at : ℕ) (x : List ℕ) (h : at + length x ≤ length d) where
-  front : length (take at d ++ x) ≡ at + length x
-  front = length-append (take at d) x ∙ ap (λ (n : ℕ). n + length x) (length-take-le at d (omega arith))
-
-  pub length-put : length (put d at x) ≡ length d
-  length-put = length-append (take at d ++ x) (drop (at + length x) d) ∙ omega (arith, front, length-drop (at + length x) d)
-
-  -- one part after the other
-  pub put-put : (n : ℕ) (y : List ℕ) → n ≡ at + length x → put (put d at x) n y ≡ put d at (x ++ y)
-  put-put n y e =
-      let f : at + length (x ++ y) ≡ at + length x + length y = omega (arith, length-append x y) in
-      let t : take (at + length x) (put d at x) ≡ take at d ++ x = take-at (take at d ++ x) (drop (at + length x) d) _ front in
-      let r : drop (at + length x) (put d at x) ≡ drop (at + length x) d = drop-at (take at d ++ x) (drop (at + length x) d) _ front in
-      rw (e, f, t, append-assoc (take at d) x y, ← drop-drop (length y) (at + length x) (put d at x), r, drop-drop (length y) (at + length x) d)
-
--- ---- bytes copied from another buffer
-
--- k of n bytes are copied
-pub record Copying (s : List ℕ) (from : ℕ) (d₀ : List ℕ) (at n : ℕ) (d : List ℕ) (k : ℕ) : Type 0 where
-  pub turns : k ≤ n
-  pub long : length d ≡ length d₀
-  pub left : put d (at + k) (part (from + k) (n - k) s) ≡ put d₀ at (part from n s)
-
-module _ (s : List ℕ) (from : ℕ) (d₀ : List ℕ) (at n : ℕ) (hs : from + n ≤ length s) (hd : at + n ≤ length d₀) where
-  pub copy-start : Copying s from d₀ at n d₀ 0
-  copy-start =
-      let a : at + 0 ≡ at = omega arith in
-      let b : from + 0 ≡ from = omega arith in
-      let c : n - 0 ≡ n = omega arith in
-      record { turns = omega arith; long = refl; left = rw (a, b, c) }
-
-  module _ (d : List ℕ) (k : ℕ) (v : Copying s from d₀ at n d k) where
-    pub copy-more : k < n → Copying s from d₀ at n (set d (at + k) (getD s (from + k) 0)) (k + 1)
-    copy-more h =
-        let w : at + k < length d = omega (arith, v .long) in
-        let b : at + k + 1 ≤ length d = omega (arith, v .long) in
-        let e = put-byte d (at + k) (getD s (from + k) 0) w in
-        let l = length-put d (at + k) (getD s (from + k) 0 ∷ []) b in
-        let f : n - k ≡ suc (n - (k + 1)) = omega arith in
-        let g : suc (from + k) ≡ from + (k + 1) = omega arith in
-        let p : part (from + k) (n - k) s ≡ getD s (from + k) 0 ∷ part (from + (k + 1)) (n - (k + 1)) s = rw (f, drop-cons s (from + k) 0 (omega arith), g) in
-        record {
-          turns = omega arith;
-          long = ap length e ∙ l ∙ v .long;
-          left =
-              ap (λ (y : List ℕ). put y (at + (k + 1)) (part (from + (k + 1)) (n - (k + 1)) s)) e
-              ∙ put-put d (at + k) (getD s (from + k) 0 ∷ []) b (at + (k + 1)) (part (from + (k + 1)) (n - (k + 1)) s) (omega arith)
-              ∙ ap (put d (at + k)) (sym p) ∙ v .left;
-        }
-
-    pub copy-end : n ≤ k → d ≡ put d₀ at (part from n s)
-    copy-end h = let f : n - k ≡ 0 = omega arith in sym (put-none d (at + k)) ∙ (rw f at (v .left))
 
 -- ---- numbers and axes
 
@@ -104,10 +40,6 @@ eight-bytes n = halves
 
     halves : leBytes limitBytes (n % 256 ^ limitBytes) ++ leBytes limitBytes (n / 256 ^ limitBytes) ≡ leBytes nameBytes n
     halves = rw (b0, b1, b2, b3, b4)
-
--- a part after another, each put by a call of its own
-pub after : (d : List ℕ) (at : ℕ) (x w y z : List ℕ) (n : ℕ) → at + length x ≤ length d → n ≡ at + length x → y ≡ put d at x → z ≡ put y n w → z ≡ put d at (x ++ w)
-after d at x w y z n h e p q = q ∙ ap (λ (u : List ℕ). put u n w) p ∙ put-put d at x h n w e
 
 -- what a call that puts four bytes says
 abbrev pub FourPut : List ℕ → ℕ → ℕ → List ℕ → Type 0

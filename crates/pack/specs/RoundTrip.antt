@@ -20,17 +20,19 @@ use Rattle.paper.specs.Refusals.{got}
 use Rattle.paper.specs.Numbers.{concat, part, over}
 use Rattle.paper.specs.Axes.{Shape, Array}
 use Rattle.paper.specs.Bundle.{markBytes, readBundle, bundleBytes, Packed, pack}
-use Rattle.paper.specs.Answers.{shapeOf, lyingFrom, reading, readSaid}
-use Rattle.laws.specs.Answers.{formOf, form-shape, readingOf, pack-one}
+use Rattle.paper.specs.Answers.{lyingFrom, reading, readSaid}
+use Rattle.laws.specs.Answers.{formOf, form-shape, headOf, noHead, readingOf, pack-one}
 use Rattle.laws.specs.Numbers.{Bytes}
 use Rattle.laws.specs.Tests.{got-one}
-use Rattle.roundtrip.specs.Valid.{AllValid, shapes, allCells}
+use Rattle.roundtrip.specs.Valid.{Valid, EachValid, AllValid, shapes, allCells}
+use Rattle.roundtrip.specs.Reading.{bundle-read}
 use Rattle.roundtrip.specs.Packing.{AllNamed, bundle-back}
 use Rattle.roundtrip.specs.Lying.{Lying, reading-lies}
 use Rattle.roundtrip.specs.RoundTrip.{gave, pack-valid, read-pack, accepted-read}
 use Rattle.bundle.specs.Read.{readOf, ReadAll}
 use Rattle.bundle.specs.Whole.{headSaid}
-use Rattle.pack.specs.Laid.{noForm, shapesOf, shapes-few, cellRoom}
+use Rattle.pack.specs.Laid.{noForm, heldShape, held-whole, within-alike, shapesOf, shapes-few, cellRoom}
+use Rattle.pack.specs.Judging.{few-axes}
 use Rattle.pack.specs.Laying.{PackedInto}
 
 -- packing gave these bytes: the answer is their number, and they are the first of the output buffer, whose other bytes stay
@@ -54,16 +56,22 @@ gave-by ss cs bs out r y p e =
 abbrev pub formsOf : List Array → List Form
 formsOf As = map (λ A. formOf (A .shape)) As ++ replicate (mostArrays - length As) noForm
 
-its-forms : (As : List Array) → map shapeOf (map (λ (A : Array). formOf (A .shape)) As) ≡ shapes As
-its-forms [] = refl
-its-forms (A ∷ As) = ap₂ (λ (s : Shape) (l : List Shape). s ∷ l) (form-shape (A .shape)) (its-forms As)
+-- a valid array's form is held whole
+valid-held : (A : Array) → Valid A → heldShape (formOf (A .shape)) ≡ A .shape
+valid-held A v =
+    let h = few-axes (length (A .shape .axes)) (v .rank) in
+    held-whole (formOf (A .shape)) h (omega (arith, h, within-alike (A .shape .axes) (A .shape .maximum) (v .inMaximum))) ∙ form-shape (A .shape)
 
-forms-shapes : (As : List Array) → shapesOf (length As) (formsOf As) ≡ shapes As
-forms-shapes As =
+its-forms : (As : List Array) → EachValid As → map heldShape (map (λ (A : Array). formOf (A .shape)) As) ≡ shapes As
+its-forms [] v = refl
+its-forms (A ∷ As) v = ap₂ (λ (s : Shape) (l : List Shape). s ∷ l) (valid-held A (v .0)) (its-forms As (v .1))
+
+forms-shapes : (As : List Array) → EachValid As → shapesOf (length As) (formsOf As) ≡ shapes As
+forms-shapes As v =
     let forms = map (λ (A : Array). formOf (A .shape)) As in
     let n : length (map (λ (A : Array). formOf (A .shape)) As) ≡ length As = length-map As (λ (A : Array). formOf (A .shape)) in
     let e : take (length As) (formsOf As) ≡ forms = take-at forms (replicate (mostArrays - length As) noForm) (length As) n in
-    shapes-few (length As) (formsOf As) (omega (arith, n, length-append forms (replicate (mostArrays - length As) noForm))) ∙ ap (map shapeOf) e ∙ its-forms As
+    shapes-few (length As) (formsOf As) (omega (arith, n, length-append forms (replicate (mostArrays - length As) noForm))) ∙ ap (map heldShape) e ∙ its-forms As v
 
 -- what reading answers, where the bytes are a bundle's
 pub record ReadBack (bs : List ℕ) (As : List Array) (r : Reading) : Type 0 where
@@ -81,7 +89,7 @@ pub packed-then-read : (As : List Array) (out : List ℕ) → AllValid As → le
     → (a : PackAnswer) (y : List ℕ) → PackedInto (shapesOf (length As) (formsOf As)) (allCells As) out a y
     → Gave (bundleBytes As) out a y × ((r : Reading) → ReadAll (take (length (bundleBytes As)) y) r → ReadBack (take (length (bundleBytes As)) y) As r)
 packed-then-read As out v l a y p =
-    let g = gave-by _ (allCells As) (bundleBytes As) out a y p (ap (λ (ss : List Shape). pack ss (allCells As) out) (forms-shapes As) ∙ pack-valid As out v l) in
+    let g = gave-by _ (allCells As) (bundleBytes As) out a y p (ap (λ (ss : List Shape). pack ss (allCells As) out) (forms-shapes As (v .each)) ∙ pack-valid As out v l) in
     (g, λ r q. read-back _ As r q (ap readBundle (g .bytes) ∙ bundle-back As v))
 
 -- ---- read, then packed
@@ -96,20 +104,31 @@ cellsAt bs hs = concat (map (λ h. part (h .at) (cellRoom (h .form)) bs) hs)
 abbrev pub cellsHeld : List ℕ → Reading → List ℕ
 cellsHeld bs r = cellsAt bs (take (r .count) (r .heads))
 
-first-forms : (hs : List Head) (n : ℕ) → map shapeOf (take n (map (λ (h : Head). h .form) hs)) ≡ map (λ (h : Head). shapeOf (h .form)) (take n hs)
+first-forms : (hs : List Head) (n : ℕ) → map heldShape (take n (map (λ (h : Head). h .form) hs)) ≡ map (λ (h : Head). heldShape (h .form)) (take n hs)
 first-forms hs zero = refl
 first-forms [] (suc n) = refl
-first-forms (h ∷ hs) (suc n) = ap (λ (l : List Shape). shapeOf (h .form) ∷ l) (first-forms hs n)
+first-forms (h ∷ hs) (suc n) = ap (λ (l : List Shape). heldShape (h .form) ∷ l) (first-forms hs n)
 
 -- where cells lie, there they are
-lying-cells : (bs : List ℕ) (hs : List Head) (As : List Array) → Lying bs (map headSaid hs) As → (map (λ (h : Head). shapeOf (h .form)) hs ≡ shapes As) × (cellsAt bs hs ≡ allCells As)
+lying-cells : (bs : List ℕ) (hs : List Head) (As : List Array) → Lying bs (map headSaid hs) As → cellsAt bs hs ≡ allCells As
 unfolding concat
-lying-cells bs [] [] v = (refl, refl)
+lying-cells bs [] [] v = refl
 lying-cells bs [] (A ∷ As) v = absurd v
 lying-cells bs (h ∷ hs) [] v = absurd v
-lying-cells bs (h ∷ hs) (A ∷ As) v =
-    let t = lying-cells bs hs As (v .3) in
-    (ap₂ (λ (s : Shape) (l : List Shape). s ∷ l) (v .0) (t .0), ap₂ (λ (x y : List ℕ). x ++ y) (v .2) (t .1))
+lying-cells bs (h ∷ hs) (A ∷ As) v = ap₂ (λ (x y : List ℕ). x ++ y) (v .2) (lying-cells bs hs As (v .3))
+
+-- and the forms that are said are the arrays' own
+lying-shapes : (bs : List ℕ) (ps : List (Shape × ℕ)) (As : List Array) → Lying bs ps As → EachValid As → map (λ (h : Head). heldShape (h .form)) (map headOf ps) ≡ shapes As
+lying-shapes bs [] [] v w = refl
+lying-shapes bs [] (A ∷ As) v w = absurd v
+lying-shapes bs (p ∷ ps) [] v w = absurd v
+lying-shapes bs (p ∷ ps) (A ∷ As) v w =
+    ap₂ (λ (s : Shape) (l : List Shape). s ∷ l) (ap (λ (s : Shape). heldShape (formOf s)) (v .0) ∙ valid-held A (w .0)) (lying-shapes bs ps As (v .3) (w .1))
+
+-- the heads of a reading that says these
+heads-are : (r : Reading) (ps : List (Shape × ℕ)) → r ≡ readingOf (got ps) → take (r .count) (r .heads) ≡ map headOf ps
+heads-are r ps e =
+    ap (λ (x : Reading). take (x .count) (x .heads)) e ∙ take-at (map headOf ps) (replicate (mostArrays - length ps) noHead) (length ps) (length-map ps headOf)
 
 -- `read` called with bytes that it does not refuse, and `pack` with what the reading holds and room for it: those bytes again
 pub read-then-packed : (bs out : List ℕ) → Bytes bs → length bs ≤ length out → (r : Reading) → ReadAll bs r → r .refusal .number ≡ 0
@@ -119,10 +138,12 @@ read-then-packed bs out h l r v z a y p =
     let f : eqb (r .refusal .number) 0 ≡ true = eq-eqb _ _ z in
     let s : readSaid r ≡ got (map headSaid (take (r .count) (r .heads))) = rw f in
     let w = reading-lies bs (map headSaid hs) h (sym (v .said) ∙ s) in
-    let t = lying-cells bs hs (w .0) (w .2) in
+    let g = bundle-read bs (w .0) h (w .1) .valid .each in
     let n : length (formsIn r) ≡ length (r .heads) = length-map (r .heads) (λ (h : Head). h .form) in
-    let e : shapesOf (r .count) (formsIn r) ≡ shapes (w .0) = shapes-few (r .count) (formsIn r) (omega (arith, n, v .room)) ∙ first-forms (r .heads) (r .count) ∙ t .0 in
-    gave-by _ _ bs out a y p (ap₂ (λ (ss : List Shape) (cs : List ℕ). pack ss cs out) e (t .1) ∙ read-pack bs (w .0) out h (w .1) l)
+    let e : shapesOf (r .count) (formsIn r) ≡ shapes (w .0) =
+    shapes-few (r .count) (formsIn r) (omega (arith, n, v .room)) ∙ first-forms (r .heads) (r .count)
+    ∙ ap (map (λ (h : Head). heldShape (h .form))) (heads-are r (map headSaid hs) (v .tidy ∙ ap readingOf s)) ∙ lying-shapes bs (map headSaid hs) (w .0) (w .2) g in
+    gave-by _ _ bs out a y p (ap₂ (λ (ss : List Shape) (cs : List ℕ). pack ss cs out) e (lying-cells bs hs (w .0) (w .2)) ∙ read-pack bs (w .0) out h (w .1) l)
 
 -- ---- accepted, then read
 

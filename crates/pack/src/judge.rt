@@ -8,7 +8,6 @@ ghost use Rattle.pack.specs.Judging.{JudgedForm, JudgedAll, stopped, ove
 use crate::put::AXIS;
 use crate::put::TYPED;
 use bundle::array_of;
-use extent::rank_of;
 use paper::Form;
 use paper::Refusal;
 
@@ -50,30 +49,40 @@ fn stop(refusal: Refusal) -> Step
     }
 }
 
+fn refuse_form(number: u8, k: u32) -> Step
+    ensures { λ r. ⌜ r ≡ stopped (refusal number k 0) ⌝ }
+{
+    stop(Refusal {
+        number,
+        place: k,
+        ordinality: 0,
+    })
+}
+
 fn refuse(refusal: Refusal) -> Verdict
     ensures { λ r. ⌜ r ≡ over refusal ⌝ }
 {
     Verdict { refusal, long: 0 }
 }
 
-// Array k of a form, its cells from the byte `from` on.
+// Array k of a form, its cells from the byte `from` on. A rank over what an extent can hold is refused, never cut: the extent's has a
+// bad axis count, and no extent lies inside the maximum's.
 fn form_judged(cells: &[u8], from: usize, k: u32, form: Form) -> Step
     requires { ⌜ from ≤ length (now cells) ⌝ }
     ensures { λ r. ⌜ JudgedForm (now (cells .entry)) from k form r ⌝ }
 {
-    let bad = Refusal {
-        number: 1,
-        place: k,
-        ordinality: 0,
-    };
     let kind = form.kind;
     let extent = form.extent;
-    let rank = rank_of(extent);
+    let maximum = form.maximum;
+    let rank = extent.rank;
     if !in_range(kind as usize, KINDS) {
-        return stop(bad);
+        return refuse_form(1, k);
     }
     if !in_range(rank, paper::AXES) {
-        return stop(bad);
+        return refuse_form(1, k);
+    }
+    if paper::AXES < maximum.rank {
+        return refuse_form(2, k);
     }
     let one = array_of(cells, from, k, form);
     let refusal = one.refusal;

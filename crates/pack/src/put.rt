@@ -4,12 +4,14 @@ ghost use mathlib.Core.List.{[], _∷_, _++_};
 ghost use Prim.Native.Nat.{_+_, _≤_};
 ghost use lib.ListN.{length, take};
 ghost use Rattle.paper.specs.Limits.{nameBytes, axisBytes};
-ghost use Rattle.paper.specs.Numbers.{leBytes, part};
+ghost use Rattle.paper.specs.Numbers.{leBytes};
 ghost use Rattle.paper.specs.Bundle.{mark, markBytes, axesBytes};
 ghost use Rattle.paper.specs.Answers.{axesOf};
-ghost use Rattle.pack.specs.Put.{put, axisPart, AxesRoom};
+ghost use Rattle.laws.specs.Put.{put};
+ghost use Rattle.pack.specs.Put.{axisPart, AxesRoom};
 ghost use Rattle.pack.specs.Laid.{laidBytes};
 ghost use Rattle.pack.specs.Laying.{ArrayRoom, ArrayPut, AllRoom};
+use cell::bytes::copy_bytes;
 use cell::bytes::put4;
 use extent::NAME;
 use extent::extent_cells;
@@ -74,18 +76,6 @@ fn put_axes(d: &mut [u8], at: usize, e: Extent, m: Extent)
         let b = m.axes[i];
         put_axis(d, at + i * AXIS, a, b);
         i += 1;
-    }
-}
-
-// The n bytes of s from `from` on.
-fn copy_bytes(s: &[u8], from: usize, d: &mut [u8], at: usize, n: usize)
-    requires { ⌜ (from + n ≤ length (now s)) × (at + n ≤ length (now d)) ⌝ }
-    ensures { λ _. ⌜ now (d .exit) ≡ put (now (d .entry)) at (part from n (now (s .entry))) ⌝ }
-{
-    let mut k = 0;
-    while k < n {
-        d[at + k] = s[from + k];
-        k += 1;
     }
 }
 

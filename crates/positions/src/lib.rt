@@ -18,7 +18,7 @@ const TURNING: u32 = 2147483648;
 const LOWEST: u32 = 4293967296;
 
 // The distance of 0, and one that is no position's.
-const REACH: u32 = 1000000;
+pub const REACH: u32 = 1000000;
 
 const NOWHERE: u32 = 4294967295;
 

@@ -14,7 +14,7 @@ use Rattle.extent.specs.Judged.{Small, good-small}
 use Rattle.bundle.specs.Read.{arrayAt, ReadAll}
 use Rattle.recipe.specs.Plans.{GoodArrays}
 
-getD-any : {A : Type 0} (l : List A) (i : ℕ) (d e : A) → i < length l → getD l i d ≡ getD l i e
+pub getD-any : {A : Type 0} (l : List A) (i : ℕ) (d e : A) → i < length l → getD l i d ≡ getD l i e
 getD-any [] i d e h = absurd (omega arith)
 getD-any (a ∷ l) zero d e h = refl
 getD-any (a ∷ l) (suc i) d e h = getD-any l i d e (omega arith)

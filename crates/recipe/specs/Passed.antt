@@ -21,6 +21,7 @@ pub record Passed (arrays earlier : List Shape) (p : Planned) : Type 0 where
   pub second : Shape
   pub is-first : operand arrays earlier (p .step .a) ≡ some first
   pub is-second : operandB arrays earlier (p .step .operation) (p .step .b) ≡ some second
+  pub unused : unusedZero (uses (p .step .operation)) (length (first .axes)) (p .step) ≡ true
   pub axis : axisIn (uses (p .step .operation)) (length (first .axes)) (p .step .axis) ≡ true
   pub types : typesFit (p .step .operation) (p .step) (first .type) (second .type) ≡ true
   pub agrees : agree (p .step .operation) (p .step .axis) (first .axes) (second .axes) ≡ true
@@ -49,6 +50,7 @@ plan-passed k arrays earlier bs p e =
       second = B;
       is-first = present-got (operand arrays earlier (s .a)) (refusal unknown4 k 0) A (a .1);
       is-second = present-got (operandB arrays earlier (o .0) (s .b)) (refusal unknown4 k 0) B (b .1);
+      unused = u .0;
       axis = x .0;
       types = t .0;
       agrees = g .0;

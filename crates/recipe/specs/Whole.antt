@@ -1,5 +1,5 @@
 -- The whole recipe: the loop over its steps in remaining form, as a record with a law for each event.
-use Prim.Native.Nat.{ℕ, zero, suc, _+_, _-_, _*_, _/_, _%_, _≤_, _<_}
+use Prim.Native.Nat.{ℕ, suc, _+_, _-_, _*_, _/_, _%_, _≤_, _<_}
 use mathlib.Core.Path.{_≡_, refl, sym, ap, ap₂, subst, _∙_}
 use mathlib.Core.Bool.{Bool, true, false}
 use mathlib.Core.List.{List, [], _∷_, _++_, map, map-append, append-assoc, append-nil}
@@ -8,7 +8,7 @@ use native.Mathlib.Omega.{arith}
 use borrow.Author.Tests.{eq-eqb, ne-eqb, eqb-true, eqb-false, le-leb, lt-leb}
 use lib.Dec.{eqb}
 use lib.ListN.{length, getD, take, drop, set, length-set}
-use lib.Seq.{getD-set-same, getD-set-other, drop-drop, take-suc-set}
+use lib.Seq.{take-set-le, getD-set-same, getD-set-other, drop-drop, take-suc-set}
 use Rattle.paper.specs.declared.Refusal.{Refusal}
 use Rattle.paper.specs.Limits.{mostSteps, mostCells, stepBytes, cellBytes, detailBytes}
 use Rattle.paper.specs.Refusals.{Res, got, refused, _>>=_, if_then_else_, refusal, unknown4}
@@ -78,12 +78,6 @@ pub record Loop (R : List Shape) (s : List ℕ) (n : ℕ) (p : Plan) : Type 0 wh
 less : (j i : ℕ) → j < i + 1 → (j ≡ i → ⊥) → j < i
 less j i h n = omega arith
 
-take-set : {A : Type 0} (j i : ℕ) (a : A) (l : List A) → j ≤ i → take j (set l i a) ≡ take j l
-take-set zero i a l h = refl
-take-set (suc j) zero a l h = absurd (omega arith)
-take-set (suc j) (suc i) a [] h = refl
-take-set (suc j) (suc i) a (b ∷ l) h = ap (λ (m : List _). b ∷ m) (take-set j i a l (omega arith))
-
 total-more : (l : List ℕ) (n : ℕ) → total (l ++ (n ∷ [])) ≡ total l + n
 unfolding total
 total-more [] n = omega arith
@@ -141,7 +135,7 @@ module _ (R : List Shape) (s : List ℕ) (n : ℕ) (p : Plan) (v : Loop R s n p)
 
     laid-more : (j : ℕ) (d : Planned) → j < i + 1 → Laid s (cellsBefore s (set (p .steps) i x) j) (getD (set (p .steps) i x) j d)
     laid-more j d b =
-        subst (λ (l : List Planned). Laid s (cellsOfAll (map (plannedOf s) l)) (getD (set (p .steps) i x) j d)) (sym (take-set j i x (p .steps) (omega arith)))
+        subst (λ (l : List Planned). Laid s (cellsOfAll (map (plannedOf s) l)) (getD (set (p .steps) i x) j d)) (sym (take-set-le j (p .steps) i x (omega arith)))
         (each-more (λ j y. Laid s (cellsBefore s (p .steps) j) y) (v .laid) (record { at = ap (λ (n : ℕ). n * cellBytes) (v .sum); count = w .kept .count z; detail = w .kept .detail z }) j d b)
 
     pub loop-more : Loop R s n (withStep p o)

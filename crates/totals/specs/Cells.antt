@@ -15,7 +15,7 @@ use Rattle.paper.specs.Numbers.{part}
 use Rattle.paper.specs.Cells.{cellOf, isTrue, trues}
 use Rattle.paper.specs.Operators.{emptyCell}
 use Rattle.paper.specs.Totals.{Numbered, filledFrom}
-use Rattle.laws.specs.Judged.{orEmpty, cellsFrom, cell-no}
+use Rattle.laws.specs.Judged.{orEmpty, cellsFrom, cell-no, length-cells}
 
 -- n cells lie in the bytes from `at` on
 pub record Lying (at n : ℕ) (bs : List ℕ) : Type 0 where
@@ -38,11 +38,6 @@ abbrev pub tallyTrue : Cell → ℕ
 tallyTrue c = if isTrue c then 1 else 0
 
 -- ---- the next cell
-
-length-cells : (t n : ℕ) (bs : List ℕ) → length (cellsFrom t n bs) ≡ n
-unfolding cellsFrom
-length-cells t zero bs = refl
-length-cells t (suc n) bs = ap suc (length-cells t n (drop cellBytes bs))
 
 -- a cell in front of those filled, if it is
 abbrev pub inFront : Cell → ℕ → List Numbered → List Numbered

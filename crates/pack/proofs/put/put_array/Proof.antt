@@ -8,7 +8,7 @@ use native.Mathlib.Omega.{arith}
 use denote.Ref.{now}
 use lib.ListN.{length, drop, length-set}
 use Rattle.paper.specs.Limits.{typeBytes, axisBytes, cellBytes}
-use Rattle.pack.specs.Put.{put, length-put}
+use Rattle.laws.specs.Put.{put, length-put}
 use Rattle.pack.specs.Laid.{formBytes, ready-alike}
 use Rattle.pack.specs.Laying.{its-cells, its-long, its-fit, axes-kept, array-put}
 

@@ -1,0 +1,19 @@
+-- `decimal::put_number` meets its contract: a space, then the number.
+use borrow.Author.Needs.{needs}
+use native.Mathlib.Omega.{arith}
+use lib.IntN.{pos}
+use denote.Ref.{now}
+use Rattle.paper.specs.Numbers.{text}
+use Rattle.paper.specs.Rests.{decimal}
+use Rattle.decimal.specs.Wrote.{wrote-then}
+use Rattle.decimal.proofs.put_number.Statement.{statement}
+use Rattle.decimal.proofs.put_number.Tie as tie
+
+returns : tie.Need-returns
+unfolding decimal
+returns c =
+    let s = c .before .before .before .before .before .before .before .before .before .args in
+    wrote-then (now (s .out)) (s .at) (text " ") _ _ (decimal (pos (s .n))) _ _ (omega arith) (c .before .before .before .before .before .before .put-byte .ensures) (c .before .before .put-decimal .ensures)
+
+pub put-number-spec : {M : Type 1} → statement M
+put-number-spec = tie.close (tie.spec (λ c κs. search needs) (λ c κs. search needs) (λ c. search needs) returns)

@@ -1,0 +1,5 @@
+-- What the writers of decimal text promise, and the laws that they cite.
+pub mod Wrote
+pub mod Digits
+pub mod Lines
+pub mod Rows

@@ -1,0 +1,30 @@
+-- What a writer says of its buffer: where it stopped, and what stands there now. One writer after the other writes both texts.
+use Prim.Native.Nat.{ℕ, _+_, _≤_}
+use mathlib.Core.Path.{_≡_, refl, sym, ap, _∙_, subst}
+use mathlib.Core.List.{List, _++_}
+use native.Mathlib.Omega.{arith}
+use lib.ListN.{length, length-append}
+use lib.Seq.{take-length}
+use Rattle.paper.specs.Numbers.{part}
+use Rattle.laws.specs.Put.{put, length-put, after}
+
+-- x was put into d from byte `at` on, which gave y, and r is the byte after x
+abbrev pub Wrote : List ℕ → ℕ → List ℕ → ℕ → List ℕ → Type 0
+Wrote d at x r y = (r ≡ at + length x) × (y ≡ put d at x)
+
+-- x, and then w
+pub wrote-then : (d : List ℕ) (at : ℕ) (x : List ℕ) (m : ℕ) (y w : List ℕ) (r : ℕ) (z : List ℕ) → at + length x ≤ length d → Wrote d at x m y → Wrote y m w r z
+    → Wrote d at (x ++ w) r z
+wrote-then d at x m y w r z h p q = (omega (arith, length-append x w, p .0, q .0), after d at x w y z m h (p .0) (p .1) (q .1))
+
+-- the same text said otherwise
+pub wrote-as : (d : List ℕ) (at : ℕ) (x w : List ℕ) (r : ℕ) (y : List ℕ) → w ≡ x → Wrote d at x r y → Wrote d at w r y
+wrote-as d at x w r y e p = subst (λ (l : List ℕ). Wrote d at l r y) (sym e) p
+
+-- the buffer keeps its length
+pub wrote-long : (d : List ℕ) (at : ℕ) (x : List ℕ) (r : ℕ) (y : List ℕ) → at + length x ≤ length d → Wrote d at x r y → length y ≡ length d
+wrote-long d at x r y h p = ap length (p .1) ∙ length-put d at x h
+
+-- all bytes of a text, copied
+pub copy-wrote : (s d : List ℕ) (at : ℕ) (y : List ℕ) → y ≡ put d at (part 0 (length s) s) → Wrote d at s (at + length s) y
+copy-wrote s d at y e = (refl, e ∙ ap (put d at) (take-length s))

@@ -1,0 +1,100 @@
+-- What a mark and a word stand for where they are a cell's: that cell, whose bytes they are. A FLOAT cell's word, an empty one's too,
+-- is no NaN's; so the loop over cells need not judge again.
+use Prim.Native.Nat.{ℕ, _^_, _<_}
+use mathlib.Core.Path.{_≡_, sym, ap, ap₂, _∙_, subst}
+use mathlib.Core.Bool.{Bool, true, not, _&&_}
+use mathlib.Core.List.{List, _∷_}
+use mathlib.Core.Option.{some}
+use native.Mathlib.Omega.{arith}
+use lib.Dec.{T, eqb, leb}
+use lib.ListN.{getD, drop}
+use lib.Ieee.{binary64, ofBits, nanBits}
+use lib.Ieee.Bits.{nanBits-is}
+use mir.Syntax.{w64}
+use mir.Val.{toZ}
+use borrow.Author.Tests.{eqb-true, ne-eqb}
+use Rattle.paper.specs.Limits.{INT, FLOAT, wordBytes}
+use Rattle.paper.specs.Numbers.{leOf, leBytes}
+use Rattle.paper.specs.Cells.{finite, filled, cellFrom, cellOf, encode}
+use Rattle.paper.specs.declared.Cell.{Cell}
+use Rattle.paper.specs.declared.Cell.the-variants.{Empty, Int, Float, Truth}
+use Rattle.laws.specs.Tests.{and-left, and-right}
+use Rattle.laws.specs.Cells.{inj, bad, either, no-nan, from-back}
+use Rattle.hot.specs.Codes.{standing, NoNan}
+use Rattle.hot.proofs.Standing.{standing-empty}
+
+-- ---- what they stand for
+
+one : (mark : ℕ) → mark ≡ 1 → mark ≡ 0 → ⊥
+one mark e z = omega arith
+
+filled-is : (kind mark n : ℕ) (c : Cell) → (mark ≡ 0 → ⊥) → filled kind n ≡ some c → standing kind mark n ≡ c
+unfolding filled standing
+filled-is kind mark n c h =
+    either (eqb kind INT) _ _ (some c) (standing kind mark n ≡ c)
+    (λ k e. let s : standing kind mark n ≡ Int (toZ w64 n) = simp (ne-eqb mark 0 h, k) in s ∙ inj (Int (toZ w64 n)) c e)
+    (λ a. either (eqb kind FLOAT) _ _ (some c) (standing kind mark n ≡ c)
+    (λ k. either (finite (ofBits binary64 n)) _ _ (some c) (standing kind mark n ≡ c)
+    (λ f e. let s : standing kind mark n ≡ Float (ofBits binary64 n) = simp (ne-eqb mark 0 h, a, k) in s ∙ inj (Float (ofBits binary64 n)) c e)
+    (λ f e. absurd (bad c e)))
+    (λ b. either (leb n 1) _ _ (some c) (standing kind mark n ≡ c)
+    (λ f e. let s : standing kind mark n ≡ Truth (eqb n 1) = simp (ne-eqb mark 0 h, a, b) in s ∙ inj (Truth (eqb n 1)) c e)
+    (λ f e. absurd (bad c e))))
+
+-- a mark and a word that are a cell's stand for it
+pub standing-is : (kind mark n : ℕ) (c : Cell) → cellFrom kind mark n ≡ some c → standing kind mark n ≡ c
+unfolding cellFrom
+standing-is kind mark n c =
+    either (eqb mark 1) _ _ (some c) (standing kind mark n ≡ c)
+    (λ m. filled-is kind mark n c (one mark (eqb-true mark 1 m)))
+    (λ _. either (eqb mark 0 && eqb n 0) _ _ (some c) (standing kind mark n ≡ c)
+    (λ z e. standing-empty kind mark n (eqb-true mark 0 (and-left (eqb mark 0) _ z)) ∙ inj Empty c e)
+    (λ _ e. absurd (bad c e)))
+
+-- nine bytes that are a cell: their mark and word stand for it
+pub stands : (kind : ℕ) (bs : List ℕ) (c : Cell) → cellOf kind bs ≡ some c → standing kind (getD bs 0 0) (leOf (drop 1 bs)) ≡ c
+stands kind bs c = standing-is kind (getD bs 0 0) (leOf (drop 1 bs)) c
+
+-- a scalar: its word stands, with mark 1, for the scalar
+pub scalar-stands : (kind n : ℕ) (c : Cell) → filled kind n ≡ some c → standing kind 1 n ≡ c
+scalar-stands kind n c = filled-is kind 1 n c (λ z. omega arith)
+
+-- ---- no NaN
+
+finite-word : (n : ℕ) → finite (ofBits binary64 n) ≡ true → NoNan n
+finite-word n f =
+    subst (λ (b : Bool). T (not b)) (sym (nanBits-is binary64 n)) (no-nan (ofBits binary64 n) (subst T (sym f) tt))
+
+zero-word : NoNan 0
+unfolding nanBits
+zero-word = tt
+
+float-word : (n : ℕ) (c : Cell) → filled FLOAT n ≡ some c → NoNan n
+unfolding filled
+float-word n c = either (finite (ofBits binary64 n)) _ _ (some c) (NoNan n) (λ f e. finite-word n f) (λ f e. absurd (bad c e))
+
+-- no FLOAT scalar is a NaN
+pub scalar-no-nan : (kind n : ℕ) (c : Cell) → kind ≡ FLOAT → filled kind n ≡ some c → NoNan n
+scalar-no-nan kind n c k e = float-word n c (sym (ap (λ (t : ℕ). filled t n) k) ∙ e)
+
+-- no FLOAT cell's word is a NaN's
+pub no-nan-from : (kind mark n : ℕ) (c : Cell) → kind ≡ FLOAT → cellFrom kind mark n ≡ some c → NoNan n
+unfolding cellFrom
+no-nan-from kind mark n c k =
+    either (eqb mark 1) _ _ (some c) (NoNan n) (λ m. scalar-no-nan kind n c k)
+    (λ _. either (eqb mark 0 && eqb n 0) _ _ (some c) (NoNan n)
+    (λ z e. subst NoNan (sym (eqb-true n 0 (and-right (eqb mark 0) (eqb n 0) z))) zero-word)
+    (λ _ e. absurd (bad c e)))
+
+-- of nine bytes
+pub no-nan-word : (kind : ℕ) (bs : List ℕ) (c : Cell) → kind ≡ FLOAT → cellOf kind bs ≡ some c → NoNan (leOf (drop 1 bs))
+no-nan-word kind bs c = no-nan-from kind (getD bs 0 0) (leOf (drop 1 bs)) c
+
+-- ---- as bytes
+
+-- mark and word of what was read are the cell's own: for moving nine bytes as they are
+pub written : (kind mark n : ℕ) (c : Cell) → n < 2 ^ 64 → cellFrom kind mark n ≡ some c → mark ∷ leBytes wordBytes n ≡ encode c
+unfolding encode
+written kind mark n c h e =
+    let s = from-back kind mark n c h e in
+    sym (ap₂ (λ (x y : ℕ). x ∷ leBytes wordBytes y) (s .0) (s .1))
