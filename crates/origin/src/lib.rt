@@ -1,0 +1,183 @@
+// Where each cell of a result comes from, for the operations that move cells as they are: a cell of A, a cell of B, or none. Cells are
+// counted from 0 in row-major order. Around an axis they go in blocks, so that an axis left out, put in or glued is a matter of counting.
+ghost use mathlib.Core.Path.{_≡_};
+ghost use Prim.Native.Nat.{_+_, _*_, _≤_, _<_};
+ghost use lib.ListN.{drop};
+ghost use Rattle.paper.specs.Limits.{mostCells, detailBytes};
+ghost use Rattle.paper.specs.Axes.{cells, atOffset};
+ghost use Rattle.paper.specs.Answers.{axesOf};
+ghost use Rattle.coordinates.specs.Glue.{blockCells};
+ghost use Rattle.positions.specs.Runs.{Holds};
+ghost use Rattle.step.specs.Steps.{stepIn};
+ghost use Rattle.origin.specs.Origins.{Moving, Comes, lyingIn, inA, overA};
+ghost use Rattle.origin.specs.Blocks.{layerCells, sliceCell, putOrigin, turnOrigin};
+ghost use Rattle.origin.specs.Asks.{Beside, Among, Axial, Sliced, Patched, InTurns, Countable};
+ghost use Rattle.origin.specs.declared.Origin.the-variants.{FromA};
+use paper::AxisIndex;
+use paper::Extent;
+use paper::Operation;
+use paper::Ordinality;
+use positions::position_at;
+use step::StepHead;
+
+// Nowhere: the cell is empty. Else so many cells after the first of A, or of B.
+pub enum Origin {
+    Nowhere,
+    FromA(usize),
+    FromB(usize),
+}
+
+// Where a coordinate lies in an extent: so many cells after the first, or outside.
+enum Lying {
+    After(usize),
+    Outside,
+}
+
+// ---- by coordinate
+
+// Where the coordinate of cell k of an extent lies in another.
+fn lies_at(t: Extent, k: usize, e: Extent) -> Lying
+    requires { ⌜ Beside (axesOf t) (axesOf e) k ⌝ }
+    ensures { λ r. ⌜ r ≡ lyingIn (axesOf e) (atOffset (axesOf t) k) ⌝ }
+{
+    let p = place::coordinate_of(t, Ordinality(k as u32 + 1));
+    if !place::is_inside(e, p) {
+        return Lying::Outside;
+    }
+    let o = place::ordinality_of(e, p);
+    Lying::After(o.0 as usize - 1)
+}
+
+// A's cell there, or none.
+fn in_first(t: Extent, k: usize, e: Extent) -> Origin
+    requires { ⌜ Beside (axesOf t) (axesOf e) k ⌝ }
+    ensures { λ r. ⌜ r ≡ inA (lyingIn (axesOf e) (atOffset (axesOf t) k)) ⌝ }
+{
+    let found = lies_at(t, k, e);
+    match found {
+        Lying::After(j) => return Origin::FromA(j),
+        Lying::Outside => return Origin::Nowhere,
+    }
+}
+
+// B's cell there, or A's cell j.
+fn laid_over(t: Extent, k: usize, f: Extent, j: usize) -> Origin
+    requires { ⌜ Beside (axesOf t) (axesOf f) k ⌝ }
+    ensures { λ r. ⌜ r ≡ overA j (lyingIn (axesOf f) (atOffset (axesOf t) k)) ⌝ }
+{
+    let found = lies_at(t, k, f);
+    match found {
+        Lying::After(i) => return Origin::FromB(i),
+        Lying::Outside => return Origin::FromA(j),
+    }
+}
+
+// ---- by blocks
+
+// The cells of the axes after the first `before`.
+fn cells_after(e: Extent, before: usize) -> usize
+    requires { ⌜ Among (axesOf e) before ⌝ }
+    ensures { λ r. ⌜ (r ≡ cells (drop before (axesOf e))) × (1 ≤ r) × (r ≤ mostCells) ⌝ }
+{
+    let mut n: u64 = 1;
+    let mut i = extent::rank_of(e);
+    while before < i {
+        i -= 1;
+        let a = e.axes[i];
+        n = extent::width_of(a) * n;
+    }
+    n as usize
+}
+
+// The cells of a block: of axis k and the axes after it.
+pub fn block_of(e: Extent, k: AxisIndex) -> usize
+    requires { ⌜ Axial (k .0) (axesOf e) ⌝ }
+    ensures { λ r. ⌜ (r ≡ blockCells (k .0) (axesOf e)) × (1 ≤ r) × (r ≤ mostCells) ⌝ }
+{
+    cells_after(e, k.0 as usize - 1)
+}
+
+// The cells of a layer: of the axes after axis k.
+fn layer_of(e: Extent, k: AxisIndex) -> usize
+    requires { ⌜ Axial (k .0) (axesOf e) ⌝ }
+    ensures { λ r. ⌜ (r ≡ layerCells (k .0) (axesOf e)) × (1 ≤ r) × (r ≤ mostCells) ⌝ }
+{
+    cells_after(e, k.0 as usize)
+}
+
+// So many blocks of a size, and a rest.
+fn counted(blocks: usize, size: usize, rest: usize) -> usize
+    requires { ⌜ Countable blocks size rest ⌝ }
+    ensures { λ r. ⌜ r ≡ blocks * size + rest ⌝ }
+{
+    blocks * size + rest
+}
+
+// Cell j of the axes but axis k, at position x of that axis.
+fn sliced(e: Extent, k: AxisIndex, x: u32, j: usize) -> Origin
+    requires { ⌜ Sliced (k .0) (axesOf e) x j ⌝ }
+    ensures { λ r. ⌜ r ≡ FromA (sliceCell (k .0) (axesOf e) x j) ⌝ }
+{
+    let block = block_of(e, k);
+    let layer = layer_of(e, k);
+    let a = extent::axis_of(e, k);
+    let layers = (x - a.lo) as usize;
+    Origin::FromA(counted(j / layer, block, counted(layers, layer, j % layer)))
+}
+
+// B's cell where cell j has position x on axis k and lies in B by its other positions, else A's.
+fn patched(e: Extent, f: Extent, k: AxisIndex, x: u32, j: usize) -> Origin
+    requires { ⌜ Patched (k .0) (axesOf e) (axesOf f) j ⌝ }
+    ensures { λ r. ⌜ r ≡ putOrigin (k .0) (axesOf e) (axesOf f) x j ⌝ }
+{
+    let block = block_of(e, k);
+    let layer = layer_of(e, k);
+    let a = extent::axis_of(e, k);
+    let inner = j % block;
+    if a.lo as usize + inner / layer != x as usize {
+        return Origin::FromA(j);
+    }
+    let rest = shape::removed(e, k);
+    laid_over(rest, counted(j / block, layer, inner % layer), f, j)
+}
+
+// m cells of A and n of B in turn: cell j of them.
+fn in_turns(m: usize, n: usize, j: usize) -> Origin
+    requires { ⌜ InTurns m n j ⌝ }
+    ensures { λ r. ⌜ r ≡ turnOrigin m n j ⌝ }
+{
+    let turn = j / (m + n);
+    let inner = j % (m + n);
+    if inner < m {
+        return Origin::FromA(counted(turn, m, inner));
+    }
+    Origin::FromB(counted(turn, n, inner - m))
+}
+
+// ---- by operation
+
+// Where cell k of a step's result comes from; a and b are the extents of its operands, t that of its result.
+pub fn origin_of(step: StepHead, a: Extent, b: Extent, t: Extent, k: usize, s: &[u8]) -> Origin
+    requires { ⌜ Holds (step .at) detailBytes (now s) ⌝ }
+    requires { ⌜ Moving (stepIn (now s) step) (axesOf a) (axesOf b) (axesOf t) ⌝ }
+    requires { ⌜ k < cells (axesOf t) ⌝ }
+    ensures { λ r. ⌜ Comes (stepIn (now (s .entry)) step) (axesOf a) (axesOf b) (axesOf t) k r ⌝ }
+{
+    let op = step.operation;
+    let at = step.at;
+    let axis = AxisIndex(step.axis as u32);
+    match op {
+        Operation::Trim => return in_first(t, k, a),
+        Operation::Slice => return sliced(a, axis, position_at(s, at), k),
+        Operation::Reshape => return in_first(t, k, a),
+        Operation::Shift => return Origin::FromA(k),
+        Operation::Rename => return Origin::FromA(k),
+        Operation::Update => return laid_over(t, k, b, k),
+        Operation::Put => return patched(a, b, axis, position_at(s, at), k),
+        Operation::Glue => return in_turns(block_of(a, axis), block_of(b, axis), k),
+        Operation::Pair(_) => return Origin::Nowhere,
+        Operation::RightScalar(_) => return Origin::Nowhere,
+        Operation::LeftScalar(_) => return Origin::Nowhere,
+        Operation::Single(_) => return Origin::Nowhere,
+    }
+}
