@@ -1,0 +1,3 @@
+-- What the listing cites: a cell that is TRUE by its bytes, a row in the buffer, and a page row after row.
+pub mod Rows
+pub mod Lists
