@@ -1,0 +1,2 @@
+-- The one number that the benchmark's driver reads.
+pub mod Coded
