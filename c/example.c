@@ -1,0 +1,119 @@
+/* Calls the engine from C. `example FOLDER` lists roster.rma and recipe.bin of the folder page by page, and prints what the program
+ * `rests` prints. `example` alone packs the two arrays of that roster from numbers, reads them back and asks about them. */
+#include <stdio.h>
+#include <stdlib.h>
+#include "rma.h"
+
+#define MOST 32768 /* bytes of a file, and of the work area */
+
+struct bytes { uint8_t *at; size_t len; };
+
+static struct bytes roster, recipe, work, row; /* each on the heap and of its exact length, so that valgrind guards its ends */
+static uint8_t said[RMA_SAID];
+
+/* Gives a buffer another length. One of length 0 has a pointer too: the engine takes no NULL. */
+static void resize(struct bytes *buffer, size_t len)
+{
+    buffer->at = realloc(buffer->at, len > 0 ? len : 1);
+    buffer->len = len;
+    if (!buffer->at)
+        exit(1);
+}
+
+/* Reads a file of the folder, one byte over MOST at most. A missing file counts as empty. */
+static void take(const char *folder, const char *name, struct bytes *to)
+{
+    char path[4096];
+    snprintf(path, sizeof path, "%s/%s", folder, name);
+    FILE *file = fopen(path, "rb");
+    resize(to, MOST + 1);
+    resize(to, file ? fread(to->at, 1, to->len, file) : 0);
+    if (file)
+        fclose(file);
+}
+
+/* Asks for one page. */
+static uint32_t page(uint32_t start)
+{
+    return rma_page(roster.at, roster.len, recipe.at, recipe.len, work.at, work.len, start, row.at, row.len, said, sizeof said);
+}
+
+/* Asks for pages of one row from ordinality 1 on, each where the last one said, until one has no row. Counts the rows, and prints
+ * them if told to. Answers the refusal. */
+static uint32_t list(int print, unsigned *found)
+{
+    uint32_t start = 1, refused;
+    *found = 0;
+    while ((refused = page(start)) == 0 && rma_u32(said) > 0) {
+        start = rma_u32(said + 4);
+        *found += 1;
+        for (size_t i = 0; print && i < row.len; i += 4)
+            printf("%d%c", (int32_t)rma_u32(row.at + i), i + 4 < row.len ? ' ' : '\n');
+    }
+    return refused;
+}
+
+/* Prints the listing. The number of rows stands first, so the pages are gone through twice. The length of a row, 8 to 20, is that of
+ * the shortest row buffer that isn't refused with 11: ordinality 1 is always a good start. */
+static void print_listing(void)
+{
+    unsigned found;
+    resize(&work, MOST);
+    for (resize(&row, 8); row.len < 20 && page(1) == 11;)
+        resize(&row, row.len + 4);
+    uint32_t refused = list(0, &found);
+    if (refused) {
+        printf("refused %u %u %u\n", refused, rma_u32(said), rma_u32(said + 4));
+    } else {
+        printf("found %u\n", found);
+        list(1, &found);
+    }
+}
+
+#define NUMBER(n) n, 0, 0, 0                           /* a small one */
+#define STAR 192, 189, 240, 255, 64, 66, 15, 0         /* the widest maximum: -1,000,000 and 1,000,000 */
+#define WHO 'w', 'h', 'o', 0, 0, 0, 0, 0, NUMBER(1), NUMBER(2), STAR
+#define TURN 't', 'u', 'r', 'n', 0, 0, 0, 0, NUMBER(1), NUMBER(3), STAR
+#define AT(minute) {1, (minute) % 256, (minute) / 256} /* a filled cell */
+
+/* Packs starts and ends of two people's three turns. Refused, the roster stays empty. */
+static void pack_roster(void)
+{
+    static const uint8_t heads[2][RMA_HEAD] = {{1, 2, WHO, TURN}, {1, 2, WHO, TURN}}; /* type INT, two axes */
+    static const uint8_t cells[12][9] = {AT(1320), AT(2760), AT(4200), AT(360), AT(1200), AT(3240),
+                                         AT(1800), AT(3240), AT(4680), AT(840), AT(1680), AT(3720)};
+    resize(&roster, MOST);
+    uint32_t refused = rma_pack(&heads[0][0], sizeof heads, &cells[0][0], sizeof cells, roster.at, roster.len, said, sizeof said);
+    resize(&roster, refused ? 0 : rma_u32(said));
+}
+
+/* Asks about the packed roster. Minutes of a week fit in the lowest four bytes of a cell. */
+static void ask(void)
+{
+    static const uint8_t coordinate[] = {NUMBER(2), NUMBER(1)};
+    uint8_t place[] = {NUMBER(1)};
+    rma_read(roster.at, roster.len, said, sizeof said);
+    printf("packed: %zu bytes, %u arrays\n", roster.len, rma_u32(said));
+    rma_refer(roster.at, roster.len, 1, coordinate, sizeof coordinate, said, sizeof said);
+    printf("start of person 2, turn 1: %u\nwalked:", rma_u32(said + 1));
+    while (rma_walk(roster.at, roster.len, 1, place, sizeof place, said, sizeof said) == 0 && said[0] == 1)
+        printf(" %u", rma_u32(said + 2));
+    rma_total(roster.at, roster.len, 2, 4, said, sizeof said);
+    printf("\nlast end: %u\n", rma_u32(said + 1));
+}
+
+int main(int argc, char **argv)
+{
+    if (argc < 2) {
+        pack_roster();
+        ask();
+        return 0;
+    }
+    take(argv[1], "roster.rma", &roster);
+    take(argv[1], "recipe.bin", &recipe);
+    if (roster.len > MOST || recipe.len > MOST)
+        puts("too long");
+    else
+        print_listing();
+    return 0;
+}

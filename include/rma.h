@@ -1,0 +1,102 @@
+/* The C face of Rovgrint, a proved engine for small multi-dimensional arrays: nine functions of librma.a (x86-64 Linux).
+ * `rt staticlib rma` at the repository's root proves and writes target/staticlib/librma.a. An example is c/example.c.
+ *
+ * Rules of every call:
+ * - A byte slice is two arguments, a pointer and its length. The pointer is never NULL, also for length 0.
+ * - A buffer that a call writes to (out, work, rows, place, said) overlaps no other argument. Nothing else is written to.
+ * - Numbers in bytes are little-endian. Arrays, axis indexes, steps and ordinalities are counted from 1.
+ * - No call keeps a pointer, allocates or prints. None has a condition to meet: bytes of any length and content get an answer.
+ * - A call returns the number of its refusal, 0 for none. Refused, `said` begins with the place and the ordinality (two u32);
+ *   else with the bytes that the function's comment names. Bytes of `said` after these stay. An answer longer than said_len
+ *   is cut there; RMA_SAID bytes are room for every answer.
+ *
+ * A cell is nine bytes: nine zeros when empty, else 1 and eight bytes (INT: two's complement, FLOAT: binary64, BOOLEAN: 0 or 1).
+ * A head tells an array without its cells, in RMA_HEAD bytes: type (1 INT, 2 FLOAT, 3 BOOLEAN), axis count, then four slots of 24
+ * bytes an axis: name (8, padded with zeros), lower, upper, maximum lower, maximum upper (i32 each). Slots past the last axis are
+ * not looked at. An axis count over 4 is taken as 0, which is refused.
+ *
+ * Refusals: 1 mark, version, count, type, axis count or length bad. 2 extent bad: names, limits, maximum, over 4,096 cells.
+ * 3 not a cell. 4 recipe length, operation, operand, operator, unused byte, or no such array. 5 no such axis, or wrong number of
+ * coordinates. 6 outside. 7 types unfit. 8 axis count, names or limits differ. 9 the result's extent is bad. 10 work area under 9T
+ * bytes. 11 no room for a row, or start outside. 12 a value doesn't fit. 13 division by zero. 14 no room for the bundle. */
+#ifndef RMA_H
+#define RMA_H
+
+#include <stddef.h>
+#include <stdint.h>
+
+#define RMA_SAID 16 /* bytes: the longest answer */
+#define RMA_HEAD 98 /* bytes: a head */
+
+#ifdef __cplusplus
+extern "C" {
+#endif
+
+/* Judges a bundle. `said`: the count of its arrays (u32). Refused 1, 2 or 3, with the array as place (0: the first six bytes, or
+ * bytes left over). */
+uint32_t rma_read(const uint8_t *bundle, size_t bundle_len, uint8_t *said, size_t said_len);
+
+/* Tells where an array of a bundle lies. `said`: type, axis count, number of cells, and the byte of the bundle at which its cells
+ * begin (four u32); its axes end there, 24 bytes each. Refused as rma_read, then 4 (no such array, place: the array asked for). */
+uint32_t rma_array(const uint8_t *bundle, size_t bundle_len, uint32_t array, uint8_t *said, size_t said_len);
+
+/* Packs 1 to 4 arrays: `heads` in turn, `cells` of all of them in turn. `said`: the bundle's length (u32). `out`: the bundle, then
+ * what was there; untouched by a refusal. Refused as rma_read refuses the bundle, 1 with place 0 where `heads` is not 1 to 4 times
+ * RMA_HEAD bytes; then 14 (`out` is shorter than the bundle). */
+uint32_t rma_pack(const uint8_t *heads, size_t heads_len, const uint8_t *cells, size_t cells_len, uint8_t *out, size_t out_len,
+                  uint8_t *said, size_t said_len);
+
+/* Refers to a cell. `coordinate`: an i32 for each axis. `said`: the cell (nine bytes), empty where the coordinate lies inside the
+ * maximum but not the extent. Refused as rma_read, then with the array as place 4 (no such array), 5 (wrong number of coordinates;
+ * also for a length over 16 or no multiple of 4), 6 (beyond the maximum). */
+uint32_t rma_refer(const uint8_t *bundle, size_t bundle_len, uint32_t array, const uint8_t *coordinate, size_t coordinate_len,
+                   uint8_t *said, size_t said_len);
+
+/* Walks on by one cell. `place`: the walking place (u32), an ordinality; begin with 1. `said`: 1 and the cell there (nine bytes),
+ * and `place` is moved forward by one; at the end, cells + 1, ten zeros, and `place` stays. Bytes of `place` after four stay; one of
+ * under four bytes counts as walking place 0. Refused as rma_read, then with the array as place 4 (no such array), 6 (walking place
+ * 0 or over cells + 1); `place` stays. */
+uint32_t rma_walk(const uint8_t *bundle, size_t bundle_len, uint32_t array, uint8_t *place, size_t place_len, uint8_t *said,
+                  size_t said_len);
+
+/* Totals an array; empty cells are skipped. `which`: 1 count of filled, 2 count of TRUE (BOOLEAN), 3 smallest, 4 largest, 5 sum
+ * (INT, FLOAT), 6 average (FLOAT). `said`: a cell (nine bytes), a count as an INT; 3 to 6 of nothing filled are empty. Refused as
+ * rma_read, then with the array as place 4 (no such array, or another `which`), 7 (type unfit), 12 (an INT sum that doesn't fit,
+ * ordinality 0; a FLOAT sum or average that isn't finite, ordinality of the cell whose addition fails). */
+uint32_t rma_total(const uint8_t *bundle, size_t bundle_len, uint32_t array, uint32_t which, uint8_t *said, size_t said_len);
+
+/* Runs a recipe of 1 to 16 steps, 36 bytes each, over a bundle. `said`: T, the number of cells of all results together (u32).
+ * `work`: these cells in step order, 9T bytes, then what was there. Refused as rma_read, 4 with place 0 (recipe length), with the
+ * step as place 4, 5, 7, 8, 6, 9, then 10: `work` is untouched. Then 12 or 13, with step and ordinality: the first 9T bytes of `work`
+ * are zeros, the rest is untouched. */
+uint32_t rma_run(const uint8_t *bundle, size_t bundle_len, const uint8_t *recipe, size_t recipe_len, uint8_t *work, size_t work_len,
+                 uint8_t *said, size_t said_len);
+
+/* Runs a recipe that ends in BOOLEAN and lists the TRUE cells of its last result from ordinality `start` on, until `rows` has no room
+ * for another row. `said`: rows written, and where to go on: the ordinality one past the last row's if `rows` filled, else one past
+ * the last cell's (two u32). `rows`: for each row the ordinality (u32) and each coordinate (i32), then what was there. `work`: as
+ * rma_run leaves it. A page with no row is the end. Refused as rma_run, with 7 at the last step (not BOOLEAN) before 10, and 11 after
+ * it (no room for one row; start 0 or over cells + 1), which leaves `work` untouched. A refusal leaves `rows` untouched. */
+uint32_t rma_page(const uint8_t *bundle, size_t bundle_len, const uint8_t *recipe, size_t recipe_len, uint8_t *work, size_t work_len,
+                  uint32_t start, uint8_t *rows, size_t rows_len, uint8_t *said, size_t said_len);
+
+/* Reads the array that left and right glued along `axis` would be, without building it: the stretch from the cell at `ordinality` up
+ * to where the other side begins, or to the end. `said`: the side (1 left, 2 right), and from which byte up to which byte of that
+ * side's cells (three u32). Cells are not judged, maxima not looked at. Refused for left (place 1), then right (place 2): 1 (type or
+ * axis count; a head of other than RMA_HEAD bytes), 2 (extent), 1 (cells not nine bytes each); then with place 0 as a glue: 5, 7, 8,
+ * 9; then 6 (ordinality 0 or past the end). */
+uint32_t rma_stretch(const uint8_t *left_head, size_t left_head_len, const uint8_t *left_cells, size_t left_cells_len,
+                     const uint8_t *right_head, size_t right_head_len, const uint8_t *right_cells, size_t right_cells_len,
+                     uint32_t axis, uint32_t ordinality, uint8_t *said, size_t said_len);
+
+/* The number in four bytes of an answer, a row or a head. A coordinate is (int32_t)rma_u32(..). */
+static inline uint32_t rma_u32(const uint8_t *at)
+{
+    return (uint32_t)at[0] | (uint32_t)at[1] << 8 | (uint32_t)at[2] << 16 | (uint32_t)at[3] << 24;
+}
+
+#ifdef __cplusplus
+}
+#endif
+
+#endif
