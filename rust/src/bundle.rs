@@ -1,0 +1,158 @@
+//! A bundle of arrays in bytes: read, and asked about one array at a time.
+
+use std::iter::FusedIterator;
+
+use crate::call;
+use crate::cell::{Cell, Kind, CELL};
+use crate::extent::{Axis, Head, AXIS};
+use crate::refusal::Refusal;
+
+/// A bundle of one to four arrays that the engine has read and accepted. Arrays are counted from 1.
+#[derive(Clone, Debug, PartialEq, Eq)]
+pub struct Bundle<'a> {
+    pub(crate) bytes: &'a [u8],
+    /// The arrays' types, to tell cells that the engine answers.
+    kinds: Vec<Kind>,
+}
+
+impl<'a> Bundle<'a> {
+    /// Reads a bundle. Refused 1, 2, 3.
+    pub fn read(bytes: &'a [u8]) -> Result<Bundle<'a>, Refusal> {
+        let count = call::read(bytes)?.number(0);
+        let kind = |k| Ok(Kind::of(call::array(bytes, k)?.number(0)));
+        let kinds = (1..=count).map(kind).collect::<Result<_, _>>()?;
+        Ok(Bundle { bytes, kinds })
+    }
+
+    /// The number of arrays.
+    pub fn count(&self) -> u32 {
+        self.kinds.len() as u32
+    }
+
+    /// The bundle's bytes.
+    pub fn bytes(&self) -> &'a [u8] {
+        self.bytes
+    }
+
+    /// Array k: its type, its axes, its cells. Refused 4.
+    pub fn array(&self, k: u32) -> Result<Array<'a>, Refusal> {
+        let said = call::array(self.bytes, k)?;
+        let [axes, cells, begin] = [1, 2, 3].map(|n| said.number(n) as usize);
+        let axis_bytes = &self.bytes[begin - axes * AXIS..begin];
+        let axes = axis_bytes.chunks_exact(AXIS).map(Axis::judged).collect();
+        let head = Head { kind: Kind::of(said.number(0)), axes };
+        Ok(Array { head, bytes: &self.bytes[begin..begin + cells * CELL] })
+    }
+
+    /// The cell of array k at a coordinate: empty where that lies inside the declared maximum but not in the array. Refused 4, then 5
+    /// for the wrong number of coordinates, then 6 beyond the maximum.
+    pub fn refer(&self, k: u32, coordinate: &[i32]) -> Result<Cell, Refusal> {
+        let positions: Vec<u8> = coordinate.iter().flat_map(|position| position.to_le_bytes()).collect();
+        let said = call::refer(self.bytes, k, &positions)?;
+        Ok(self.told(k, &said.bytes()[..CELL]))
+    }
+
+    /// The cell of array k at a walking place, which is moved forward past it; nothing at the end (cells + 1), where the place stays.
+    /// Refused 4, then 6 for a walking place of 0 or beyond the end; the place stays.
+    pub fn walk_on(&self, k: u32, place: &mut u32) -> Result<Option<Cell>, Refusal> {
+        let mut at = place.to_le_bytes();
+        let said = call::walk(self.bytes, k, &mut at)?;
+        *place = u32::from_le_bytes(at);
+        let seen = said.bytes()[0] == 1;
+        Ok(seen.then(|| self.told(k, &said.bytes()[1..=CELL])))
+    }
+
+    /// All cells of array k in row-major order, one walk. Refused 4.
+    pub fn walk(&self, k: u32) -> Result<Walk<'_>, Refusal> {
+        let mut tried = 1;
+        self.walk_on(k, &mut tried)?;
+        Ok(Walk { bundle: self, array: k, place: 1 })
+    }
+
+    /// A total of array k, its empty cells skipped; a count is a [`Cell::Int`]. Refused 4, then 7 for a type that it isn't for, then 12
+    /// for a sum that doesn't fit or isn't finite.
+    pub fn total(&self, k: u32, which: Total) -> Result<Cell, Refusal> {
+        let said = call::total(self.bytes, k, which as u32)?;
+        let bytes = &said.bytes()[..CELL];
+        Ok(match which {
+            Total::Filled | Total::True => Cell::judged(Kind::Int, bytes),
+            Total::Smallest | Total::Largest | Total::Sum | Total::Average => self.told(k, bytes),
+        })
+    }
+
+    /// A cell that the engine answered of array k; there is such an array, or it had refused.
+    fn told(&self, k: u32, bytes: &[u8]) -> Cell {
+        Cell::judged(self.kinds[k as usize - 1], bytes)
+    }
+}
+
+/// Which total of an array.
+#[derive(Clone, Copy, Debug, PartialEq, Eq, Hash)]
+pub enum Total {
+    /// The count of filled cells, of any type.
+    Filled = 1,
+    /// The count of TRUE cells, BOOLEAN.
+    True = 2,
+    /// The smallest cell, INT or FLOAT; the first of equals.
+    Smallest = 3,
+    /// The largest cell, INT or FLOAT; the first of equals.
+    Largest = 4,
+    /// The sum, INT (exact) or FLOAT (in row-major order).
+    Sum = 5,
+    /// The average, FLOAT.
+    Average = 6,
+}
+
+/// One array of a bundle.
+#[derive(Clone, Debug, PartialEq, Eq)]
+pub struct Array<'a> {
+    head: Head,
+    bytes: &'a [u8],
+}
+
+impl<'a> Array<'a> {
+    /// Its type and axes.
+    pub fn head(&self) -> &Head {
+        &self.head
+    }
+
+    /// The type of its cells.
+    pub fn kind(&self) -> Kind {
+        self.head.kind
+    }
+
+    /// Its axes, with limits and declared maxima.
+    pub fn axes(&self) -> &[Axis] {
+        &self.head.axes
+    }
+
+    /// The bytes of its cells in row-major order, nine each: a part of the bundle.
+    pub fn bytes(&self) -> &'a [u8] {
+        self.bytes
+    }
+
+    /// Its cells in row-major order.
+    pub fn cells(&self) -> impl ExactSizeIterator<Item = Cell> + 'a {
+        let kind = self.kind();
+        self.bytes.chunks_exact(CELL).map(move |bytes| Cell::judged(kind, bytes))
+    }
+}
+
+/// A walk over an array's cells, begun at ordinality 1; see [`Bundle::walk`].
+#[derive(Clone, Debug)]
+pub struct Walk<'b> {
+    bundle: &'b Bundle<'b>,
+    array: u32,
+    place: u32,
+}
+
+impl Iterator for Walk<'_> {
+    type Item = Cell;
+
+    fn next(&mut self) -> Option<Cell> {
+        let seen = self.bundle.walk_on(self.array, &mut self.place);
+        seen.expect("a walk from 1 stays inside the array")
+    }
+}
+
+impl FusedIterator for Walk<'_> {}

@@ -1,0 +1,115 @@
+//! The engine's nine functions as the static library has them. `include/rma.h` tells the same in C.
+//!
+//! Each byte slice is two arguments, a pointer and its length. Pointers are never null, also for length 0, and point to as many bytes.
+//! A buffer that a call writes to (`out`, `work`, `rows`, `place`, `said`) overlaps no other argument. Numbers in bytes are
+//! little-endian. No call keeps a pointer, allocates or prints, and none has another condition to meet: bytes of any length and
+//! content get an answer.
+//!
+//! A call returns the number of its refusal, 0 for none. Refused, `said` begins with the place and the ordinality (two u32); else with
+//! the bytes that the function names. Bytes of `said` after these stay; an answer longer than `said` is cut there. [`SAID`] bytes are
+//! room for every answer.
+//!
+//! A head is [`HEAD`] bytes: type, axis count, then four slots of 24 bytes an axis as in a bundle; slots past the last axis are not
+//! looked at, and an axis count over 4 is taken as 0, which is refused.
+
+/// The bytes of the longest answer.
+pub const SAID: usize = 16;
+
+/// The bytes of a head.
+pub const HEAD: usize = 98;
+
+extern "C" {
+    /// Judges a bundle. `said`: the count of its arrays. Refused 1, 2, 3.
+    pub fn rma_read(bundle: *const u8, bundle_len: usize, said: *mut u8, said_len: usize) -> u32;
+
+    /// Tells where an array lies. `said`: type, axis count, number of cells, and the byte of the bundle at which its cells begin (its
+    /// axes end there, 24 bytes each). Refused as [`rma_read`], then 4.
+    pub fn rma_array(bundle: *const u8, bundle_len: usize, array: u32, said: *mut u8, said_len: usize) -> u32;
+
+    /// Packs the arrays of 1 to 4 heads; `cells` of all of them in turn. `said`: the bundle's length. `out`: the bundle, then what was
+    /// there; untouched by a refusal. Refused as [`rma_read`] refuses the bundle, then 14.
+    pub fn rma_pack(
+        heads: *const u8,
+        heads_len: usize,
+        cells: *const u8,
+        cells_len: usize,
+        out: *mut u8,
+        out_len: usize,
+        said: *mut u8,
+        said_len: usize,
+    ) -> u32;
+
+    /// Refers to the cell at a coordinate, an i32 for each axis. `said`: the cell's nine bytes. Refused as [`rma_read`], then 4, 5, 6.
+    pub fn rma_refer(
+        bundle: *const u8,
+        bundle_len: usize,
+        array: u32,
+        coordinate: *const u8,
+        coordinate_len: usize,
+        said: *mut u8,
+        said_len: usize,
+    ) -> u32;
+
+    /// Walks on by one cell. `place`: the walking place (u32), moved forward past a cell, else kept. `said`: 1 and the cell's nine
+    /// bytes; at the end ten zeros. Refused as [`rma_read`], then 4, 6.
+    pub fn rma_walk(
+        bundle: *const u8,
+        bundle_len: usize,
+        array: u32,
+        place: *mut u8,
+        place_len: usize,
+        said: *mut u8,
+        said_len: usize,
+    ) -> u32;
+
+    /// Totals an array: 1 count of filled, 2 count of TRUE, 3 smallest, 4 largest, 5 sum, 6 average. `said`: a cell's nine bytes, a
+    /// count as an INT. Refused as [`rma_read`], then 4 (another `which` too), 7, 12.
+    pub fn rma_total(bundle: *const u8, bundle_len: usize, array: u32, which: u32, said: *mut u8, said_len: usize) -> u32;
+
+    /// Runs a recipe. `said`: T, the cells of all results. `work`: these cells in step order, 9T bytes, then what was there; with 12 and
+    /// 13 9T zeros in their place; untouched by the other refusals. Refused as [`rma_read`], then 4 to 9 by step, 10, 12 or 13.
+    pub fn rma_run(
+        bundle: *const u8,
+        bundle_len: usize,
+        recipe: *const u8,
+        recipe_len: usize,
+        work: *mut u8,
+        work_len: usize,
+        said: *mut u8,
+        said_len: usize,
+    ) -> u32;
+
+    /// Runs a recipe and lists the TRUE cells of its last result from `start` on. `said`: rows written, and where to go on. `rows`: the
+    /// rows, then what was there; untouched by a refusal. `work` as [`rma_run`] leaves it. Refused as [`rma_run`], and with 7 at the
+    /// last step before 10, with 11 after it.
+    pub fn rma_page(
+        bundle: *const u8,
+        bundle_len: usize,
+        recipe: *const u8,
+        recipe_len: usize,
+        work: *mut u8,
+        work_len: usize,
+        start: u32,
+        rows: *mut u8,
+        rows_len: usize,
+        said: *mut u8,
+        said_len: usize,
+    ) -> u32;
+
+    /// Reads two arrays as if they were glued. `said`: the side (1 left, 2 right), and from which byte up to which byte of its cells the
+    /// stretch goes. Refused 1, 2 at place 1, then at place 2, then 5, 7, 8, 9, 6 at place 0.
+    pub fn rma_stretch(
+        left_head: *const u8,
+        left_head_len: usize,
+        left_cells: *const u8,
+        left_cells_len: usize,
+        right_head: *const u8,
+        right_head_len: usize,
+        right_cells: *const u8,
+        right_cells_len: usize,
+        axis: u32,
+        ordinality: u32,
+        said: *mut u8,
+        said_len: usize,
+    ) -> u32;
+}

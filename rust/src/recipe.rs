@@ -1,0 +1,168 @@
+//! A recipe built step by step: one function an operation, 36 bytes a step. The engine judges it when it is run.
+
+use crate::cell::Cell;
+use crate::extent::name_bytes;
+
+/// The bytes of a step.
+const STEP: usize = 36;
+
+/// The operand that is the result of step k, 1 to 16, of the recipe. (Operands 1 to 4 are the bundle's arrays.)
+pub const fn step(k: u8) -> u8 {
+    k.saturating_add(16)
+}
+
+/// An operator between two cells, or a cell and a scalar.
+#[derive(Clone, Copy, Debug, PartialEq, Eq, Hash)]
+pub enum Operator {
+    /// `+`, of INT or FLOAT.
+    Plus = 1,
+    /// `-`, of INT or FLOAT.
+    Minus = 2,
+    /// `*`, of INT or FLOAT.
+    Times = 3,
+    /// `/`, of INT (toward zero) or FLOAT.
+    Divide = 4,
+    /// MOD, of INT; the dividend's sign.
+    Mod = 5,
+    /// `=`, of any type.
+    Equal = 6,
+    /// `<>`, of any type.
+    Unequal = 7,
+    /// `<`, of INT or FLOAT.
+    Less = 8,
+    /// `<=`, of INT or FLOAT.
+    LessOrEqual = 9,
+    /// `>`, of INT or FLOAT.
+    Greater = 10,
+    /// `>=`, of INT or FLOAT.
+    GreaterOrEqual = 11,
+    /// AND, of BOOLEAN.
+    And = 12,
+    /// OR, of BOOLEAN.
+    Or = 13,
+}
+
+/// An operator on one cell.
+#[derive(Clone, Copy, Debug, PartialEq, Eq, Hash)]
+pub enum Single {
+    /// The sign changed, of INT or FLOAT.
+    Negate = 1,
+    /// Without the sign, of INT or FLOAT.
+    Absolute = 2,
+    /// NOT, of BOOLEAN.
+    Not = 3,
+    /// Whether the cell is empty, of any type.
+    IsEmpty = 4,
+}
+
+/// The bytes of a recipe. Each function adds a step and gives the recipe back; operands are arrays (1 to 4) or [`step`]s.
+///
+/// Pairs, amounts and names are given for each axis of A in turn. A step doesn't know A: a slot left out is zeros, so a pair left out
+/// is `0:0`. What a step has no bytes for (a fifth pair, amount or name; an empty scalar) makes it a step of no known operation,
+/// which the engine refuses with 4 there.
+#[derive(Clone, Debug, Default, PartialEq, Eq, Hash)]
+pub struct Recipe {
+    bytes: Vec<u8>,
+}
+
+impl Recipe {
+    /// A recipe of no step yet.
+    pub fn new() -> Recipe {
+        Recipe::default()
+    }
+
+    /// The recipe's bytes.
+    pub fn bytes(&self) -> &[u8] {
+        &self.bytes
+    }
+
+    /// Operation 1: those coordinates of A, which lie inside A. A pair is the lower and the upper limit.
+    pub fn trim(self, a: u8, pairs: &[(i32, i32)]) -> Recipe {
+        self.with([1, a, 0, 0], each_axis(pairs, pair_bytes))
+    }
+
+    /// Operation 2: that position of A, the axis removed.
+    pub fn slice(self, a: u8, axis: u8, position: i32) -> Recipe {
+        self.with([2, a, 0, axis], Some(position.to_le_bytes().to_vec()))
+    }
+
+    /// Operation 3: A with new limits; shared coordinates keep their cells, others are empty.
+    pub fn reshape(self, a: u8, pairs: &[(i32, i32)]) -> Recipe {
+        self.with([3, a, 0, 0], each_axis(pairs, pair_bytes))
+    }
+
+    /// Operation 4: A's limits moved by these amounts, and its cells with them.
+    pub fn shift(self, a: u8, amounts: &[i32]) -> Recipe {
+        self.with([4, a, 0, 0], each_axis(amounts, |amount| amount.to_le_bytes()))
+    }
+
+    /// Operation 5: A with other names.
+    pub fn rename(self, a: u8, names: &[&str]) -> Recipe {
+        self.with([5, a, 0, 0], each_axis(names, |name| name_bytes(name)))
+    }
+
+    /// Operation 6: A with B's cells, empty ones too, at B's coordinates, all inside A.
+    pub fn update(self, a: u8, b: u8) -> Recipe {
+        self.with([6, a, b, 0], Some(vec![]))
+    }
+
+    /// Operation 7: A with B's cells, empty ones too, at that position of the axis; B has one axis fewer.
+    pub fn place(self, a: u8, b: u8, axis: u8, position: i32) -> Recipe {
+        self.with([7, a, b, axis], Some(position.to_le_bytes().to_vec()))
+    }
+
+    /// Operation 8: A then B along the axis; A's lower limit is kept.
+    pub fn glue(self, a: u8, b: u8, axis: u8) -> Recipe {
+        self.with([8, a, b, axis], Some(vec![]))
+    }
+
+    /// Operation 9: A and B cell by cell; their extents are equal.
+    pub fn pair(self, a: u8, b: u8, operator: Operator) -> Recipe {
+        self.with([9, a, b, 0], Some(vec![operator as u8]))
+    }
+
+    /// Operation 10: each cell of A, operator, scalar. The scalar has A's type; the engine reads its eight bytes as such.
+    pub fn right_scalar(self, a: u8, operator: Operator, scalar: Cell) -> Recipe {
+        self.with([10, a, 0, 0], scalar_bytes(operator, scalar))
+    }
+
+    /// Operation 11: scalar, operator, each cell of A. The scalar has A's type; the engine reads its eight bytes as such.
+    pub fn left_scalar(self, a: u8, operator: Operator, scalar: Cell) -> Recipe {
+        self.with([11, a, 0, 0], scalar_bytes(operator, scalar))
+    }
+
+    /// Operation 12: the operator on each cell of A.
+    pub fn single(self, a: u8, operator: Single) -> Recipe {
+        self.with([12, a, 0, 0], Some(vec![operator as u8]))
+    }
+
+    /// Adds a step: operation, operands and axis index, then its detail, both padded with zeros. With no detail it is all zeros, which
+    /// is no operation.
+    fn with(mut self, front: [u8; 4], detail: Option<Vec<u8>>) -> Recipe {
+        let end = self.bytes.len() + STEP;
+        if let Some(detail) = detail {
+            self.bytes.extend(front);
+            self.bytes.extend(detail);
+        }
+        self.bytes.resize(end, 0);
+        self
+    }
+}
+
+/// The detail that has a slot for each axis; none of more than four slots.
+fn each_axis<T, const SLOT: usize>(slots: &[T], bytes: impl Fn(&T) -> [u8; SLOT]) -> Option<Vec<u8>> {
+    (slots.len() <= 4).then(|| slots.iter().flat_map(bytes).collect())
+}
+
+/// Lower and upper limit, four bytes each.
+fn pair_bytes(&(lower, upper): &(i32, i32)) -> [u8; 8] {
+    let [a, b, c, d] = lower.to_le_bytes();
+    let [e, f, g, h] = upper.to_le_bytes();
+    [a, b, c, d, e, f, g, h]
+}
+
+/// The detail of an operator and a scalar, whose eight bytes begin at byte 4; none of an empty scalar.
+fn scalar_bytes(operator: Operator, scalar: Cell) -> Option<Vec<u8>> {
+    let (_, word) = scalar.word()?;
+    Some([&[operator as u8, 0, 0, 0][..], &word].concat())
+}

@@ -1,0 +1,415 @@
+//! The safe layer, tried: the requirements' cases on both sides of each line, iterators against the calls that they stand on, and what
+//! a Rust value can say and a bundle can't, which the engine has to refuse.
+
+use rovgrint::{pack, step, stretch, Axis, Bundle, Cell, Head, Kind, Operator, Page, Recipe, Refusal, Row, Single, Total, CELL, MOST_WORK};
+
+fn refused(number: u32, place: u32, ordinality: u32) -> Refusal {
+    Refusal { number, place, ordinality }
+}
+
+fn ints(numbers: impl IntoIterator<Item = i64>) -> Vec<Cell> {
+    numbers.into_iter().map(Cell::Int).collect()
+}
+
+fn int_head(axes: &[(&str, i32, i32)]) -> Head {
+    Head { kind: Kind::Int, axes: axes.iter().map(|&(name, lower, upper)| Axis::new(name, lower, upper)).collect() }
+}
+
+/// One array on one axis `i` from 1 on.
+fn line(kind: Kind, cells: &[Cell]) -> Vec<u8> {
+    packed(&[Head { kind, axes: vec![Axis::new("i", 1, cells.len() as i32)] }], cells)
+}
+
+/// The packed bundle, where packing must go well.
+fn packed(heads: &[Head], cells: &[Cell]) -> Vec<u8> {
+    let mut out = vec![0; 1 << 16];
+    let length = pack(heads, cells, &mut out).expect("packs");
+    out.truncate(length);
+    out
+}
+
+/// The last result's cells, n of them, after a run.
+fn last_cells(bundle: &[u8], recipe: &Recipe, kind: Kind, n: usize) -> Result<Vec<Cell>, Refusal> {
+    let mut work = vec![0; MOST_WORK];
+    let all = Bundle::read(bundle)?.run(recipe.bytes(), &mut work)? as usize;
+    let bytes = &work[(all - n) * CELL..all * CELL];
+    Ok(bytes.chunks(CELL).map(|nine| Cell::from_bytes(kind, nine).expect("a cell")).collect())
+}
+
+/// The requirements' roster of two people and three turns.
+fn roster() -> Vec<u8> {
+    let turns = int_head(&[("who", 1, 2), ("turn", 1, 3)]);
+    let minutes = ints([1320, 2760, 4200, 360, 1200, 3240, 1800, 3240, 4680, 840, 1680, 3720]);
+    packed(&[turns.clone(), turns], &minutes)
+}
+
+/// The recipe that finds the rests below eleven hours: five steps of 4 cells.
+fn rests() -> Recipe {
+    let moved = Recipe::new().trim(1, &[(1, 2), (2, 3)]).shift(step(1), &[0, -1]).trim(2, &[(1, 2), (1, 2)]);
+    moved.pair(step(2), step(3), Operator::Minus).right_scalar(step(4), Operator::Less, Cell::Int(660))
+}
+
+mod both_sides_of_each_line {
+    use super::*;
+
+    #[test]
+    fn references() {
+        let bytes = packed(&[int_head(&[("x", 0, 1), ("y", 1, 2), ("z", 2, 3)])], &ints(1..=8));
+        let bundle = Bundle::read(&bytes).unwrap();
+        for (coordinate, number) in [([0, 1, 2], 1), ([1, 1, 2], 5), ([1, 2, 3], 8)] {
+            assert_eq!(bundle.refer(1, &coordinate), Ok(Cell::Int(number)));
+        }
+    }
+
+    #[test]
+    fn maximum() {
+        let mut head = int_head(&[("i", -1, 1), ("j", -1, 1)]);
+        head.axes = head.axes.into_iter().map(|axis| axis.within(-100, 100)).collect();
+        let bytes = packed(&[head], &ints(1..=9));
+        let bundle = Bundle::read(&bytes).unwrap();
+        assert_eq!(bundle.refer(1, &[0, 0]), Ok(Cell::Int(5)));
+        assert_eq!(bundle.refer(1, &[50, 0]), Ok(Cell::Empty));
+        assert_eq!(bundle.refer(1, &[-1, 1000]), Err(refused(6, 1, 0)));
+    }
+
+    #[test]
+    fn trim() {
+        let bytes = packed(&[int_head(&[("i", -1, 1), ("j", -1, 1)])], &ints(1..=9));
+        let inside = Recipe::new().trim(1, &[(-1, 1), (-1, 1)]);
+        assert_eq!(last_cells(&bytes, &inside, Kind::Int, 9), Ok(ints(1..=9)));
+        let outside = Recipe::new().trim(1, &[(-2, 1), (-1, 1)]);
+        assert_eq!(last_cells(&bytes, &outside, Kind::Int, 9), Err(refused(6, 1, 0)));
+    }
+
+    #[test]
+    fn glue() {
+        let heads = [int_head(&[("i", -1, 1), ("j", -1, 1)]), int_head(&[("i", 0, 0), ("j", -1, 1)])];
+        let bytes = packed(&heads, &ints(1..=12));
+        let glued = Recipe::new().glue(1, 2, 1);
+        assert_eq!(last_cells(&bytes, &glued, Kind::Int, 12), Ok(ints(1..=12)));
+        let tenth = glued.right_scalar(step(1), Operator::Equal, Cell::Int(10));
+        let (mut work, mut page) = (vec![0; MOST_WORK], [0; 12]);
+        let bundle = Bundle::read(&bytes).unwrap();
+        let rows: Vec<Row> = bundle.rows(tenth.bytes(), &mut work, &mut page).unwrap().collect();
+        assert_eq!(rows, [Row { ordinality: 10, coordinate: vec![2, -1] }]);
+    }
+
+    #[test]
+    fn division() {
+        let of = |cell: Cell, operator, scalar| {
+            let recipe = Recipe::new().right_scalar(1, operator, Cell::Int(scalar));
+            last_cells(&line(Kind::Int, &[cell]), &recipe, Kind::Int, 1).map(|cells| cells[0])
+        };
+        let smallest = Cell::Int(i64::MIN);
+        assert_eq!(of(Cell::Int(7), Operator::Divide, -2), Ok(Cell::Int(-3)));
+        assert_eq!(of(Cell::Int(-7), Operator::Mod, 2), Ok(Cell::Int(-1)));
+        assert_eq!(of(smallest, Operator::Mod, -1), Ok(Cell::Int(0)));
+        assert_eq!(of(smallest, Operator::Divide, -1), Err(refused(12, 1, 1)));
+        assert_eq!(of(Cell::Empty, Operator::Divide, 0), Ok(Cell::Empty));
+        assert_eq!(of(Cell::Int(7), Operator::Divide, 0), Err(refused(13, 1, 1)));
+    }
+
+    #[test]
+    fn exact_sum() {
+        let sum = |numbers: &[i64]| Bundle::read(&line(Kind::Int, &ints(numbers.iter().copied())))?.total(1, Total::Sum);
+        assert_eq!(sum(&[i64::MAX, 1, -1]), Ok(Cell::Int(i64::MAX)));
+        assert_eq!(sum(&[i64::MAX, 1]), Err(refused(12, 1, 0)));
+    }
+
+    #[test]
+    fn shift_and_start() {
+        let bytes = packed(&[int_head(&[("i", -1_000_000, -999_999)])], &ints([1, 2]));
+        let below = Recipe::new().shift(1, &[-1]);
+        assert_eq!(last_cells(&bytes, &below, Kind::Int, 2), Err(refused(9, 1, 0)));
+        let bytes = roster();
+        let (mut work, mut rows) = ([0; 180], [0; 12]);
+        let mut start = |at| Bundle::read(&bytes)?.page(rests().bytes(), &mut work, at, &mut rows);
+        assert_eq!(start(5), Ok(Page { written: 0, next: 5 }));
+        assert_eq!(start(6), Err(refused(11, 0, 0)));
+    }
+
+    #[test]
+    fn most_cells() {
+        let square = packed(&[int_head(&[("i", 1, 64), ("j", 1, 64)])], &ints(1..=4096));
+        assert_eq!(Bundle::read(&square).unwrap().array(1).unwrap().cells().len(), 4096);
+        let mut out = vec![0; 1 << 16];
+        assert_eq!(pack(&[int_head(&[("i", 1, 4097)])], &ints(1..=4097), &mut out), Err(refused(2, 1, 0)));
+    }
+
+    #[test]
+    fn work_area() {
+        let bytes = roster();
+        let bundle = Bundle::read(&bytes).unwrap();
+        assert_eq!(bundle.run(rests().bytes(), &mut [0; 180]), Ok(20));
+        assert_eq!(bundle.run(rests().bytes(), &mut [0; 179]), Err(refused(10, 0, 0)));
+    }
+}
+
+mod iterators {
+    use super::*;
+
+    /// 105 INT cells on three axes, every fourth empty; those below 5 are listed.
+    fn mixed() -> (Vec<u8>, Recipe) {
+        let cells: Vec<Cell> = (0..105).map(|n| if n % 4 == 3 { Cell::Empty } else { Cell::Int(n * 37 % 11) }).collect();
+        let bytes = packed(&[int_head(&[("a", -2, 2), ("b", 0, 6), ("c", 9, 11)])], &cells);
+        (bytes, Recipe::new().right_scalar(1, Operator::Less, Cell::Int(5)))
+    }
+
+    #[test]
+    fn page_by_page_equals_one_page() {
+        let (bytes, recipe) = mixed();
+        let bundle = Bundle::read(&bytes).unwrap();
+        let (mut work, mut whole) = (vec![0; 105 * CELL], [0; 105 * 16]);
+        assert_eq!(bundle.row_len(recipe.bytes(), &mut work), Ok(16));
+        let all = bundle.page(recipe.bytes(), &mut work, 1, &mut whole).unwrap();
+        assert_eq!(all.next, 106);
+        let one_page: Vec<Row> = whole.chunks(16).take(all.written as usize).map(Row::from_bytes).collect();
+        assert!(one_page.len() > 20 && one_page.iter().all(|row| bundle.refer(1, &row.coordinate).unwrap() != Cell::Empty));
+        for room in (16..200).chain([105 * 16]) {
+            let mut page = vec![0; room];
+            let rows: Vec<Row> = bundle.rows(recipe.bytes(), &mut work, &mut page).unwrap().collect();
+            assert_eq!(rows, one_page, "row buffer of {room} bytes");
+        }
+    }
+
+    #[test]
+    fn rows_of_one_to_four_axes() {
+        let names = ["a", "b", "c", "d"].map(|name| (name, 4, 5));
+        for axes in 1..=4 {
+            let bytes = packed(&[int_head(&names[..axes])], &ints(0..1 << axes));
+            let bundle = Bundle::read(&bytes).unwrap();
+            let recipe = Recipe::new().right_scalar(1, Operator::GreaterOrEqual, Cell::Int(0));
+            let (mut work, mut page) = (vec![0; 16 * CELL], [0; 20]);
+            let rows: Vec<Row> = bundle.rows(recipe.bytes(), &mut work, &mut page).unwrap().collect();
+            let last = Row { ordinality: 1 << axes, coordinate: vec![5; axes] };
+            assert_eq!((rows.len(), rows.last()), (1 << axes, Some(&last)));
+        }
+    }
+
+    #[test]
+    fn refused_as_one_page_is() {
+        let bytes = line(Kind::Int, &ints([1, 0]));
+        let bundle = Bundle::read(&bytes).unwrap();
+        let divided = Recipe::new().left_scalar(1, Operator::Divide, Cell::Int(9));
+        let listed = divided.clone().right_scalar(step(1), Operator::Less, Cell::Int(5));
+        let ask =
+            |recipe: &Recipe, work: &mut [u8], room: usize| bundle.rows(recipe.bytes(), work, &mut vec![0; room]).map(|_| ()).unwrap_err();
+        let mut work = [7; 40];
+        assert_eq!(ask(&divided, &mut work, 8), refused(7, 1, 0));
+        assert_eq!(ask(&listed, &mut work[..35], 8), refused(10, 0, 0));
+        assert_eq!(ask(&listed, &mut work, 7), refused(11, 0, 0));
+        assert_eq!(work, [7; 40]);
+        assert_eq!(ask(&listed, &mut work, 8), refused(13, 1, 2));
+        assert_eq!((&work[..36], &work[36..]), (&[0; 36][..], &[7; 4][..]));
+    }
+
+    #[test]
+    fn walk_equals_cells() {
+        let (bytes, _) = mixed();
+        let bundle = Bundle::read(&bytes).unwrap();
+        let walked: Vec<Cell> = bundle.walk(1).unwrap().collect();
+        let array = bundle.array(1).unwrap();
+        assert_eq!(walked, array.cells().collect::<Vec<_>>());
+        assert_eq!(walked.len(), array.head().cells());
+        assert_eq!(bundle.walk(2).map(|_| ()), Err(refused(4, 2, 0)));
+    }
+
+    #[test]
+    fn walking_place() {
+        let bytes = line(Kind::Boolean, &[Cell::Truth(true), Cell::Empty]);
+        let bundle = Bundle::read(&bytes).unwrap();
+        let step_from = |mut place: u32| {
+            let seen = bundle.walk_on(1, &mut place);
+            (seen, place)
+        };
+        assert_eq!(step_from(1), (Ok(Some(Cell::Truth(true))), 2));
+        assert_eq!(step_from(2), (Ok(Some(Cell::Empty)), 3));
+        assert_eq!(step_from(3), (Ok(None), 3));
+        for outside in [0, 4, u32::MAX] {
+            assert_eq!(step_from(outside), (Err(refused(6, 1, 0)), outside));
+        }
+    }
+
+    #[test]
+    fn stretches_joined_are_the_glued_array() {
+        let sides = [int_head(&[("a", 0, 1), ("b", 1, 3), ("c", 0, 1)]), int_head(&[("a", 0, 1), ("b", 7, 8), ("c", 0, 1)])];
+        let bytes = packed(&sides, &ints(1..=20));
+        let bundle = Bundle::read(&bytes).unwrap();
+        let mut glued = [0; 20 * CELL];
+        assert_eq!(bundle.run(Recipe::new().glue(1, 2, 2).bytes(), &mut glued), Ok(20));
+        let (left, right) = (bundle.array(1).unwrap(), bundle.array(2).unwrap());
+        let (mut joined, mut parts) = (vec![], 0);
+        let end = loop {
+            let ordinality = (joined.len() / CELL + 1) as u32;
+            match stretch(left.head(), left.bytes(), right.head(), right.bytes(), 2, ordinality) {
+                Ok(part) => joined.extend_from_slice(part),
+                Err(refusal) => break refusal,
+            }
+            parts += 1;
+        };
+        assert_eq!((end, parts), (refused(6, 0, 0), 4));
+        assert_eq!(joined, glued);
+        let first = stretch(left.head(), left.bytes(), right.head(), right.bytes(), 2, 1).unwrap();
+        assert_eq!(first.as_ptr(), left.bytes().as_ptr(), "a part of the left buffer, not a copy");
+    }
+}
+
+mod values {
+    use super::*;
+
+    #[test]
+    fn packed_and_read_back() {
+        let heads = [
+            int_head(&[("i", -3, -2)]),
+            Head { kind: Kind::Float, axes: vec![Axis::new("lon_8chr", 0, 1).within(-5, 5)] },
+            Head { kind: Kind::Boolean, axes: vec![Axis::new("a", 1, 1), Axis::new("b", 0, 1)] },
+        ];
+        let cells = [Cell::Int(i64::MIN), Cell::Empty, Cell::Float(-0.0), Cell::Float(f64::MAX), Cell::Truth(true), Cell::Truth(false)];
+        let bytes = packed(&heads, &cells);
+        let bundle = Bundle::read(&bytes).unwrap();
+        assert_eq!((bundle.count(), bundle.bytes()), (3, &bytes[..]));
+        for (k, head) in (1..).zip(&heads) {
+            let array = bundle.array(k).unwrap();
+            assert_eq!((array.head(), array.kind(), array.axes()), (head, head.kind, &head.axes[..]));
+            assert_eq!(array.cells().collect::<Vec<_>>(), cells[k as usize * 2 - 2..][..2]);
+        }
+        let Cell::Float(zero) = bundle.refer(2, &[0]).unwrap() else { panic!("a FLOAT") };
+        assert!(zero == 0.0 && zero.is_sign_negative());
+        assert_eq!(bundle.array(4), Err(refused(4, 4, 0)));
+        assert_eq!(bundle.array(0), Err(refused(4, 0, 0)));
+    }
+
+    #[test]
+    fn totals() {
+        let bytes = line(Kind::Float, &[Cell::Empty, Cell::Float(2.5), Cell::Float(-1.0)]);
+        let floats = Bundle::read(&bytes).unwrap();
+        let expected = [
+            (Total::Filled, Ok(Cell::Int(2))),
+            (Total::True, Err(refused(7, 1, 0))),
+            (Total::Smallest, Ok(Cell::Float(-1.0))),
+            (Total::Largest, Ok(Cell::Float(2.5))),
+            (Total::Sum, Ok(Cell::Float(1.5))),
+            (Total::Average, Ok(Cell::Float(0.75))),
+        ];
+        for (which, answer) in expected {
+            assert_eq!(floats.total(1, which), answer, "{which:?}");
+        }
+        let bytes = line(Kind::Boolean, &[Cell::Truth(true), Cell::Truth(false)]);
+        let truths = Bundle::read(&bytes).unwrap();
+        assert_eq!(truths.total(1, Total::True), Ok(Cell::Int(1)));
+        assert_eq!(truths.total(1, Total::Sum), Err(refused(7, 1, 0)));
+        assert_eq!(truths.total(2, Total::Filled), Err(refused(4, 2, 0)));
+    }
+
+    #[test]
+    fn every_operation() {
+        let bytes = packed(&[int_head(&[("i", 1, 2), ("j", 1, 2)]), int_head(&[("j", 1, 2)])], &ints([1, 2, 3, 4, 8, 9]));
+        let of = |recipe: Recipe, n: usize| last_cells(&bytes, &recipe, Kind::Int, n);
+        assert_eq!(of(Recipe::new().slice(1, 1, 2), 2), Ok(ints([3, 4])));
+        let wider = [ints([1, 2, 3, 4]), vec![Cell::Empty; 2]].concat();
+        assert_eq!(of(Recipe::new().reshape(1, &[(1, 3), (1, 2)]), 6), Ok(wider));
+        assert_eq!(of(Recipe::new().place(1, 2, 1, 1), 4), Ok(ints([8, 9, 3, 4])));
+        let renamed = Recipe::new().rename(1, &["k", "l"]);
+        assert_eq!(of(renamed.clone().update(1, step(1)), 4), Err(refused(8, 2, 0)));
+        assert_eq!(of(renamed.rename(step(1), &["i", "j"]).update(1, step(2)), 4), Ok(ints([1, 2, 3, 4])));
+        assert_eq!(of(Recipe::new().single(1, Single::Negate), 4), Ok(ints([-1, -2, -3, -4])));
+        assert_eq!(of(Recipe::new().left_scalar(1, Operator::Minus, Cell::Int(10)), 4), Ok(ints([9, 8, 7, 6])));
+        let filled = Recipe::new().single(1, Single::IsEmpty).single(step(1), Single::Not);
+        assert_eq!(last_cells(&bytes, &filled, Kind::Boolean, 4), Ok(vec![Cell::Truth(true); 4]));
+    }
+
+    #[test]
+    fn cells_in_bytes() {
+        assert_eq!(Cell::from_bytes(Kind::Int, &[0; 8]), None);
+        assert_eq!(Cell::from_bytes(Kind::Int, &[0, 1, 0, 0, 0, 0, 0, 0, 0]), None);
+        assert_eq!(Cell::from_bytes(Kind::Boolean, &[1, 2, 0, 0, 0, 0, 0, 0, 0]), None);
+        assert_eq!(Cell::from_bytes(Kind::Float, &Cell::Float(f64::NAN).to_bytes(Kind::Float)), None);
+        assert_eq!(Cell::from_bytes(Kind::Int, &Cell::Int(-2).to_bytes(Kind::Int)), Some(Cell::Int(-2)));
+        assert_eq!(Cell::from_bytes(Kind::Int, &Cell::Float(1.0).to_bytes(Kind::Int)), None);
+    }
+}
+
+mod not_hidden {
+    use super::*;
+
+    /// Packing must be refused so, and leave the buffer untouched.
+    fn pack_refused(heads: &[Head], cells: &[Cell], refusal: Refusal) {
+        let mut out = [7; 1000];
+        assert_eq!(pack(heads, cells, &mut out), Err(refusal), "{heads:?}");
+        assert_eq!(out, [7; 1000]);
+    }
+
+    #[test]
+    fn names_that_eight_bytes_cannot_tell() {
+        for name in ["", "nine_long", "a\0", "a\0b", "\0", "é", "A"] {
+            pack_refused(&[int_head(&[(name, 1, 1)])], &ints([1]), refused(2, 1, 0));
+            let bytes = line(Kind::Int, &ints([1]));
+            let rename = |names: &[&str]| last_cells(&bytes, &Recipe::new().rename(1, names), Kind::Int, 1);
+            assert_eq!(rename(&[name]), Err(refused(9, 1, 0)), "{name:?}");
+            assert_eq!(rename(&["a", name]), Err(refused(4, 1, 0)), "{name:?}");
+        }
+    }
+
+    #[test]
+    fn arrays_axes_and_cells_too_many_or_too_few() {
+        let one = int_head(&[("i", 1, 1)]);
+        pack_refused(&[], &[], refused(1, 0, 0));
+        pack_refused(&[one.clone(), one.clone(), one.clone(), one.clone(), one.clone()], &ints(1..=5), refused(1, 0, 0));
+        pack_refused(std::slice::from_ref(&one), &ints([1, 2]), refused(1, 0, 0));
+        pack_refused(&[one.clone(), one.clone()], &ints([1]), refused(1, 2, 0));
+        for axes in [0, 5, 256, 257] {
+            let head = Head { kind: Kind::Int, axes: vec![Axis::new("i", 1, 1); axes] };
+            pack_refused(std::slice::from_ref(&head), &ints([1]), refused(1, 1, 0));
+            assert_eq!(stretch(&head, &[0; 9], &one, &[0; 9], 1, 1), Err(refused(1, 1, 0)));
+        }
+        pack_refused(&[int_head(&[("i", 2, 1)])], &[], refused(2, 1, 0));
+        pack_refused(&[int_head(&[("i", i32::MIN, i32::MAX)])], &[], refused(2, 1, 0));
+        assert_eq!(pack(&[one], &ints([1]), &mut [0; 40]), Err(refused(14, 0, 0)));
+    }
+
+    #[test]
+    fn cells_of_another_type() {
+        let heads = [int_head(&[("i", 1, 2)]), Head { kind: Kind::Float, axes: vec![Axis::new("i", 1, 2)] }];
+        let cells = [Cell::Int(1), Cell::Empty, Cell::Float(1.0), Cell::Empty];
+        assert_eq!(packed(&heads, &cells).len(), 6 + 2 * (2 + 24 + 18));
+        for (at, wrong, place) in [(1, Cell::Float(1.0), 1), (0, Cell::Truth(true), 1), (3, Cell::Int(1), 2), (2, Cell::Float(f64::NAN), 2)]
+        {
+            let mut cells = cells;
+            cells[at] = wrong;
+            pack_refused(&heads, &cells, refused(3, place, at as u32 % 2 + 1));
+        }
+    }
+
+    #[test]
+    fn steps_that_have_no_bytes() {
+        let bytes = line(Kind::Int, &ints([1]));
+        let of = |recipe: Recipe| last_cells(&bytes, &recipe, Kind::Int, 1);
+        let front = || Recipe::new().trim(1, &[(1, 1)]);
+        assert_eq!(of(front()), Ok(ints([1])));
+        assert_eq!(of(front().trim(1, &[(1, 1), (0, 0), (0, 0), (0, 0), (0, 0)])), Err(refused(4, 2, 0)));
+        assert_eq!(of(front().shift(1, &[0; 5])), Err(refused(4, 2, 0)));
+        assert_eq!(of(front().right_scalar(1, Operator::Plus, Cell::Empty)), Err(refused(4, 2, 0)));
+        assert_eq!(of(front().single(step(0), Single::Negate)), Err(refused(4, 2, 0)));
+        assert_eq!(of(front().single(step(255), Single::Negate)), Err(refused(4, 2, 0)));
+        assert_eq!(of(Recipe::new()), Err(refused(4, 0, 0)));
+        assert_eq!(of((0..17).fold(Recipe::new(), |recipe, _| recipe.shift(1, &[0]))), Err(refused(4, 0, 0)));
+    }
+
+    #[test]
+    fn coordinates_of_another_number() {
+        let bytes = roster();
+        let bundle = Bundle::read(&bytes).unwrap();
+        for coordinate in [&[][..], &[1], &[1, 1, 1], &[1, 1, 1, 1, 1]] {
+            assert_eq!(bundle.refer(1, coordinate), Err(refused(5, 1, 0)));
+        }
+        assert_eq!(bundle.refer(3, &[1, 1]), Err(refused(4, 3, 0)));
+    }
+
+    #[test]
+    fn bytes_that_are_no_bundle() {
+        assert_eq!(Bundle::read(&[]).map(|_| ()), Err(refused(1, 0, 0)));
+        let bytes = roster();
+        assert_eq!(Bundle::read(&bytes[..bytes.len() - 1]).map(|_| ()), Err(refused(1, 2, 0)));
+        assert_eq!(refused(8, 3, 0).to_string(), "refused 8 3 0");
+    }
+}
