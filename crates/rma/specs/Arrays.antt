@@ -27,10 +27,10 @@ use Rattle.roundtrip.specs.Valid.{EachValid}
 use Rattle.roundtrip.specs.Reading.{bundle-read}
 use Rattle.bundle.specs.Read.{arrayAt, Fit, ReadAll}
 use Rattle.refer.specs.Chosen.{getD-any}
-use Rattle.rma.specs.Said.{numbers}
-use Rattle.rma.specs.Asked.{countOf, arrayTold}
-use Rattle.rma.specs.Given.{arrayBytes}
-use Rattle.rma.specs.Speaking.{four-numbers}
+use Rattle.said.specs.Said.{numbers}
+use Rattle.asked.specs.Asked.{countOf, arrayTold}
+use Rattle.said.specs.Given.{arrayBytes}
+use Rattle.said.specs.Speaking.{four-numbers}
 
 -- ---- where cells begin: four bytes are enough to say it
 

@@ -1,8 +1,2 @@
--- The face for other languages: what is said, what is asked, what is given.
-pub mod Said
-pub mod Asked
-pub mod Given
-pub mod Pieces
-pub mod Heads
-pub mod Speaking
+-- The face for other languages: the arrays of a bundle, as it tells of them.
 pub mod Arrays

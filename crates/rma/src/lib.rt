@@ -5,9 +5,9 @@ ghost use Rattle.paper.specs.Cells.{encode};
 ghost use Rattle.paper.specs.Listing.{run as paperRun, page as paperPage};
 ghost use Rattle.paper.specs.Reference.{reference, walk as paperWalk};
 ghost use Rattle.paper.specs.Stretch.{stretch as paperStretch};
-ghost use Rattle.rma.specs.Said.{told, spoken};
-ghost use Rattle.rma.specs.Asked.{countOf, arrayTold, packHeads, sideIn, coordinateIn, placeIn, placeAfter, totalAsked};
-ghost use Rattle.rma.specs.Given.{numberBytes, arrayBytes, seenBytes, totalBytes, listedBytes, partBytes};
+ghost use Rattle.said.specs.Said.{told, spoken};
+ghost use Rattle.asked.specs.Asked.{countOf, arrayTold, packHeads, sideIn, coordinateIn, placeIn, placeAfter, totalAsked};
+ghost use Rattle.said.specs.Given.{numberBytes, arrayBytes, seenBytes, totalBytes, listedBytes, partBytes};
 use asked::forms_in;
 use asked::place_in;
 use asked::place_on;
@@ -39,9 +39,6 @@ use said::say_numbers;
 use said::say_refusal;
 use said::say_seen;
 use stretch::plan_stretch;
-
-pub mod asked;
-pub mod said;
 
 // The bytes of one number, of two, of three and of four.
 const ONE: usize = 4;

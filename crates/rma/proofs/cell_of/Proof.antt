@@ -1,7 +1,7 @@
 use native.Mathlib.Omega.{arith}
-use Rattle.rma.specs.Speaking.{count-cell}
+use Rattle.said.specs.Speaking.{count-cell}
 -- `rma::cell_of` meets its contract: a count is the INT cell of its number.
-use Rattle.rma.specs.Given.{totalBytes}
+use Rattle.said.specs.Given.{totalBytes}
 use mathlib.Core.Path.{ap, sym}
 use borrow.Author.Needs.{needs}
 use Rattle.rma.proofs.cell_of.Statement.{statement}

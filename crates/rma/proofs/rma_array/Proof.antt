@@ -10,7 +10,7 @@ use Rattle.coordinates.specs.Loops.{length-mapped}
 use native.Mathlib.Omega.{arith}
 use Rattle.refer.specs.Chosen.{pastHead}
 use Rattle.rma.specs.Arrays.{array-refused, array-none, array-past, array-got, array-near, array-good, array-said}
-use Rattle.rma.specs.Speaking.{told-as, speak-got, speak-refused}
+use Rattle.said.specs.Speaking.{told-as, speak-got, speak-refused}
 use borrow.Author.Needs.{needs}
 use Rattle.rma.proofs.rma_array.Statement.{statement}
 use Rattle.rma.proofs.rma_array.Tie as tie

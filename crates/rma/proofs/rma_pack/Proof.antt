@@ -1,15 +1,15 @@
 -- `rma::rma_pack` meets its contract: the forms have the heads’ shapes, packing’s answer is said, and the buffer is as packing leaves it.
 use mathlib.Core.Path.{_≡_}
 use Rattle.paper.specs.Bundle.{Packed}
-use Rattle.rma.specs.Asked.{packHeads}
+use Rattle.asked.specs.Asked.{packHeads}
 use denote.Ref.{now}
 use Rattle.paper.specs.Answers.{packSaid}
 use Rattle.paper.specs.Bundle.{pack}
 use Rattle.paper.specs.Axes.{Shape}
 use mathlib.Core.List.{List}
 use mathlib.Core.Path.{ap, sym, _∙_}
-use Rattle.rma.specs.Heads.{heads-shapes}
-use Rattle.rma.specs.Speaking.{told-as, speak-got, speak-refused, one-number}
+use Rattle.asked.specs.Heads.{heads-shapes}
+use Rattle.said.specs.Speaking.{told-as, speak-got, speak-refused, one-number}
 use borrow.Author.Needs.{needs}
 use Rattle.rma.proofs.rma_pack.Statement.{statement}
 use Rattle.rma.proofs.rma_pack.Tie as tie

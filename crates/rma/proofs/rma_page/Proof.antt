@@ -2,7 +2,7 @@
 use Rattle.paper.specs.Listing.{Paged}
 use Rattle.paper.specs.Answers.{pageSaid}
 use mathlib.Core.Path.{ap, sym, _∙_}
-use Rattle.rma.specs.Speaking.{told-as, speak-got, speak-refused, two-numbers}
+use Rattle.said.specs.Speaking.{told-as, speak-got, speak-refused, two-numbers}
 use borrow.Author.Needs.{needs}
 use Rattle.rma.proofs.rma_page.Statement.{statement}
 use Rattle.rma.proofs.rma_page.Tie as tie

@@ -5,7 +5,7 @@ use Rattle.coordinates.specs.Loops.{length-mapped}
 -- `rma::rma_read` meets its contract: the number of arrays is said.
 use native.Mathlib.Omega.{arith}
 use Rattle.rma.specs.Arrays.{count-refused, count-got}
-use Rattle.rma.specs.Speaking.{told-as, speak-got, speak-refused, one-number}
+use Rattle.said.specs.Speaking.{told-as, speak-got, speak-refused, one-number}
 use borrow.Author.Needs.{needs}
 use Rattle.rma.proofs.rma_read.Statement.{statement}
 use Rattle.rma.proofs.rma_read.Tie as tie

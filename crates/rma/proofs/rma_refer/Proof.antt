@@ -1,7 +1,7 @@
 -- `rma::rma_refer` meets its contract: the cell is said.
 use Rattle.paper.specs.Answers.{referenceSaid}
 use mathlib.Core.Path.{ap, sym, _∙_}
-use Rattle.rma.specs.Speaking.{speak-got, speak-refused}
+use Rattle.said.specs.Speaking.{speak-got, speak-refused}
 use borrow.Author.Needs.{needs}
 use Rattle.rma.proofs.rma_refer.Statement.{statement}
 use Rattle.rma.proofs.rma_refer.Tie as tie

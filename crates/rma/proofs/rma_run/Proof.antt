@@ -2,7 +2,7 @@
 use Rattle.paper.specs.Listing.{Ran}
 use Rattle.paper.specs.Answers.{runSaid}
 use mathlib.Core.Path.{ap, sym, _∙_}
-use Rattle.rma.specs.Speaking.{told-as, speak-got, speak-refused, one-number}
+use Rattle.said.specs.Speaking.{told-as, speak-got, speak-refused, one-number}
 use borrow.Author.Needs.{needs}
 use Rattle.rma.proofs.rma_run.Statement.{statement}
 use Rattle.rma.proofs.rma_run.Tie as tie

@@ -4,13 +4,13 @@ use mathlib.Core.List.{List}
 use Prim.Native.Nat.{ℕ}
 use Rattle.paper.specs.declared.Part.{Part}
 use Rattle.paper.specs.Refusals.{Res}
-use Rattle.rma.specs.Asked.{sideIn}
+use Rattle.asked.specs.Asked.{sideIn}
 use denote.Ref.{now}
 use Rattle.paper.specs.Stretch.{Side, stretch}
 use Rattle.paper.specs.Answers.{stretchSaid}
 use mathlib.Core.Path.{ap, ap₂, sym, refl, _∙_}
-use Rattle.rma.specs.Heads.{side-told}
-use Rattle.rma.specs.Speaking.{speak-got, speak-refused}
+use Rattle.asked.specs.Heads.{side-told}
+use Rattle.said.specs.Speaking.{speak-got, speak-refused}
 use borrow.Author.Needs.{needs}
 use Rattle.rma.proofs.rma_stretch.Statement.{statement}
 use Rattle.rma.proofs.rma_stretch.Tie as tie

@@ -1,7 +1,7 @@
 -- `rma::rma_total` meets its contract: the total’s cell is said.
 use Rattle.paper.specs.Answers.{totalSaid}
 use mathlib.Core.Path.{ap, sym, _∙_}
-use Rattle.rma.specs.Speaking.{told-as, speak-got, speak-refused}
+use Rattle.said.specs.Speaking.{told-as, speak-got, speak-refused}
 use borrow.Author.Needs.{needs}
 use Rattle.rma.proofs.rma_total.Statement.{statement}
 use Rattle.rma.proofs.rma_total.Tie as tie

@@ -1,14 +1,14 @@
 -- `rma::rma_walk` meets its contract: the step’s answer is said, and the place after it is put where the place stood.
 use mathlib.Core.Path.{_≡_}
 use mathlib.Core.List.{List}
-use Rattle.rma.specs.Asked.{placeIn}
+use Rattle.asked.specs.Asked.{placeIn}
 use denote.Ref.{now}
 use Prim.Native.Nat.{ℕ}
-use Rattle.rma.specs.Asked.{placeAfter}
+use Rattle.asked.specs.Asked.{placeAfter}
 use Rattle.paper.specs.Reference.{Walked, walk}
 use Rattle.paper.specs.Answers.{seenSaid}
 use mathlib.Core.Path.{ap, sym, _∙_}
-use Rattle.rma.specs.Speaking.{speak-got, speak-refused}
+use Rattle.said.specs.Speaking.{speak-got, speak-refused}
 use borrow.Author.Needs.{needs}
 use Rattle.rma.proofs.rma_walk.Statement.{statement}
 use Rattle.rma.proofs.rma_walk.Tie as tie

@@ -1,7 +1,7 @@
 -- `rma::say_part` meets its contract: the side, and the bytes from and up to which the part lies.
-use Rattle.rma.specs.Given.{partBytes}
+use Rattle.said.specs.Given.{partBytes}
 use mathlib.Core.Path.{ap, sym, _∙_}
-use Rattle.rma.specs.Speaking.{told-as, three-numbers}
+use Rattle.said.specs.Speaking.{told-as, three-numbers}
 use borrow.Author.Needs.{needs}
 use Rattle.rma.proofs.say_part.Statement.{statement}
 use Rattle.rma.proofs.say_part.Tie as tie

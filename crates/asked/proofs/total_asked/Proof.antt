@@ -1,0 +1,52 @@
+-- `asked::total_asked` meets its contract: each number is its total's, any other is none's.
+use denote.Ref.{now}
+use mathlib.Core.Path.{ap, _∙_}
+use borrow.Author.Needs.{needs}
+use Rattle.paper.specs.Numbers.{nth}
+use Rattle.asked.specs.Asked.{allTotals}
+use Rattle.asked.specs.Pieces.{total-named, total-none}
+use Rattle.asked.proofs.total_asked.Statement.{statement}
+use Rattle.asked.proofs.total_asked.Tie as tie
+
+returns : tie.Need-returns
+returns c =
+    let a = c .before .before .before .args in
+    c .total .ensures ∙ total-named (now (a .s)) (a .k) (a .which) _ (ap (nth allTotals) (c .before .match .keys1))
+
+returns-2 : tie.Need-returns-2
+returns-2 c =
+    let a = c .before .before .before .args in
+    c .total2 .ensures ∙ total-named (now (a .s)) (a .k) (a .which) _ (ap (nth allTotals) (c .before .match .keys2))
+
+returns-3 : tie.Need-returns-3
+returns-3 c =
+    let a = c .before .before .before .args in
+    c .total3 .ensures ∙ total-named (now (a .s)) (a .k) (a .which) _ (ap (nth allTotals) (c .before .match .keys3))
+
+returns-4 : tie.Need-returns-4
+returns-4 c =
+    let a = c .before .before .before .args in
+    c .total4 .ensures ∙ total-named (now (a .s)) (a .k) (a .which) _ (ap (nth allTotals) (c .before .match .keys4))
+
+returns-5 : tie.Need-returns-5
+returns-5 c =
+    let a = c .before .before .before .args in
+    c .total5 .ensures ∙ total-named (now (a .s)) (a .k) (a .which) _ (ap (nth allTotals) (c .before .match .keys5))
+
+returns-6 : tie.Need-returns-6
+returns-6 c =
+    let a = c .before .before .before .args in
+    c .total6 .ensures ∙ total-named (now (a .s)) (a .k) (a .which) _ (ap (nth allTotals) (c .before .match .keys6))
+
+returns-7 : tie.Need-returns-7
+returns-7 c =
+    let a = c .before .before .before .args in
+    let r = c .before .match .rest in
+    c .no-total .ensures ∙ total-none (now (a .s)) (a .k) (a .which) (r .0 .0 .0 .0 .0 .1) (r .0 .0 .0 .0 .1) (r .0 .0 .0 .1) (r .0 .0 .1) (r .0 .1) (r .1)
+
+pub total-asked-spec : {M : Type 1} → statement M
+total-asked-spec =
+    tie.close
+    (tie.spec
+    (λ c κs. search needs) (λ c κs. search needs) (λ c κs. search needs) (λ c κs. search needs) (λ c κs. search needs)
+    (λ c κs. search needs) (λ c κs. search needs) returns returns-2 returns-3 returns-4 returns-5 returns-6 returns-7)

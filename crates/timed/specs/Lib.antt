@@ -1,2 +1,0 @@
--- The one number that the benchmark's driver reads.
-pub mod Coded

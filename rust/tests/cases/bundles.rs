@@ -1,0 +1,203 @@
+//! Bundles made up: arrays that are related to each other (equal extents, parts, continuations, one axis fewer), so that
+//! recipes over them have something to do, written to bytes without being judged.
+
+use super::cells::{self, Mood};
+use super::dice::Dice;
+
+#[derive(Clone, Debug, PartialEq)]
+pub struct RawAxis {
+    pub name: [u8; 8],
+    pub lower: i32,
+    pub upper: i32,
+    pub lowest: i32,
+    pub highest: i32,
+}
+
+#[derive(Clone, Debug)]
+pub struct RawArray {
+    pub of: u8,
+    pub count: u8,
+    pub axes: Vec<RawAxis>,
+    pub cells: Vec<[u8; 9]>,
+}
+
+const NAMES: [&str; 12] = ["x", "y", "z", "i", "j", "who", "turn", "abcdefgh", "a_1", "z9_z9_z9", "az", "x0"];
+
+pub fn eight(name: &str) -> [u8; 8] {
+    let mut eight = [0; 8];
+    eight[..name.len()].copy_from_slice(name.as_bytes());
+    eight
+}
+
+pub fn good_name(dice: &mut Dice) -> [u8; 8] {
+    eight(dice.pick(&NAMES))
+}
+
+pub fn bad_name(dice: &mut Dice) -> [u8; 8] {
+    let bad = ["aB", "1a", "_a", "", "a\0b", "a b", "A", "a{", "a`", "a/", "a:", "abcdefg ", "\0a", "abcdefgH", "a-", "a@", "a["];
+    let mut name = eight(dice.pick(&bad));
+    if dice.one_in(5) {
+        name[dice.index(8)] = 128 + dice.below(128) as u8;
+    }
+    name
+}
+
+impl RawAxis {
+    pub fn width(&self) -> usize {
+        (i64::from(self.upper) - i64::from(self.lower) + 1).max(0) as usize
+    }
+
+    fn bytes(&self) -> Vec<u8> {
+        let limits = [self.lower, self.upper, self.lowest, self.highest];
+        self.name.iter().copied().chain(limits.iter().flat_map(|limit| limit.to_le_bytes())).collect()
+    }
+}
+
+impl RawArray {
+    pub fn axis_bytes(&self) -> Vec<u8> {
+        self.axes.iter().flat_map(RawAxis::bytes).collect()
+    }
+
+    pub fn cell_bytes(&self) -> Vec<u8> {
+        self.cells.concat()
+    }
+
+    pub fn fill(&mut self, dice: &mut Dice, mood: Mood) {
+        let count = self.axes.iter().map(RawAxis::width).product();
+        self.cells = (0..count).map(|_| cells::cell(dice, self.of, mood)).collect();
+    }
+}
+
+/// The bytes of a bundle of these arrays, sound or not.
+pub fn bundle_bytes(arrays: &[RawArray]) -> Vec<u8> {
+    let mut bytes = b"RMA\x01\x00".to_vec();
+    bytes.push(arrays.len() as u8);
+    for array in arrays {
+        bytes.extend([array.of, array.count]);
+        bytes.extend(array.axis_bytes());
+        bytes.extend(array.cell_bytes());
+    }
+    bytes
+}
+
+/// 1 to 4 sound arrays, each after the first mostly related to an earlier one.
+pub fn arrays(dice: &mut Dice, moody: fn(&mut Dice) -> Mood) -> Vec<RawArray> {
+    let count = dice.pick(&[1, 1, 2, 2, 2, 3, 3, 4]);
+    let mut arrays: Vec<RawArray> = vec![];
+    for _ in 0..count {
+        let mut array = fresh(dice);
+        if !arrays.is_empty() && !dice.one_in(6) {
+            let other = dice.index(arrays.len());
+            array = related(dice, &arrays[other]);
+        }
+        for axis in &mut array.axes {
+            declare(dice, axis);
+        }
+        array.count = array.axes.len() as u8;
+        let mood = moody(dice);
+        array.fill(dice, mood);
+        arrays.push(array);
+    }
+    arrays
+}
+
+/// Any mood, for questions to one array.
+pub fn any_mood(dice: &mut Dice) -> Mood {
+    dice.pick(&cells::MOODS)
+}
+
+/// An array of any type with a new extent: mostly small, now and then as large as may be.
+fn fresh(dice: &mut Dice) -> RawArray {
+    let of = dice.pick(&[1, 1, 1, 1, 2, 2, 2, 3, 3]);
+    let widths: Vec<i32> = match dice.below(400) {
+        0 => vec![64, 64],
+        1 => vec![4_096],
+        2 => vec![dice.between(2, 9), dice.between(2, 9), dice.between(2, 8), dice.between(2, 6)],
+        3 => vec![8, 8, 8, 8],
+        4..=12 => vec![dice.between(1, 60)],
+        _ => {
+            let count = dice.pick(&[1, 2, 2, 2, 2, 3, 3, 4]);
+            (0..count).map(|_| dice.pick(&[1, 2, 2, 2, 3, 3, 4])).collect()
+        }
+    };
+    let mut axes: Vec<RawAxis> = vec![];
+    for width in widths {
+        let lower = match dice.below(40) {
+            0 => -1_000_000,
+            1 => 1_000_000 - (width - 1),
+            _ => dice.between(-3, 3),
+        };
+        let name = new_name(dice, &axes);
+        axes.push(RawAxis { name, lower, upper: lower + width - 1, lowest: -1_000_000, highest: 1_000_000 });
+    }
+    RawArray { of, count: axes.len() as u8, axes, cells: vec![] }
+}
+
+/// A name that none of the axes has.
+pub fn new_name(dice: &mut Dice, axes: &[RawAxis]) -> [u8; 8] {
+    loop {
+        let name = good_name(dice);
+        if axes.iter().all(|axis| axis.name != name) {
+            return name;
+        }
+    }
+}
+
+/// An array whose extent has to do with another's: equal, a part, moved, longer on one axis, one axis fewer or more.
+fn related(dice: &mut Dice, other: &RawArray) -> RawArray {
+    let mut array = other.clone();
+    if dice.one_in(5) {
+        array.of = dice.pick(&[1, 2, 3]);
+    }
+    let which = dice.index(array.axes.len());
+    match dice.below(10) {
+        0..=3 => {}
+        4 => array.axes.iter_mut().for_each(|axis| part(dice, axis)),
+        5 if dice.one_in(2) => nudge(dice, &mut array.axes),
+        5 => part(dice, &mut array.axes[which]),
+        6 => {
+            let by = dice.between(-2, 2);
+            array.axes[which].lower = (array.axes[which].lower + by).clamp(-1_000_000, 999_990);
+            array.axes[which].upper = array.axes[which].lower + dice.between(0, 2);
+        }
+        7 | 8 if array.axes.len() > 1 => {
+            array.axes.remove(which);
+            if dice.one_in(3) {
+                nudge(dice, &mut array.axes);
+            }
+        }
+        9 if array.axes.len() < 4 && other.cells.len() < 200 => {
+            let name = new_name(dice, &array.axes);
+            array.axes.insert(which, RawAxis { name, lower: 0, upper: dice.between(0, 2), lowest: 0, highest: 0 });
+        }
+        _ => {}
+    }
+    if array.axes.iter().map(RawAxis::width).product::<usize>() > 4_096 {
+        return other.clone();
+    }
+    array
+}
+
+/// One of the axes longer by one at either end.
+fn nudge(dice: &mut Dice, axes: &mut [RawAxis]) {
+    let which = dice.index(axes.len());
+    if dice.one_in(2) {
+        axes[which].lower = (axes[which].lower - 1).max(-1_000_000);
+    } else {
+        axes[which].upper = (axes[which].upper + 1).min(1_000_000);
+    }
+}
+
+/// An axis cut to a part of itself.
+fn part(dice: &mut Dice, axis: &mut RawAxis) {
+    let lower = dice.between(axis.lower, axis.upper);
+    axis.upper = dice.between(lower, axis.upper);
+    axis.lower = lower;
+}
+
+/// A maximum that holds the extent: equal, `*`, wider on either side.
+pub fn declare(dice: &mut Dice, axis: &mut RawAxis) {
+    let wide = |dice: &mut Dice| dice.pick(&[0, 0, 1, 2, 5, 100, 3_000_000]);
+    axis.lowest = axis.lower.saturating_sub(wide(dice)).max(-1_000_000);
+    axis.highest = axis.upper.saturating_add(wide(dice)).min(1_000_000);
+}

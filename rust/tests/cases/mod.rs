@@ -1,0 +1,103 @@
+//! The cases that library and paper are both asked: which function, the shared inputs, the numbers, and the lent buffers
+//! with what they hold before. The submodules make them up, from a seed.
+
+pub mod answers;
+pub mod bundles;
+pub mod cells;
+pub mod dice;
+pub mod faults;
+pub mod packs;
+pub mod printed;
+pub mod questions;
+pub mod recipes;
+pub mod runs;
+pub mod steps;
+pub mod stretches;
+
+use dice::Dice;
+
+#[derive(Clone, Copy, Debug, PartialEq, Eq)]
+pub enum Function {
+    Read,
+    Array,
+    Pack,
+    Refer,
+    Walk,
+    Total,
+    Run,
+    Page,
+    Stretch,
+}
+
+/// Each function with its name and its weight among the cases.
+pub const FUNCTIONS: [(Function, &str, u64); 9] = [
+    (Function::Read, "rma_read", 20),
+    (Function::Array, "rma_array", 12),
+    (Function::Pack, "rma_pack", 22),
+    (Function::Refer, "rma_refer", 24),
+    (Function::Walk, "rma_walk", 20),
+    (Function::Total, "rma_total", 26),
+    (Function::Run, "rma_run", 40),
+    (Function::Page, "rma_page", 52),
+    (Function::Stretch, "rma_stretch", 24),
+];
+
+/// The arguments of one call: slices that are only read, numbers, and lent buffers (`said` is the last), each in order.
+#[derive(Clone, Debug)]
+pub struct Case {
+    pub function: Function,
+    pub shared: Vec<Vec<u8>>,
+    pub numbers: Vec<u32>,
+    pub lent: Vec<Vec<u8>>,
+}
+
+/// What one call gave: the number of its refusal, 0 for none, and every lent buffer after.
+#[derive(Clone, Debug, PartialEq, Eq)]
+pub struct Answer {
+    pub number: u32,
+    pub lent: Vec<Vec<u8>>,
+}
+
+impl Case {
+    pub fn name(&self) -> &'static str {
+        FUNCTIONS[self.function as usize].1
+    }
+}
+
+/// One case of that function, or a chain of cases that follow from each other.
+pub fn of_function(dice: &mut Dice, function: Function) -> Vec<Case> {
+    match function {
+        Function::Read => vec![questions::read(dice)],
+        Function::Array => vec![questions::array(dice)],
+        Function::Pack => packs::packs(dice),
+        Function::Refer => questions::refers(dice),
+        Function::Walk => questions::walks(dice),
+        Function::Total => questions::totals(dice),
+        Function::Run => vec![runs::run(dice)],
+        Function::Page => runs::pages(dice),
+        Function::Stretch => stretches::stretches(dice),
+    }
+}
+
+/// A buffer for the answer: mostly room for every answer, sometimes less; filled with random bytes.
+pub fn said(dice: &mut Dice) -> Vec<u8> {
+    let length = match dice.below(20) {
+        0..=11 => 16,
+        12..=16 => dice.between(17, 40) as usize,
+        _ => dice.index(16),
+    };
+    dice.bytes(length)
+}
+
+/// A buffer to be lent where `right` bytes are needed: now right, now longer, now short; filled with random bytes.
+pub fn lent(dice: &mut Dice, right: usize) -> Vec<u8> {
+    let length = match dice.below(24) {
+        0..=11 => right,
+        12..=14 => right + 1 + dice.index(8),
+        15..=20 => right + dice.index(64),
+        21 => right.saturating_sub(1),
+        22 => 0,
+        _ => dice.index(right + 1),
+    };
+    dice.bytes(length)
+}

@@ -1,0 +1,157 @@
+//! The cases that the paper itself prints: the example of eleven hours, whole, and "Both sides of each line".
+//! Each is put to whoever answers (paper or library) and held against the values printed.
+
+use super::bundles::{bundle_bytes, eight, RawArray, RawAxis};
+use super::cells::filled;
+use super::steps::{numbers, step};
+use super::{Answer, Case, Function};
+
+type Ask<'a> = &'a dyn Fn(&Case) -> Answer;
+type Limits<'a> = (&'a str, i32, i32);
+
+const EMPTY: i64 = i64::MIN + 7;
+
+/// An INT array with declared maximum `*`; EMPTY stands for an empty cell.
+fn ints(axes: &[Limits], values: &[i64]) -> RawArray {
+    let axis = |&(name, lower, upper): &Limits| RawAxis { name: eight(name), lower, upper, lowest: -1_000_000, highest: 1_000_000 };
+    let cell = |&value: &i64| if value == EMPTY { [0; 9] } else { filled(value as u64) };
+    let axes: Vec<RawAxis> = axes.iter().map(axis).collect();
+    RawArray { of: 1, count: axes.len() as u8, axes, cells: values.iter().map(cell).collect() }
+}
+
+fn counting(count: i64) -> Vec<i64> {
+    (1..=count).collect()
+}
+
+fn run_of(arrays: &[RawArray], recipe: &[Vec<u8>], work: usize) -> Case {
+    let lent = vec![vec![0x77; work], vec![0x77; 16]];
+    Case { function: Function::Run, shared: vec![bundle_bytes(arrays), recipe.concat()], numbers: vec![], lent }
+}
+
+fn page_of(arrays: &[RawArray], recipe: &[Vec<u8>], work: usize, start: u32) -> Case {
+    let lent = vec![vec![0x77; work], vec![0x77; 200], vec![0x77; 16]];
+    Case { function: Function::Page, shared: vec![bundle_bytes(arrays), recipe.concat()], numbers: vec![start], lent }
+}
+
+fn refer_to(array: &RawArray, coordinate: &[i32]) -> Case {
+    let shared = vec![bundle_bytes(std::slice::from_ref(array)), numbers(coordinate)];
+    Case { function: Function::Refer, shared, numbers: vec![1], lent: vec![vec![0x77; 16]] }
+}
+
+fn right_scalar(a: u8, operator: u8, scalar: i64) -> Vec<u8> {
+    step(10, a, 0, 0, &[&[operator, 0, 0, 0], scalar.to_le_bytes().as_slice()].concat())
+}
+
+fn said_number(answer: &Answer, at: usize) -> u32 {
+    let said = answer.lent.last().expect("said");
+    u32::from_le_bytes(said[4 * at..4 * at + 4].try_into().expect("four bytes"))
+}
+
+/// Number, place and ordinality of a refusal.
+fn refused(answer: &Answer) -> [u32; 3] {
+    [answer.number, said_number(answer, 0), said_number(answer, 1)]
+}
+
+fn said_cell(answer: &Answer) -> &[u8] {
+    assert_eq!(answer.number, 0);
+    &answer.lent.last().expect("said")[..9]
+}
+
+fn cells_of(values: &[i64]) -> Vec<u8> {
+    ints(&[], values).cell_bytes()
+}
+
+fn starts_and_ends() -> Vec<RawArray> {
+    let axes = [("who", 1, 2), ("turn", 1, 3)];
+    vec![ints(&axes, &[1320, 2760, 4200, 360, 1200, 3240]), ints(&axes, &[1800, 3240, 4680, 840, 1680, 3720])]
+}
+
+pub fn eleven_hours(ask: Ask) {
+    let arrays = starts_and_ends();
+    let trim_starts = step(1, 1, 0, 0, &numbers(&[1, 2, 2, 3]));
+    let shift = step(4, 17, 0, 0, &numbers(&[0, -1]));
+    let trim_ends = step(1, 2, 0, 0, &numbers(&[1, 2, 1, 2]));
+    let whole = [trim_starts.clone(), shift, trim_ends.clone(), step(9, 18, 19, 0, &[2]), right_scalar(20, 8, 660)];
+    let answer = ask(&page_of(&arrays, &whole, 180, 1));
+    assert_eq!((answer.number, said_number(&answer, 0), said_number(&answer, 1)), (0, 1, 5), "found 1");
+    assert_eq!(answer.lent[1][..12], numbers(&[3, 2, 1]), "3 2 1");
+    assert!(answer.lent[1][12..].iter().all(|&byte| byte == 0x77), "bytes after the rows stay");
+    assert_eq!(answer.lent[0][108..144], cells_of(&[960, 960, 360, 1560]), "the rests");
+    assert_eq!(refused(&ask(&page_of(&arrays, &whole, 179, 1))), [10, 0, 0]);
+    let without = [trim_starts, trim_ends, step(9, 17, 18, 0, &[2]), right_scalar(19, 8, 660)];
+    assert_eq!(refused(&ask(&page_of(&arrays, &without, 180, 1))), [8, 3, 0], "without the shift");
+}
+
+pub fn places(ask: Ask) {
+    let cube = ints(&[("x", 0, 1), ("y", 1, 2), ("z", 2, 3)], &counting(8));
+    for (coordinate, number) in [([0, 1, 2], 1), ([1, 1, 2], 5), ([1, 2, 3], 8)] {
+        assert_eq!(said_cell(&ask(&refer_to(&cube, &coordinate))), filled(number), "{coordinate:?}");
+        let answer = ask(&page_of(std::slice::from_ref(&cube), &[right_scalar(1, 6, number as i64)], 72, 1));
+        let row = [&[number as i32], coordinate.as_slice()].concat();
+        assert_eq!(answer.lent[1][..16], numbers(&row), "ordinality of {coordinate:?}");
+    }
+    let mut square = ints(&[("i", -1, 1), ("j", -1, 1)], &counting(9));
+    square.axes.iter_mut().for_each(|axis| (axis.lowest, axis.highest) = (-100, 100));
+    assert_eq!(said_cell(&ask(&refer_to(&square, &[0, 0]))), filled(5));
+    assert_eq!(said_cell(&ask(&refer_to(&square, &[50, 0]))), [0; 9]);
+    assert_eq!(refused(&ask(&refer_to(&square, &[-1, 1000]))), [6, 1, 0]);
+    let trim = |lower: i32| [step(1, 1, 0, 0, &numbers(&[lower, 1, -1, 1]))];
+    let done = ask(&run_of(std::slice::from_ref(&square), &trim(-1), 81));
+    assert_eq!((done.number, said_number(&done, 0)), (0, 9));
+    assert_eq!(refused(&ask(&run_of(&[square], &trim(-2), 81))), [6, 1, 0]);
+}
+
+pub fn gluing(ask: Ask) {
+    let square = ints(&[("i", -1, 1), ("j", -1, 1)], &counting(9));
+    let line = ints(&[("i", 0, 0), ("j", -1, 1)], &[31, 32, 33]);
+    let both = [square.clone(), line.clone()];
+    let answer = ask(&run_of(&both, &[step(8, 1, 2, 1, &[])], 108));
+    assert_eq!((answer.number, said_number(&answer, 0)), (0, 12));
+    assert_eq!(answer.lent[0][81..90], filled(31), "ordinality 10 is the second's first cell");
+    let listed = ask(&page_of(&both, &[step(8, 1, 2, 1, &[]), right_scalar(17, 6, 31)], 216, 1));
+    assert_eq!(listed.lent[1][..12], numbers(&[10, 2, -1]), "i(-1:2)");
+    let head = |array: &RawArray| {
+        let mut head = [&[array.of, array.count], array.axis_bytes().as_slice()].concat();
+        head.resize(98, 0);
+        head
+    };
+    let shared = vec![head(&square), square.cell_bytes(), head(&line), line.cell_bytes()];
+    let stretch = Case { function: Function::Stretch, shared, numbers: vec![1, 10], lent: vec![vec![0x77; 16]] };
+    let answer = ask(&stretch);
+    let part = [answer.number, said_number(&answer, 0), said_number(&answer, 1), said_number(&answer, 2)];
+    assert_eq!(part, [0, 2, 0, 27], "the right buffer, whole");
+}
+
+pub fn values(ask: Ask) {
+    let one = |value: i64| [ints(&[("x", 1, 1)], &[value])];
+    let value = |left: i64, operator: u8, right: i64| ask(&run_of(&one(left), &[right_scalar(1, operator, right)], 9));
+    assert_eq!(value(7, 4, -2).lent[0], filled(-3i64 as u64));
+    assert_eq!(value(-7, 5, 2).lent[0], filled(-1i64 as u64));
+    assert_eq!(value(i64::MIN, 5, -1).lent[0], filled(0));
+    assert_eq!(value(EMPTY, 4, 0).lent[0], [0; 9]);
+    assert_eq!(value(EMPTY, 4, 0).number, 0);
+    let refusal = value(i64::MIN, 4, -1);
+    assert_eq!((refused(&refusal), refusal.lent[0].as_slice()), ([12, 1, 1], [0; 9].as_slice()));
+    let sum = |values: &[i64]| {
+        let bundle = bundle_bytes(&[ints(&[("x", 1, values.len() as i32)], values)]);
+        ask(&Case { function: Function::Total, shared: vec![bundle], numbers: vec![1, 5], lent: vec![vec![0x77; 16]] })
+    };
+    assert_eq!(said_cell(&sum(&[i64::MAX, 1, -1])), filled(i64::MAX as u64));
+    assert_eq!(refused(&sum(&[i64::MAX, 1])), [12, 1, 0]);
+}
+
+pub fn ends(ask: Ask) {
+    let edge = ints(&[("x", -1_000_000, -999_999)], &[1, 2]);
+    assert_eq!(refused(&ask(&run_of(&[edge], &[step(4, 1, 0, 0, &numbers(&[-1]))], 18))), [9, 1, 0]);
+    let four = [ints(&[("x", 1, 4)], &counting(4))];
+    let page = |start: u32| ask(&page_of(&four, &[right_scalar(1, 10, 0)], 36, start));
+    let answer = page(5);
+    assert_eq!((answer.number, said_number(&answer, 0), said_number(&answer, 1)), (0, 0, 5), "start 5 of 4 cells");
+    assert_eq!(refused(&page(6)), [11, 0, 0]);
+    let read = |array: RawArray| {
+        ask(&Case { function: Function::Read, shared: vec![bundle_bytes(&[array])], numbers: vec![], lent: vec![vec![0x77; 16]] })
+    };
+    let answer = read(ints(&[("x", 1, 64), ("y", 1, 64)], &counting(4_096)));
+    assert_eq!((answer.number, said_number(&answer, 0)), (0, 1), "64 by 64");
+    assert_eq!(refused(&read(ints(&[("x", 1, 4_097)], &counting(4_097)))), [2, 1, 0]);
+}

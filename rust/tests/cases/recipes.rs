@@ -1,0 +1,136 @@
+//! Recipes made up over a bundle: built step by step so that most pass and have values, with a loose step in some,
+//! and damaged afterwards in some.
+
+use super::dice::Dice;
+use super::faults::change_byte;
+use super::steps::{self, StepBytes};
+use crate::paper::array::{Array, Declared};
+use crate::paper::judge::{judge, Shapes};
+use crate::paper::moves::carry_out;
+
+/// A recipe in the making: the shapes so far, and the arrays so far while every value is known.
+struct Kitchen<'a> {
+    bundle: &'a [Declared],
+    shapes: Shapes,
+    results: Option<Vec<Array>>,
+    recipe: Vec<u8>,
+    most_cells: u128,
+}
+
+/// What a recipe should come to: a last step in truth values, a value that refuses.
+#[derive(Clone, Copy)]
+pub struct Aim {
+    pub truth: bool,
+    pub refusing: bool,
+}
+
+/// A recipe over the bundle that mostly comes to its aim.
+pub fn recipe(dice: &mut Dice, bundle: &[Declared], aim: Aim) -> Vec<u8> {
+    let shapes = Shapes { bundle: bundle.iter().map(|declared| declared.array.shape()).collect(), steps: vec![] };
+    let most_cells = dice.pick(&[48, 48, 48, 4_096]);
+    let mut kitchen = Kitchen { bundle, shapes, results: Some(vec![]), recipe: vec![], most_cells };
+    let count = match dice.below(20) {
+        0 => 16,
+        1..=3 => 7 + dice.index(10),
+        _ => 1 + dice.index(6),
+    };
+    let loose_at = if dice.one_in(3) { dice.index(count) } else { count };
+    let refusing_at = if aim.refusing { dice.index(count) } else { count };
+    for number in 0..count {
+        if number == loose_at {
+            let bytes = if dice.one_in(2) { steps::loose(dice, &kitchen.shapes) } else { steps::aimed(dice, &kitchen.shapes) };
+            kitchen.add(&bytes);
+        } else if number != refusing_at || !kitchen.add_refusing(dice) {
+            kitchen.add_fitting(dice, aim.truth && number + 1 == count);
+        }
+    }
+    let mut recipe = kitchen.recipe;
+    if dice.one_in(9) {
+        damage(dice, &mut recipe);
+    }
+    recipe
+}
+
+impl Kitchen<'_> {
+    /// A step that passes and has values, after a few tries; if none does, is-empty of the latest.
+    fn add_fitting(&mut self, dice: &mut Dice, truth: bool) {
+        for _ in 0..24 {
+            let proposed = if truth { steps::truth(dice, &self.shapes) } else { steps::fitting(dice, &self.shapes) };
+            let passes = |bytes: &StepBytes| self.passes(bytes);
+            if let Some(bytes) = proposed.filter(passes) {
+                return self.add(&bytes);
+            }
+        }
+        let latest = steps::operand(dice, &self.shapes);
+        self.add(&steps::step(12, latest, 0, 0, &[4]));
+    }
+
+    /// A step that is judged good and has a cell that refuses, if one is found in a few tries.
+    fn add_refusing(&mut self, dice: &mut Dice) -> bool {
+        for _ in 0..24 {
+            let Some(bytes) = steps::risky(dice, &self.shapes) else { continue };
+            let refuses = |results: &Vec<Array>| self.carried_out(&bytes, results).is_none();
+            if judge(&bytes, &self.shapes).is_ok() && self.results.as_ref().is_some_and(refuses) {
+                self.add(&bytes);
+                return true;
+            }
+        }
+        false
+    }
+
+    /// Whether the step is judged good, its result not too large, and no cell of it refuses.
+    fn passes(&self, bytes: &[u8]) -> bool {
+        let Ok((_, shape)) = judge(bytes, &self.shapes) else { return false };
+        let small = shape.extent.cells() <= self.most_cells;
+        small && self.results.as_ref().is_none_or(|results| self.carried_out(bytes, results).is_some())
+    }
+
+    fn carried_out(&self, bytes: &[u8], results: &[Array]) -> Option<Array> {
+        let (step, shape) = judge(bytes, &self.shapes).ok()?;
+        let operand = |which: u8| match which {
+            1..=4 => &self.bundle[usize::from(which) - 1].array,
+            _ => &results[usize::from(which) - 17],
+        };
+        let b = step.uses_b().then(|| operand(step.b));
+        carry_out(&step, &shape, operand(step.a), b).ok()
+    }
+
+    /// The step as it is. If it doesn't pass, later steps see A's shape in its stead.
+    fn add(&mut self, bytes: &[u8]) {
+        let known = self.results.take();
+        self.results = known.and_then(|mut results| {
+            results.push(self.carried_out(bytes, &results)?);
+            Some(results)
+        });
+        let stead = self.shapes.operand(bytes[1]).cloned();
+        let shape = judge(bytes, &self.shapes).ok().map(|(_, shape)| shape).or(stead);
+        self.shapes.steps.extend(shape);
+        self.recipe.extend(bytes);
+    }
+}
+
+/// One fault in the recipe's bytes.
+fn damage(dice: &mut Dice, recipe: &mut Vec<u8>) {
+    let count = recipe.len() / 36;
+    let at = 36 * dice.index(count);
+    match dice.below(16) {
+        0 => change_byte(dice, recipe),
+        1 => recipe.truncate(dice.index(recipe.len())),
+        2 => recipe.resize(recipe.len() + 1 + dice.index(40), 0),
+        3 => recipe.clear(),
+        4 => {
+            let last = recipe[recipe.len() - 36..].to_vec();
+            (count..17).for_each(|_| recipe.extend(&last));
+        }
+        5 => recipe[at] = dice.pick(&[0, 13, 255, 14]),
+        6 => recipe[at + 1 + dice.index(2)] = dice.pick(&[0, 5, 16, 33, 255, 32, 17 + (at / 36) as u8, 4, 3]),
+        7 => recipe[at + 3] = dice.pick(&[0, 1, 2, 5, 255]),
+        8 => recipe[at + 4] = dice.pick(&[0, 14, 255, 5, 13]),
+        9 => recipe[at + 4 + dice.index(32)] = 1 + dice.below(255) as u8,
+        10 | 11 => recipe[at + dice.pick(&[5, 6, 7, 2, 3, 16, 35])] = 1,
+        _ => {
+            let slot = at + 4 + 4 * dice.index(4);
+            recipe[slot..slot + 4].copy_from_slice(&dice.extreme().to_le_bytes());
+        }
+    }
+}

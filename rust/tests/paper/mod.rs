@@ -1,0 +1,19 @@
+//! Paper 01 in plain Rust, written from its words alone and sharing nothing with the engine that is proved.
+//! An array is a map from coordinate to cell, and each operation is said over coordinates, as the paper says it.
+//! `face` answers the nine callable parts with it; bytes are met only in `bytes`, `bundle`, `recipe` and `face`.
+
+pub mod array;
+pub mod bundle;
+pub mod bytes;
+pub mod cell;
+pub mod extent;
+pub mod face;
+pub mod judge;
+pub mod listing;
+pub mod moves;
+pub mod pack;
+pub mod question;
+pub mod recipe;
+pub mod refusal;
+pub mod stretch;
+pub mod values;

@@ -1,0 +1,19 @@
+//! A refusal: its number in the paper's table, its place (array, step, side or 0) and its ordinality
+//! (with 3, 12 and 13; else 0).
+
+#[derive(Clone, Copy, Debug, PartialEq, Eq)]
+pub struct Refusal {
+    pub number: u32,
+    pub place: u32,
+    pub ordinality: u32,
+}
+
+/// A refusal that names no cell.
+pub fn refused(number: u32, place: u32) -> Refusal {
+    Refusal { number, place, ordinality: 0 }
+}
+
+/// A refusal that names a cell by its ordinality.
+pub fn refused_at(number: u32, place: u32, ordinality: u32) -> Refusal {
+    Refusal { number, place, ordinality }
+}
