@@ -17,6 +17,7 @@ use Rattle.paper.specs.Axes.{Shape, shaped}
 use Rattle.paper.specs.Bundle.{axisOf, maximumOf, eachAxis}
 use Rattle.paper.specs.Answers.{extentOf}
 use Rattle.laws.specs.Answers.{formOf, extent-axes, form-shape, noHead}
+use Rattle.parts.specs.Axes.{length-each}
 use Rattle.pack.specs.Laid.{heldShape, shapesOf, shapes-few, held-whole}
 use Rattle.stretch.specs.Sides.{axesTold, sided, told-axes}
 use Rattle.asked.specs.declared.Forms.{Forms}
@@ -58,11 +59,6 @@ form-told s at rank E M r e m =
     λ i. record { kind = k i; extent = a i; maximum = b i }
 
 -- it has no more axes than there is room for
-length-each : (f : List ℕ → Axis) (n : ℕ) (bs : List ℕ) → length (eachAxis f n bs) ≡ n
-unfolding eachAxis
-length-each f zero bs = refl
-length-each f (suc n) bs = ap suc (length-each f n (drop axisBytes bs))
-
 shape-room : (bs : List ℕ) → (length (shapeIn bs .axes) ≤ mostAxes) × (length (shapeIn bs .maximum) ≤ mostAxes)
 unfolding shapeIn
 shape-room bs =

@@ -2,12 +2,10 @@
 ghost use mathlib.Core.Path.{_≡_};
 ghost use Prim.Native.Nat.{_+_, _*_, _≤_, _<_};
 ghost use lib.ListN.{length, drop};
-ghost use mir.Syntax.{w32};
-ghost use mir.Val.{toZ};
 ghost use Rattle.paper.specs.Limits.{limitBytes};
 ghost use Rattle.paper.specs.Refusals.{refused, refusal};
 ghost use Rattle.paper.specs.Numbers.{signedAt};
-ghost use Rattle.paper.specs.Reference.{reference, chosen};
+ghost use Rattle.paper.specs.Reference.{reference};
 ghost use Rattle.paper.specs.Answers.{referenceSaid, totalSaid};
 ghost use Rattle.laws.specs.Answers.{formOf};
 ghost use Rattle.asked.specs.Asked.{headLength, pieces, slots, shapeIn, sideShape, coordinateIn, placeIn, placeAfter, noTotal, totalAsked};

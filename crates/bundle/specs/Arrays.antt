@@ -22,6 +22,7 @@ use Rattle.paper.specs.Answers.{axesOf, extentOf, shapeOf, unless}
 use Rattle.laws.specs.Judged.{firstBad, cellsFrom, judged, cells-judged}
 use Rattle.laws.specs.Answers.{extent-axes, formOf}
 use Rattle.extent.specs.Judged.{cellsWithin, within-zero, within-some}
+use Rattle.parts.specs.Axes.{length-each}
 use Rattle.bundle.specs.declared.One.{One}
 use Rattle.bundle.specs.Read.{cellsIn, arrayAt, oneOf, none, Fit, JudgedArray, ReadArray}
 
@@ -151,11 +152,6 @@ module _ (k : ℕ) (s : List ℕ) (at t n : ℕ) (et : t ≡ getD s at 0) (en : 
             let p : axesOf x ≡ E = ap axesOf ex ∙ extent-axes E in
             let q : axesOf m ≡ M = ap axesOf em ∙ extent-axes M in
             λ i. record { type = t; axes = p i; maximum = q i }
-
-        length-each : (g : List ℕ → Axis) (j : ℕ) (bs : List ℕ) → length (eachAxis g j bs) ≡ j
-        unfolding eachAxis
-        length-each g zero bs = refl
-        length-each g (suc j) bs = ap suc (length-each g j (drop axisBytes bs))
 
         pub head-rest : (r : One) → JudgedArray s (at + typeBytes + n * axisBytes) k form r → ReadArray s at k r
         head-rest r j =

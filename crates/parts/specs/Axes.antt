@@ -71,7 +71,8 @@ drop-set [] i a = refl
 drop-set (x ∷ l) zero a = refl
 drop-set (x ∷ l) (suc i) a = drop-set l i a
 
-length-each : (f : List ℕ → Axis) (n : ℕ) (bs : List ℕ) → length (eachAxis f n bs) ≡ n
+-- as many axes as are read
+pub length-each : (f : List ℕ → Axis) (n : ℕ) (bs : List ℕ) → length (eachAxis f n bs) ≡ n
 unfolding eachAxis
 length-each f zero bs = refl
 length-each f (suc n) bs = ap suc (length-each f n (drop axisBytes bs))

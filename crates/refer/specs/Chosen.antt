@@ -48,21 +48,22 @@ none-chosen bs k r x e h q =
       fit = λ f. absurd (h (sym (ap (λ (c : Chosen). c .refusal .number) e) ∙ f));
     }
 
-nth-past : {A : Type 0} (l : List A) (k : ℕ) → length l < k → nth l k ≡ none
+-- past the end of a list there is nothing, and at k what stands there
+pub nth-past : {A : Type 0} (l : List A) (k : ℕ) → length l < k → nth l k ≡ none
 nth-past l zero h = refl
 nth-past [] (suc k) h = refl
 nth-past (a ∷ l) (suc zero) h = absurd (omega arith)
 nth-past (a ∷ l) (suc (suc k)) h = nth-past l (suc k) (omega arith)
 
-nth-some : (f : Head → Array) (l : List Head) (n k : ℕ) → 1 ≤ k → k ≤ n → n ≤ length l → nth (map f (take n l)) k ≡ some (f (getD l (k - 1) noHead))
-nth-some f l n zero h a b = absurd (omega arith)
-nth-some f [] n (suc k) h a b = absurd (omega arith)
-nth-some f (x ∷ l) zero (suc k) h a b = absurd (omega arith)
-nth-some f (x ∷ l) (suc n) (suc zero) h a b = refl
-nth-some f (x ∷ l) (suc n) (suc (suc k)) h a b =
+pub nth-some : {A B : Type 0} (f : A → B) (l : List A) (d : A) (n k : ℕ) → 1 ≤ k → k ≤ n → n ≤ length l → nth (map f (take n l)) k ≡ some (f (getD l (k - 1) d))
+nth-some f l d n zero h a b = absurd (omega arith)
+nth-some f [] d n (suc k) h a b = absurd (omega arith)
+nth-some f (x ∷ l) d zero (suc k) h a b = absurd (omega arith)
+nth-some f (x ∷ l) d (suc n) (suc zero) h a b = refl
+nth-some f (x ∷ l) d (suc n) (suc (suc k)) h a b =
     let e : suc k - 1 ≡ k = omega arith in
-    let d : suc (suc k) - 1 ≡ suc k = omega arith in
-    rw d (nth-some f l n (suc k) (omega arith) (omega arith) (omega arith) ∙ ap (λ (j : ℕ). some (f (getD l j noHead))) e)
+    let m : suc (suc k) - 1 ≡ suc k = omega arith in
+    rw m (nth-some f l d n (suc k) (omega arith) (omega arith) (omega arith) ∙ ap (λ (j : ℕ). some (f (getD l j d))) e)
 
 -- what an array of heads is read as past its end
 abbrev pub pastHead : Head
@@ -103,7 +104,7 @@ module _ (bs : List ℕ) (k : ℕ) (o : Reading) (v : ReadAll bs o) where
     unfolding chosen
     known a b r e =
         let z : eqb (o .refusal .number) 0 ≡ true = eq-eqb (o .refusal .number) 0 y in
-        let n = nth-some (arrayAt bs) (o .heads) (o .count) k a b (v .room) in
+        let n = nth-some (arrayAt bs) (o .heads) noHead (o .count) k a b (v .room) in
         record {
           said = ap (chosenOf bs) e ∙ rw (z, ← its-arrays, n) refl;
           fit = λ f. subst (λ (c : Chosen). Fit bs (c .head)) (sym e) (v .fit (k - 1) (omega arith));

@@ -2,7 +2,7 @@
 -- small enough for four bytes.
 use Prim.Native.Nat.{ℕ, zero, suc, _+_, _-_, _*_, _^_, _≤_, _<_}
 use mathlib.Core.Path.{_≡_, refl, sym, ap, ap₂, subst, _∙_}
-use mathlib.Core.Bool.{Bool, true, false}
+use mathlib.Core.Bool.{true, false}
 use mathlib.Core.List.{List, [], _∷_, map}
 use mathlib.Core.Option.{Option, none, some}
 use native.Mathlib.Omega.{arith}
@@ -10,7 +10,6 @@ use borrow.Author.Tests.{eq-eqb, ne-eqb, leb-true}
 use lib.Dec.{eqb, leb}
 use lib.ListN.{length, take, getD, length-map}
 use lib.Seq.{length-take-le}
-use Rattle.paper.specs.declared.Form.{Form}
 use Rattle.paper.specs.declared.Head.{Head}
 use Rattle.paper.specs.declared.Reading.{Reading}
 use Rattle.paper.specs.Limits.{mostArrays, mostAxes, mostCells, typeBytes, axisBytes, cellBytes}
@@ -21,12 +20,12 @@ use Rattle.paper.specs.Bundle.{markBytes, readBundle}
 use Rattle.paper.specs.Answers.{axesOf, shapeOf, lyingFrom, reading}
 use Rattle.laws.specs.Answers.{noHead}
 use Rattle.laws.specs.Numbers.{Bytes}
-use Rattle.laws.specs.Tests.{and-left, and-right, bind-got, got-one}
+use Rattle.laws.specs.Tests.{and-left, and-right, got-one}
 use Rattle.extent.specs.Judged.{good-small, goodCells}
 use Rattle.roundtrip.specs.Valid.{EachValid}
 use Rattle.roundtrip.specs.Reading.{bundle-read}
 use Rattle.bundle.specs.Read.{arrayAt, Fit, ReadAll}
-use Rattle.refer.specs.Chosen.{getD-any}
+use Rattle.refer.specs.Chosen.{nth-past, nth-some, getD-any}
 use Rattle.said.specs.Said.{numbers}
 use Rattle.asked.specs.Asked.{countOf, arrayTold}
 use Rattle.said.specs.Given.{arrayBytes}
@@ -54,23 +53,6 @@ lying-small (A ∷ As) i (suc (suc k)) x v e =
     omega (arith, leb-true (length (A .shape .axes)) mostAxes (and-right (leb 1 (length (A .shape .axes))) (leb (length (A .shape .axes)) mostAxes) (v .0 .rank)), good-small (A .shape .axes) (v .0 .extent) .few)
 
 -- ---- a bundle read
-
--- past the end of a list there is nothing, and at k what stands there
-nth-past : {A : Type 0} (l : List A) (k : ℕ) → length l < k → nth l k ≡ none
-nth-past l zero h = refl
-nth-past [] (suc k) h = refl
-nth-past (a ∷ l) (suc zero) h = absurd (omega arith)
-nth-past (a ∷ l) (suc (suc k)) h = nth-past l (suc k) (omega arith)
-
-nth-some : {A B : Type 0} (f : A → B) (l : List A) (d : A) (n k : ℕ) → 1 ≤ k → k ≤ n → n ≤ length l → nth (map f (take n l)) k ≡ some (f (getD l (k - 1) d))
-nth-some f l d n zero h a b = absurd (omega arith)
-nth-some f [] d n (suc k) h a b = absurd (omega arith)
-nth-some f (x ∷ l) d zero (suc k) h a b = absurd (omega arith)
-nth-some f (x ∷ l) d (suc n) (suc zero) h a b = refl
-nth-some f (x ∷ l) d (suc n) (suc (suc k)) h a b =
-    let e : suc k - 1 ≡ k = omega arith in
-    let m : suc (suc k) - 1 ≡ suc k = omega arith in
-    rw m (nth-some f l d n (suc k) (omega arith) (omega arith) (omega arith) ∙ ap (λ (j : ℕ). some (f (getD l j d))) e)
 
 -- what a head tells
 abbrev pub toldOf : Head → Shape × ℕ

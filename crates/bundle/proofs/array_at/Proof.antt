@@ -1,3 +1,4 @@
+-- `bundle::array_at` meets its contract.
 use Rattle.bundle.specs.Arrays.{read-none, head-type, head-count, head-short, head-rest}
 use Rattle.bundle.specs.Whole.{range-le}
 use Rattle.paper.specs.Limits.{mostAxes}

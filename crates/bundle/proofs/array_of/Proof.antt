@@ -1,3 +1,4 @@
+-- `bundle::array_of` meets its contract.
 use Prim.Native.Nat.{_+_, _*_}
 use Rattle.bundle.specs.Arrays.{judged-none, of-extent, of-short, of-bad, of-got}
 use denote.Ref.{now}

@@ -1,3 +1,4 @@
+-- `bundle::in_range` meets its contract.
 use borrow.Author.Tests.{le-leb, lt-leb}
 use Rattle.bundle.proofs.in_range.Statement.{statement}
 use Rattle.bundle.proofs.in_range.Tie as tie

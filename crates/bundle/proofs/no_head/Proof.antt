@@ -1,3 +1,4 @@
+-- `bundle::no_head` meets its contract.
 use borrow.Author.Needs.{needs}
 use Rattle.bundle.proofs.no_head.Statement.{statement}
 use Rattle.bundle.proofs.no_head.Tie as tie

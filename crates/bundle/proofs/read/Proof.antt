@@ -1,3 +1,4 @@
+-- `bundle::read` meets its contract.
 use Rattle.bundle.specs.Whole.{Loop, range-le, loop-start, loop-more, loop-refused, all-refused, bundle-mark, bundle-short, bundle-count, bundle-refused, bundle-left, bundle-read}
 use Rattle.paper.specs.Limits.{mostArrays}
 use lib.ListN.{replicate}

@@ -1,3 +1,4 @@
+-- `bundle::refusing` meets its contract.
 use Rattle.paper.specs.Refusals.{refusal}
 use borrow.Author.Needs.{needs}
 use Rattle.bundle.proofs.refusing.Statement.{statement}

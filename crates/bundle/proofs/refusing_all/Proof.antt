@@ -1,3 +1,4 @@
+-- `bundle::refusing_all` meets its contract.
 use mathlib.Core.Path.{ap}
 use lib.ListN.{replicate}
 use Rattle.paper.specs.Limits.{mostArrays}

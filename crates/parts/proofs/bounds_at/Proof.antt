@@ -1,3 +1,4 @@
+-- `parts::bounds_at` meets its contract.
 use Rattle.parts.specs.Axes.{Filled, filled-start, filled-more, filled-end}
 use Rattle.paper.specs.Bundle.{axisOf, maximumOf}
 use denote.Ref.{now}

@@ -1,3 +1,4 @@
+-- `parts::byte_at` meets its contract.
 use Rattle.parts.specs.Judge.{past}
 use denote.Ref.{now}
 use borrow.Author.Needs.{needs}

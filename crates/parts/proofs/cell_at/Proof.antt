@@ -1,3 +1,4 @@
+-- `parts::cell_at` meets its contract.
 use Rattle.cell.proofs.Runs.{run-cons}
 use Rattle.laws.specs.Judged.{is?}
 use Rattle.paper.specs.Cells.{cellFrom, cellOf}

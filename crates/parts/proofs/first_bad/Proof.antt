@@ -1,3 +1,4 @@
+-- `parts::first_bad` meets its contract.
 use Rattle.paper.specs.Limits.{cellBytes}
 use borrow.Author.Tests.{not-true, not-false}
 use Rattle.laws.specs.Judged.{firstBad, bad-more, bad-here, bad-none, bad-start}

@@ -1,3 +1,4 @@
+-- `parts::is_cell` meets its contract.
 use Rattle.laws.specs.Judged.{is?}
 use Rattle.paper.specs.Cells.{cellFrom}
 use Rattle.parts.specs.Judge.{is-int, is-float, is-truth, is-empty, is-none}

@@ -1,3 +1,4 @@
+-- `refer::choose` meets its contract.
 use Rattle.laws.specs.Answers.{noHead}
 use Rattle.refer.specs.Chosen.{getD-any, pastHead}
 use Prim.Native.Nat.{_-_}

@@ -1,3 +1,4 @@
+-- `refer::coordinate_at` meets its contract.
 use Rattle.refer.specs.Places.{coordinate-more, coordinate-end}
 use Rattle.paper.specs.Limits.{mostAxes}
 use Rattle.paper.specs.Numbers.{distance}

@@ -1,3 +1,4 @@
+-- `refer::elsewhere` meets its contract.
 use mathlib.Core.Path.{sym, ap, _∙_}
 use Rattle.refer.specs.Places.{elsewhereOf}
 use borrow.Author.Needs.{needs}

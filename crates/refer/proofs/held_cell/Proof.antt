@@ -1,3 +1,4 @@
+-- `refer::held_cell` meets its contract.
 use mathlib.Core.Path.{sym, ap, _∙_}
 use Rattle.laws.specs.Judged.{orEmpty}
 use Rattle.cell.specs.Reads.{told}

@@ -1,3 +1,4 @@
+-- `refer::refer` meets its contract.
 use Rattle.paper.specs.Refusals.{got}
 use Rattle.paper.specs.Axes.{cells}
 use Prim.Native.Nat.{_≤_}

@@ -1,3 +1,4 @@
+-- `refer::refusing` meets its contract.
 use borrow.Author.Needs.{needs}
 use Rattle.refer.proofs.refusing.Statement.{statement}
 use Rattle.refer.proofs.refusing.Tie as tie

@@ -1,3 +1,4 @@
+-- `refer::walk_step` meets its contract.
 use Rattle.refer.specs.Places.{none-before, none-past, chosen-cells, walk-refused, walk-outside, walk-end, walk-cell}
 use denote.Ref.{now}
 use native.Mathlib.Omega.{arith}

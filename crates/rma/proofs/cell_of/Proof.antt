@@ -1,3 +1,4 @@
+-- `rma::cell_of` meets its contract.
 use native.Mathlib.Omega.{arith}
 use Rattle.said.specs.Speaking.{count-cell}
 -- `rma::cell_of` meets its contract: a count is the INT cell of its number.

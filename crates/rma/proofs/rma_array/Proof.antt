@@ -1,3 +1,4 @@
+-- `rma::rma_array` meets its contract.
 use Rattle.laws.specs.Numbers.{Bytes}
 use lib.ListN.{getD}
 use Prim.Native.Nat.{_-_}

@@ -1,3 +1,4 @@
+-- `rma::rma_read` meets its contract.
 use mathlib.Core.Path.{_≡_}
 use lib.ListN.{length}
 use Rattle.paper.specs.Limits.{mostArrays}

@@ -1,3 +1,4 @@
+-- `totals::beats` meets its contract.
 use borrow.Author.Needs.{needs}
 use Rattle.totals.proofs.beats.Statement.{statement}
 use Rattle.totals.proofs.beats.Tie as tie

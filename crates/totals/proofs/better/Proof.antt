@@ -1,3 +1,4 @@
+-- `totals::better` meets its contract.
 use mathlib.Core.Path.{refl, sym, _∙_}
 use borrow.Author.Needs.{needs}
 use Rattle.totals.proofs.better.Statement.{statement}

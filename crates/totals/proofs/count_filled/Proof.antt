@@ -1,3 +1,4 @@
+-- `totals::count_filled` meets its contract.
 use borrow.Author.Needs.{needs}
 use Rattle.totals.specs.Cells.{cellsAt, oneAt, filledLeft, filled-next, filled-none, length-front, tally-one, tallyOf}
 use mathlib.Core.Path.{_≡_, ap, _∙_}

@@ -1,3 +1,4 @@
+-- `totals::exact_next` meets its contract.
 use mir.Syntax.{w64}
 use mir.Val.{SFits, toZ, ofZ}
 use borrow.Author.Needs.{needs, sfits-of}

@@ -1,3 +1,4 @@
+-- `totals::float_run` meets its contract.
 use mathlib.Core.Path.{refl, sym, ap, subst, _∙_}
 use native.Mathlib.Omega.{arith}
 use denote.Ref.{now}

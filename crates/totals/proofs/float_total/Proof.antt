@@ -1,3 +1,4 @@
+-- `totals::float_total` meets its contract.
 use mathlib.Core.Path.{ap, _∙_}
 use native.Mathlib.Omega.{arith}
 use Rattle.totals.specs.Sums.{asTotal, madeOf}

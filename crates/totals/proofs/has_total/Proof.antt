@@ -1,3 +1,4 @@
+-- `totals::has_total` meets its contract.
 use Rattle.paper.specs.Totals.{totals?}
 use mathlib.Core.Path.{refl}
 use borrow.Author.Needs.{needs}

@@ -1,3 +1,4 @@
+-- `totals::int_sum` meets its contract.
 use mathlib.Core.Path.{subst}
 use native.Mathlib.Omega.{arith}
 use denote.Ref.{now}

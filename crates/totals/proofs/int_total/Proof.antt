@@ -1,3 +1,4 @@
+-- `totals::int_total` meets its contract.
 use mathlib.Core.Path.{sym, ap, _∙_}
 use Rattle.paper.specs.Operators.{answered}
 use Rattle.totals.specs.Sums.{asTotal}

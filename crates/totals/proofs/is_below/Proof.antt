@@ -1,3 +1,4 @@
+-- `totals::is_below` meets its contract.
 use mathlib.Core.Path.{sym, ap, _∙_}
 use Rattle.paper.specs.Totals.{holds}
 use borrow.Author.Needs.{needs}

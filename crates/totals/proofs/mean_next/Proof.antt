@@ -1,3 +1,4 @@
+-- `totals::mean_next` meets its contract.
 use Rattle.cell.specs.declared.means.Added.the-variants.{On}
 use mathlib.Core.Path.{sym, subst}
 use Rattle.totals.specs.Sums.{MeanNext, mean-empty, mean-int, mean-float, mean-truth}

@@ -1,3 +1,4 @@
+-- `totals::no_number` meets its contract.
 use mathlib.Core.Path.{refl}
 use lib.Ieee.{div, ofBits}
 use Rattle.totals.proofs.no_number.Statement.{statement}

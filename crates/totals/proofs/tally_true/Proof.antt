@@ -1,3 +1,4 @@
+-- `totals::tally_true` meets its contract.
 use mathlib.Core.Path.{refl, sym, _∙_}
 use borrow.Author.Needs.{needs}
 use Rattle.totals.proofs.tally_true.Statement.{statement}

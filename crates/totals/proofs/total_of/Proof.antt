@@ -1,3 +1,4 @@
+-- `totals::total_of` meets its contract.
 use mathlib.Core.Path.{ap}
 use Rattle.paper.specs.Totals.{totalOf}
 use Rattle.paper.specs.Refusals.{got}

@@ -1,3 +1,4 @@
+-- `step::operation::of_pair` meets its contract.
 use mathlib.Core.Path.{sym, ap, _∙_}
 use mathlib.Core.Option.{Option·map}
 use Rattle.operators.specs.Told.{toldPair}

@@ -1,3 +1,4 @@
+-- `step::operation::operation_of` meets its contract.
 use mathlib.Core.Path.{sym, ap, _∙_}
 use Prim.Native.Nat.{ℕ}
 use Rattle.paper.specs.Recipe.{operation}

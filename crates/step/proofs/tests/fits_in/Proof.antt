@@ -1,3 +1,4 @@
+-- `step::tests::fits_in` meets its contract.
 use mathlib.Core.Path.{_≡_, sym, ap, _∙_}
 use Rattle.paper.specs.declared.Operation.{Operation}
 use mathlib.Core.Bool.{Bool}

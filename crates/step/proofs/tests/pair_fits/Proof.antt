@@ -1,3 +1,4 @@
+-- `step::tests::pair_fits` meets its contract.
 use mathlib.Core.Path.{_∙_}
 use borrow.Author.Tests.{eq-eqb, ne-eqb}
 use Rattle.step.specs.Steps.{and-no, and-yes}

@@ -1,3 +1,4 @@
+-- `step::tests::put_fits` meets its contract.
 use mathlib.Core.Path.{sym, ap, _∙_}
 use borrow.Author.Tests.{not-true, not-false}
 use Rattle.step.specs.Steps.{and-no, and-yes}

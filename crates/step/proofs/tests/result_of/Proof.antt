@@ -1,3 +1,4 @@
+-- `step::tests::result_of` meets its contract.
 use mathlib.Core.Path.{_≡_, sym, ap, _∙_}
 use Rattle.paper.specs.declared.Operation.{Operation}
 use Prim.Native.Nat.{ℕ}

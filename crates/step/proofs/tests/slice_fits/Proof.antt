@@ -1,3 +1,4 @@
+-- `step::tests::slice_fits` meets its contract.
 use mathlib.Core.Path.{ap, _∙_}
 use Prim.Native.Nat.{ℕ}
 use denote.Ref.{now}

@@ -1,3 +1,4 @@
+-- `step::tests::trim_fits` meets its contract.
 use mathlib.Core.Path.{ap, _∙_}
 use mathlib.Core.List.{List}
 use Rattle.paper.specs.declared.Axis.{Axis}

@@ -1,3 +1,4 @@
+-- `step::unused::axis_in` meets its contract.
 use mathlib.Core.Path.{sym, _∙_}
 use borrow.Author.Tests.{not-true, not-false, le-leb, lt-leb}
 use Rattle.step.specs.Using.{axis-by}

@@ -1,3 +1,4 @@
+-- `step::unused::detail_zero` meets its contract.
 use mathlib.Core.Path.{sym, _∙_}
 use borrow.Author.Tests.{not-true, not-false}
 use denote.Ref.{now}

@@ -1,3 +1,4 @@
+-- `step::unused::unused_zero` meets its contract.
 use mathlib.Core.Path.{sym, subst, _∙_}
 use borrow.Author.Tests.{not-true, not-false}
 use Rattle.step.specs.Steps.{and-no, and-yes}

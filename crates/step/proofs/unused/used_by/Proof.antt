@@ -1,3 +1,4 @@
+-- `step::unused::used_by` meets its contract.
 use mathlib.Core.Path.{_≡_, sym, ap, _∙_}
 use Rattle.paper.specs.declared.Operation.{Operation}
 use Rattle.step.specs.Using.{usedBy}

@@ -1,3 +1,4 @@
+-- `step::unused::used_or_zero` meets its contract.
 use borrow.Author.Needs.{needs}
 use Rattle.step.proofs.unused.used_or_zero.Statement.{statement}
 use Rattle.step.proofs.unused.used_or_zero.Tie as tie

@@ -1,3 +1,4 @@
+-- `step::unused::zero_between` meets its contract.
 use mathlib.Core.Path.{_≡_, refl, sym, _∙_}
 use borrow.Author.Tests.{eq-eqb, ne-eqb}
 use Prim.Native.Nat.{_-_}
