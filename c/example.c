@@ -102,18 +102,28 @@ static void ask(void)
     printf("\nlast end: %u\n", rma_u32(said + 1));
 }
 
+/* Lists the two files of a folder. */
+static void list_folder(const char *folder)
+{
+    take(folder, "roster.rma", &roster);
+    take(folder, "recipe.bin", &recipe);
+    if (roster.len > MOST || recipe.len > MOST)
+        puts("too long");
+    else
+        print_listing();
+}
+
 int main(int argc, char **argv)
 {
     if (argc < 2) {
         pack_roster();
         ask();
-        return 0;
+    } else {
+        list_folder(argv[1]);
     }
-    take(argv[1], "roster.rma", &roster);
-    take(argv[1], "recipe.bin", &recipe);
-    if (roster.len > MOST || recipe.len > MOST)
-        puts("too long");
-    else
-        print_listing();
+    free(roster.at);
+    free(recipe.at);
+    free(work.at);
+    free(row.at);
     return 0;
 }

@@ -36,7 +36,7 @@ three() {
 
 three
 if command -v valgrind >/dev/null; then
-    three valgrind --error-exitcode=1 --leak-check=full -q
+    three valgrind --error-exitcode=1 --leak-check=full --errors-for-leak-kinds=all -q
 else
     echo "valgrind is not installed: not run under it"
 fi
