@@ -11,22 +11,22 @@ use crate::refusal::Refusal;
 #[derive(Clone, Debug, PartialEq, Eq)]
 pub struct Bundle<'a> {
     pub(crate) bytes: &'a [u8],
-    /// The arrays' types, to tell cells that the engine answers.
-    kinds: Vec<Kind>,
+    /// The arrays' types, to tell cells that the engine answers, and how many axes each has.
+    pub(crate) arrays: Vec<(Kind, usize)>,
 }
 
 impl<'a> Bundle<'a> {
     /// Reads a bundle. Refused 1, 2, 3.
     pub fn read(bytes: &'a [u8]) -> Result<Bundle<'a>, Refusal> {
         let count = call::read(bytes)?.number(0);
-        let kind = |k| Ok(Kind::of(call::array(bytes, k)?.number(0)));
-        let kinds = (1..=count).map(kind).collect::<Result<_, _>>()?;
-        Ok(Bundle { bytes, kinds })
+        let told = |k| call::array(bytes, k).map(|said| (Kind::of(said.number(0)), said.number(1) as usize));
+        let arrays = (1..=count).map(told).collect::<Result<_, _>>()?;
+        Ok(Bundle { bytes, arrays })
     }
 
     /// The number of arrays.
     pub fn count(&self) -> u32 {
-        self.kinds.len() as u32
+        self.arrays.len() as u32
     }
 
     /// The bundle's bytes.
@@ -82,7 +82,7 @@ impl<'a> Bundle<'a> {
 
     /// A cell that the engine answered of array k; there is such an array, or it had refused.
     fn told(&self, k: u32, bytes: &[u8]) -> Cell {
-        Cell::judged(self.kinds[k as usize - 1], bytes)
+        Cell::judged(self.arrays[k as usize - 1].0, bytes)
     }
 }
 

@@ -5,6 +5,7 @@ use std::iter::FusedIterator;
 use crate::bundle::Bundle;
 use crate::call;
 use crate::cell::CELL;
+use crate::recipe::{SLICE, STEP, STEPS_FROM};
 use crate::refusal::Refusal;
 
 /// A work area for every recipe: sixteen results of 4,096 cells.
@@ -59,24 +60,23 @@ impl Bundle<'_> {
         Ok(Page { written: said.number(0), next: said.number(1) })
     }
 
-    /// The bytes of one row of a recipe's listing, 8 to 20: the length of the shortest row buffer that the engine doesn't refuse with 11.
-    /// (A start of 1 is always good, so 11 can mean nothing else.) Refused as a page.
-    pub fn row_len(&self, recipe: &[u8], work: &mut [u8]) -> Result<usize, Refusal> {
-        let mut row = [0; 20];
-        for len in [8, 12, 16] {
-            match self.page(recipe, work, 1, &mut row[..len]) {
-                Err(Refusal { number: 11, .. }) => {}
-                answer => return answer.map(|_| len),
-            }
+    /// The bytes of one row of a listing of a recipe that the engine has accepted: four, and four for each axis of the last result. A
+    /// slice has an axis fewer than its A, every other step has A's.
+    fn row_len(&self, recipe: &[u8]) -> usize {
+        let mut axes: Vec<usize> = Vec::new();
+        for step in recipe.chunks_exact(STEP) {
+            let a = usize::from(step[1]);
+            let of_a = if a > STEPS_FROM { axes[a - STEPS_FROM - 1] } else { self.arrays[a - 1].1 };
+            axes.push(of_a - usize::from(step[0] == SLICE));
         }
-        self.page(recipe, work, 1, &mut row).map(|_| 20)
+        4 + 4 * axes.last().expect("a recipe has a step")
     }
 
     /// The rows of a recipe's listing from ordinality 1 on, fetched page after page into `page`, which has room for one row at least.
     /// Refused as a page; once the first page is there, no later one is refused.
     pub fn rows<'b>(&'b self, recipe: &'b [u8], work: &'b mut [u8], page: &'b mut [u8]) -> Result<Rows<'b>, Refusal> {
         let Page { written, next } = self.page(recipe, work, 1, page)?;
-        let row_len = self.row_len(recipe, work)?;
+        let row_len = self.row_len(recipe);
         Ok(Rows { bundle: self, recipe, work, page, row_len, written: written as usize, given: 0, next })
     }
 }

@@ -4,11 +4,17 @@ use crate::cell::Cell;
 use crate::extent::name_bytes;
 
 /// The bytes of a step.
-const STEP: usize = 36;
+pub(crate) const STEP: usize = 36;
+
+/// The operation that removes an axis.
+pub(crate) const SLICE: u8 = 2;
+
+/// The result of step k is operand k and this.
+pub(crate) const STEPS_FROM: usize = 16;
 
 /// The operand that is the result of step k, 1 to 16, of the recipe. (Operands 1 to 4 are the bundle's arrays.)
 pub const fn step(k: u8) -> u8 {
-    k.saturating_add(16)
+    k.saturating_add(STEPS_FROM as u8)
 }
 
 /// An operator between two cells, or a cell and a scalar.
@@ -83,7 +89,7 @@ impl Recipe {
 
     /// Operation 2: that position of A, the axis removed.
     pub fn slice(self, a: u8, axis: u8, position: i32) -> Recipe {
-        self.with([2, a, 0, axis], Some(position.to_le_bytes().to_vec()))
+        self.with([SLICE, a, 0, axis], Some(position.to_le_bytes().to_vec()))
     }
 
     /// Operation 3: A with new limits; shared coordinates keep their cells, others are empty.

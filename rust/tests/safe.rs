@@ -160,7 +160,6 @@ mod iterators {
         let (bytes, recipe) = mixed();
         let bundle = Bundle::read(&bytes).unwrap();
         let (mut work, mut whole) = (vec![0; 105 * CELL], [0; 105 * 16]);
-        assert_eq!(bundle.row_len(recipe.bytes(), &mut work), Ok(16));
         let all = bundle.page(recipe.bytes(), &mut work, 1, &mut whole).unwrap();
         assert_eq!(all.next, 106);
         let one_page: Vec<Row> = whole.chunks(16).take(all.written as usize).map(Row::from_bytes).collect();
@@ -184,6 +183,24 @@ mod iterators {
             let last = Row { ordinality: 1 << axes, coordinate: vec![5; axes] };
             assert_eq!((rows.len(), rows.last()), (1 << axes, Some(&last)));
         }
+    }
+
+    /// Each slice removes an axis; glue and compare keep them: a row's length follows the last result.
+    #[test]
+    fn rows_of_a_sliced_result() {
+        let bytes = packed(&[int_head(&[("a", 1, 2), ("b", 3, 4), ("c", 5, 6)])], &ints(0..8));
+        let bundle = Bundle::read(&bytes).unwrap();
+        let recipe = Recipe::new()
+            .slice(1, 2, 4) // step 1: a, c: 2 3, 6 7
+            .slice(step(1), 1, 2) // step 2: c: 6 7
+            .glue(step(2), step(2), 1) // step 3: c 5:8: 6 7 6 7
+            .right_scalar(step(3), Operator::Equal, Cell::Int(7));
+        let (mut work, mut page) = (vec![0; 14 * CELL], [0; 19]); // room for two rows, and three bytes
+        let rows: Vec<Row> = bundle.rows(recipe.bytes(), &mut work, &mut page).unwrap().collect();
+        assert_eq!(rows, [2, 4].map(|ordinality| Row { ordinality, coordinate: vec![4 + ordinality as i32] }));
+        let plane = Recipe::new().slice(1, 2, 4).right_scalar(step(1), Operator::Greater, Cell::Int(6));
+        let rows: Vec<Row> = bundle.rows(plane.bytes(), &mut work, &mut page).unwrap().collect();
+        assert_eq!(rows, [Row { ordinality: 4, coordinate: vec![2, 6] }]);
     }
 
     #[test]
