@@ -13,11 +13,13 @@ use lib.Dec.{eqb, leb}
 use lib.ListN.{take, drop, length, set, length-set}
 use lib.Seq.{drop-drop, take-suc-set}
 use Rattle.paper.specs.declared.Total.{Total}
+use Rattle.paper.specs.declared.TotalAnswer.{TotalAnswer}
 use Rattle.paper.specs.Limits.{limitBytes}
 use Rattle.paper.specs.Refusals.{got, refused, if_then_else_, refusal, unknown4}
 use Rattle.paper.specs.Numbers.{leOf, leBytes, part, signedAt, nth}
 use Rattle.paper.specs.Reference.{chosen}
 use Rattle.paper.specs.Totals.{totals}
+use Rattle.paper.specs.Answers.{totalSaid}
 use Rattle.bundle.specs.Read.{arrayAt}
 use Rattle.refer.specs.declared.Chosen.{Chosen}
 use Rattle.refer.specs.Chosen.{ChosenHead}
@@ -154,9 +156,13 @@ module _ (bs : List ℕ) (k : ℕ) (c : Chosen) (v : ChosenHead bs k c) where
       rw (← q) refl
 
 module _ (bs : List ℕ) (k : ℕ) where
-  pub total-named : (which : ℕ) (t : Total) → nth allTotals which ≡ some t → totals bs k t ≡ totalAsked bs k which
+  total-named : (which : ℕ) (t : Total) → nth allTotals which ≡ some t → totals bs k t ≡ totalAsked bs k which
   unfolding totalAsked
   total-named which t e = rw (e, totalAsked)
+
+  -- so an answer that is a total's is what its number asks for
+  pub total-at : (which n : ℕ) (t : Total) (r : TotalAnswer) → totalSaid r ≡ totals bs k t → which ≡ n → nth allTotals n ≡ some t → totalSaid r ≡ totalAsked bs k which
+  total-at which n t r e q h = e ∙ total-named which t (ap (nth allTotals) q ∙ h)
 
   -- the six numbers are those of the six totals
   pub total-none : (which : ℕ) → (which ≡ 1 → ⊥) → (which ≡ 2 → ⊥) → (which ≡ 3 → ⊥) → (which ≡ 4 → ⊥) → (which ≡ 5 → ⊥) → (which ≡ 6 → ⊥) → noTotal bs k ≡ totalAsked bs k which

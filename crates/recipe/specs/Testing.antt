@@ -122,44 +122,38 @@ pub fault-axis : (s : Step) (A B : Shape) → faultOf s A B ≡ 0 → axisIn (us
 unfolding faultOf
 fault-axis s A B e = axis-right (unusedZero (uses (s .operation)) (length (A .axes)) s) _ (typesFit (s .operation) s (A .type) (B .type)) (agree (s .operation) (s .axis) (A .axes) (B .axes)) (fitsIn (s .operation) s A B) e
 
--- ---- no test looks at a maximum
+-- ---- no test of coordinates looks at a type, and no test and no result at a maximum
+
+-- a shape with another type, and without its maximum
+abbrev typed : ℕ → Shape → Shape
+typed t A = shaped t (A .axes) []
 
 abbrev slim : Shape → Shape
-slim A = shaped (A .type) (A .axes) []
+slim A = typed (A .type) A
 
-fits-slim : (op : Operation) (s : Step) (A B : Shape) → fitsIn op s A B ≡ fitsIn op s (slim A) (slim B)
-unfolding fitsIn
-fits-slim Trim s A B = refl
-fits-slim Slice s A B = refl
-fits-slim Reshape s A B = refl
-fits-slim Shift s A B = refl
-fits-slim Rename s A B = refl
-fits-slim Update s A B = refl
-fits-slim Put s A B = refl
-fits-slim Glue s A B = refl
-fits-slim (Pair o) s A B = refl
-fits-slim (RightScalar o) s A B = refl
-fits-slim (LeftScalar o) s A B = refl
-fits-slim (Single o) s A B = refl
+pub record Bare (op : Operation) (s : Step) (A B : Shape) (t u : ℕ) : Type 0 where
+  pub fits : fitsIn op s A B ≡ fitsIn op s (typed t A) (typed u B)
+  pub axes : resultOf op s A B .axes ≡ resultOf op s (typed t A) (typed u B) .axes
+  pub whole : resultOf op s A B ≡ resultOf op s (slim A) (slim B)
 
-result-slim : (op : Operation) (s : Step) (A B : Shape) → resultOf op s A B ≡ resultOf op s (slim A) (slim B)
-unfolding resultOf
-result-slim Trim s A B = refl
-result-slim Slice s A B = refl
-result-slim Reshape s A B = refl
-result-slim Shift s A B = refl
-result-slim Rename s A B = refl
-result-slim Update s A B = refl
-result-slim Put s A B = refl
-result-slim Glue s A B = refl
-result-slim (Pair o) s A B = refl
-result-slim (RightScalar o) s A B = refl
-result-slim (LeftScalar o) s A B = refl
-result-slim (Single o) s A B = refl
+pub bare : (op : Operation) (s : Step) (A B : Shape) (t u : ℕ) → Bare op s A B t u
+unfolding fitsIn resultOf
+bare Trim s A B t u = record { fits = refl; axes = refl; whole = refl }
+bare Slice s A B t u = record { fits = refl; axes = refl; whole = refl }
+bare Reshape s A B t u = record { fits = refl; axes = refl; whole = refl }
+bare Shift s A B t u = record { fits = refl; axes = refl; whole = refl }
+bare Rename s A B t u = record { fits = refl; axes = refl; whole = refl }
+bare Update s A B t u = record { fits = refl; axes = refl; whole = refl }
+bare Put s A B t u = record { fits = refl; axes = refl; whole = refl }
+bare Glue s A B t u = record { fits = refl; axes = refl; whole = refl }
+bare (Pair o) s A B t u = record { fits = refl; axes = refl; whole = refl }
+bare (RightScalar o) s A B t u = record { fits = refl; axes = refl; whole = refl }
+bare (LeftScalar o) s A B t u = record { fits = refl; axes = refl; whole = refl }
+bare (Single o) s A B t u = record { fits = refl; axes = refl; whole = refl }
 
 tested-slim : (k : ℕ) (s : Step) (A B : Shape) → testedOf k s (slim A) (slim B) ≡ testedOf k s A B
 unfolding testedOf
-tested-slim k s A B = rw (← fits-slim (s .operation) s A B, ← result-slim (s .operation) s A B)
+tested-slim k s A B = let b = bare (s .operation) s A B (A .type) (B .type) in rw (← b .fits, ← b .whole)
 
 -- ---- the operands found
 

@@ -10,7 +10,6 @@ use Rattle.paper.specs.declared.Axis.{Axis}
 use Rattle.paper.specs.declared.Answer.the-variants.{Is}
 use Rattle.paper.specs.declared.Cell.{Cell}
 use Rattle.paper.specs.declared.Operation.{Operation}
-use Rattle.paper.specs.declared.Operation.the-variants.{Trim, Slice, Reshape, Shift, Rename, Update, Put, Glue, Pair, RightScalar, LeftScalar, Single}
 use Rattle.paper.specs.Limits.{scalarAt, wordBytes, detailBytes}
 use Rattle.paper.specs.Refusals.{if_then_else_}
 use Rattle.paper.specs.Numbers.{leOf, leBytes, part}
@@ -28,6 +27,7 @@ use Rattle.kinds.specs.Standing.{written}
 use Rattle.kinds.specs.Steps.{Kept, cell-kept, result-type}
 use Rattle.positions.specs.Runs.{Holds}
 use Rattle.step.specs.Steps.{stepIn}
+use Rattle.recipe.specs.Testing.{bare}
 use Rattle.origin.specs.declared.Origin.{Origin}
 use Rattle.origin.specs.declared.Origin.the-variants.{Nowhere, FromA, FromB}
 use Rattle.origin.specs.Origins.{moves, Moving, originCell, inArray, cellsOfB, Comes}
@@ -36,41 +36,6 @@ use Rattle.values.specs.declared.Job.{Job}
 use Rattle.values.specs.Jobs.{markAt, wordAt}
 use Rattle.values.specs.Worked.{CellHere, Ready}
 use Rattle.values.specs.Computing.{first-is, second-is, first-here, second-here}
-
--- ---- no test of coordinates looks at a type or a maximum
-
-abbrev plain : Shape → Shape
-plain A = shaped 0 (A .axes) []
-
-fits-plain : (op : Operation) (s : Step) (A B : Shape) → fitsIn op s A B ≡ fitsIn op s (plain A) (plain B)
-unfolding fitsIn
-fits-plain Trim s A B = refl
-fits-plain Slice s A B = refl
-fits-plain Reshape s A B = refl
-fits-plain Shift s A B = refl
-fits-plain Rename s A B = refl
-fits-plain Update s A B = refl
-fits-plain Put s A B = refl
-fits-plain Glue s A B = refl
-fits-plain (Pair o) s A B = refl
-fits-plain (RightScalar o) s A B = refl
-fits-plain (LeftScalar o) s A B = refl
-fits-plain (Single o) s A B = refl
-
-result-plain : (op : Operation) (s : Step) (A B : Shape) → resultOf op s A B .axes ≡ resultOf op s (plain A) (plain B) .axes
-unfolding resultOf
-result-plain Trim s A B = refl
-result-plain Slice s A B = refl
-result-plain Reshape s A B = refl
-result-plain Shift s A B = refl
-result-plain Rename s A B = refl
-result-plain Update s A B = refl
-result-plain Put s A B = refl
-result-plain Glue s A B = refl
-result-plain (Pair o) s A B = refl
-result-plain (RightScalar o) s A B = refl
-result-plain (LeftScalar o) s A B = refl
-result-plain (Single o) s A B = refl
 
 -- ---- the scalar fits its eight bytes
 
@@ -152,8 +117,8 @@ module _ (B bs : List ℕ) (As Rs : List Array) (p : Paper.Planned) (j : Job) (y
         result = y .result;
         axis = ap (λ (X : List Axis). axisIn (uses op) (length X) (p .step .axis)) (sym (y .as-first .axes)) ∙ y .passed .axis;
         agrees = ap₂ (agree op (p .step .axis)) (sym (y .as-first .axes)) (sym (y .as-second .axes)) ∙ y .passed .agrees;
-        fits = ap₂ (λ (X Y : List Axis). fitsIn op (p .step) (shaped 0 X []) (shaped 0 Y [])) (sym (y .as-first .axes)) (sym (y .as-second .axes)) ∙ sym (fits-plain op (p .step) (y .passed .first) (y .passed .second)) ∙ y .passed .fits;
-        axes = sym result-axes ∙ ap (λ (x : Shape). x .axes) (y .passed .shape) ∙ result-plain op (p .step) (y .passed .first) (y .passed .second)
+        fits = ap₂ (λ (X Y : List Axis). fitsIn op (p .step) (shaped 0 X []) (shaped 0 Y [])) (sym (y .as-first .axes)) (sym (y .as-second .axes)) ∙ sym (bare op (p .step) (y .passed .first) (y .passed .second) 0 0 .fits) ∙ y .passed .fits;
+        axes = sym result-axes ∙ ap (λ (x : Shape). x .axes) (y .passed .shape) ∙ bare op (p .step) (y .passed .first) (y .passed .second) 0 0 .axes
             ∙ ap₂ (λ (X Y : List Axis). resultOf op (p .step) (shaped 0 X []) (shaped 0 Y []) .axes) (y .as-first .axes) (y .as-second .axes);
       })
 

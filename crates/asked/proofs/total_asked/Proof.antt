@@ -1,42 +1,28 @@
 -- `asked::total_asked` meets its contract: each number is its total's, any other is none's.
 use denote.Ref.{now}
-use mathlib.Core.Path.{ap, _∙_}
+use mathlib.Core.Path.{refl, _∙_}
 use borrow.Author.Needs.{needs}
-use Rattle.paper.specs.Numbers.{nth}
-use Rattle.asked.specs.Asked.{allTotals}
-use Rattle.asked.specs.Pieces.{total-named, total-none}
+use Rattle.asked.specs.Pieces.{total-at, total-none}
 use Rattle.asked.proofs.total_asked.Statement.{statement}
 use Rattle.asked.proofs.total_asked.Tie as tie
 
 returns : tie.Need-returns
-returns c =
-    let a = c .before .before .before .args in
-    c .total .ensures ∙ total-named (now (a .s)) (a .k) (a .which) _ (ap (nth allTotals) (c .before .match .keys1))
+returns c = total-at _ _ _ _ _ (c .total .result) (c .total .ensures) (c .before .match .keys1) refl
 
 returns-2 : tie.Need-returns-2
-returns-2 c =
-    let a = c .before .before .before .args in
-    c .total2 .ensures ∙ total-named (now (a .s)) (a .k) (a .which) _ (ap (nth allTotals) (c .before .match .keys2))
+returns-2 c = total-at _ _ _ _ _ (c .total2 .result) (c .total2 .ensures) (c .before .match .keys2) refl
 
 returns-3 : tie.Need-returns-3
-returns-3 c =
-    let a = c .before .before .before .args in
-    c .total3 .ensures ∙ total-named (now (a .s)) (a .k) (a .which) _ (ap (nth allTotals) (c .before .match .keys3))
+returns-3 c = total-at _ _ _ _ _ (c .total3 .result) (c .total3 .ensures) (c .before .match .keys3) refl
 
 returns-4 : tie.Need-returns-4
-returns-4 c =
-    let a = c .before .before .before .args in
-    c .total4 .ensures ∙ total-named (now (a .s)) (a .k) (a .which) _ (ap (nth allTotals) (c .before .match .keys4))
+returns-4 c = total-at _ _ _ _ _ (c .total4 .result) (c .total4 .ensures) (c .before .match .keys4) refl
 
 returns-5 : tie.Need-returns-5
-returns-5 c =
-    let a = c .before .before .before .args in
-    c .total5 .ensures ∙ total-named (now (a .s)) (a .k) (a .which) _ (ap (nth allTotals) (c .before .match .keys5))
+returns-5 c = total-at _ _ _ _ _ (c .total5 .result) (c .total5 .ensures) (c .before .match .keys5) refl
 
 returns-6 : tie.Need-returns-6
-returns-6 c =
-    let a = c .before .before .before .args in
-    c .total6 .ensures ∙ total-named (now (a .s)) (a .k) (a .which) _ (ap (nth allTotals) (c .before .match .keys6))
+returns-6 c = total-at _ _ _ _ _ (c .total6 .result) (c .total6 .ensures) (c .before .match .keys6) refl
 
 returns-7 : tie.Need-returns-7
 returns-7 c =
