@@ -11,6 +11,7 @@
  *   is cut there; RMA_SAID bytes are room for every answer.
  *
  * A cell is nine bytes: nine zeros when empty, else 1 and eight bytes (INT: two's complement, FLOAT: binary64, BOOLEAN: 0 or 1).
+ * Arithmetic and comparisons with an empty cell give an empty cell, which is not TRUE.
  * A head tells an array without its cells, in RMA_HEAD bytes: type (1 INT, 2 FLOAT, 3 BOOLEAN), axis count, then four slots of 24
  * bytes an axis: name (8, padded with zeros), lower, upper, maximum lower, maximum upper (i32 each). Slots past the last axis are
  * not looked at. An axis count over 4 is taken as 0, which is refused.

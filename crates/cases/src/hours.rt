@@ -36,8 +36,8 @@ fn put_minutes(cells: &mut [u8], k: usize, a: i64, b: i64, c: i64) {
     put_three(cells, k, Cell::Int(a), Cell::Int(b), Cell::Int(c));
 }
 
-// Starts and ends of two people's three turns.
-fn pack_roster(bundle: &mut [u8]) {
+// Starts and ends of two people's three turns; person 1's turn 3 as it is given.
+pub fn pack_roster(bundle: &mut [u8], start: Cell, end: Cell) {
     let extent = turns(ZERO + 1, ZERO + 2, ZERO + 1, ZERO + 3);
     let maximum = turns(0, ZERO + ZERO, 0, ZERO + ZERO);
     let form = Form {
@@ -47,9 +47,9 @@ fn pack_roster(bundle: &mut [u8]) {
     };
     let forms = [form; paper::ARRAYS];
     let mut cells = [0u8; 108];
-    put_minutes(&mut cells, 0, 1320, 2760, 4200);
+    put_three(&mut cells, 0, Cell::Int(1320), Cell::Int(2760), start);
     put_minutes(&mut cells, 3, 360, 1200, 3240);
-    put_minutes(&mut cells, 6, 1800, 3240, 4680);
+    put_three(&mut cells, 6, Cell::Int(1800), Cell::Int(3240), end);
     put_minutes(&mut cells, 9, 840, 1680, 3720);
     pack_arrays(2, forms, &cells, bundle);
 }
@@ -72,6 +72,12 @@ fn write_rests(steps: &mut [u8]) {
     scalar(steps, 4, 8, 660);
 }
 
+// The whole recipe, on zeros.
+pub fn write_recipe(steps: &mut [u8]) {
+    write_trims(steps);
+    write_rests(steps);
+}
+
 fn show_area(bundle: &[u8], steps: &[u8], work: &mut [u8]) {
     say(b"work area of ");
     say_number(work.len() as u64);
@@ -89,10 +95,9 @@ fn show_area(bundle: &[u8], steps: &[u8], work: &mut [u8]) {
 
 pub fn show() {
     let mut bundle = [0u8; 214];
-    pack_roster(&mut bundle);
+    pack_roster(&mut bundle, Cell::Int(4200), Cell::Int(4680));
     let mut steps = [0u8; 180];
-    write_trims(&mut steps);
-    write_rests(&mut steps);
+    write_recipe(&mut steps);
     let mut work = [0u8; 180];
     say(b"eleven hours:");
     show_page(&bundle, &steps, &mut work, Ordinality(1));

@@ -13,7 +13,7 @@ use Rattle.paper.specs.Operators.{pairOp, pairNo, singleOp, singleNo, takes, ta
 use Rattle.paper.specs.declared.PairOp.{PairOp}
 use Rattle.paper.specs.declared.PairOp.the-variants.{Add, Sub, Mul, Div, Mod, Eq, Ne, Lt, Le, Gt, Ge, And, Or}
 use Rattle.paper.specs.declared.SingleOp.{SingleOp}
-use Rattle.paper.specs.declared.SingleOp.the-variants.{Negate, Absolute, Not, IsEmpty}
+use Rattle.paper.specs.declared.SingleOp.the-variants.{Negate, Absolute, Not, IsEmpty, IsTrue, IsFalse, IsUnknown}
 use Rattle.hot.specs.Codes.{known, pairCode, singleCode, pairCodeOf, singleCodeOf}
 
 -- ---- the codes known are those of the types that the operator takes
@@ -46,6 +46,9 @@ known-single Negate = (refl, refl, refl, refl, refl)
 known-single Absolute = (refl, refl, refl, refl, refl)
 known-single Not = (refl, refl, refl, refl, refl)
 known-single IsEmpty = (refl, refl, refl, refl, refl)
+known-single IsTrue = (refl, refl, refl, refl, refl)
+known-single IsFalse = (refl, refl, refl, refl, refl)
+known-single IsUnknown = (refl, refl, refl, refl, refl)
 
 -- an operator's number is below 16
 pub few-pairs : (op : PairOp) → pairNo op < 16

@@ -64,8 +64,8 @@ among k (x ∷ xs) = eqb k x || among k xs
 -- the codes of the operators with the types that they take, the highest first
 abbrev pub codes : List ℕ
 codes =
-    67 ∷ 66 ∷ 65 ∷ 63 ∷ 58 ∷ 57 ∷ 54 ∷ 53 ∷ 45 ∷ 44 ∷ 39 ∷ 38 ∷ 27 ∷ 26 ∷ 25 ∷ 24 ∷ 23 ∷ 22 ∷ 20 ∷ 19 ∷ 18 ∷ 17
-    ∷ 11 ∷ 10 ∷ 9 ∷ 8 ∷ 7 ∷ 6 ∷ 5 ∷ 4 ∷ 3 ∷ 2 ∷ 1 ∷ []
+    79 ∷ 75 ∷ 71 ∷ 67 ∷ 66 ∷ 65 ∷ 63 ∷ 58 ∷ 57 ∷ 54 ∷ 53 ∷ 45 ∷ 44 ∷ 39 ∷ 38 ∷ 27 ∷ 26 ∷ 25 ∷ 24 ∷ 23 ∷ 22 ∷ 20 ∷ 19
+    ∷ 18 ∷ 17 ∷ 11 ∷ 10 ∷ 9 ∷ 8 ∷ 7 ∷ 6 ∷ 5 ∷ 4 ∷ 3 ∷ 2 ∷ 1 ∷ []
 
 abbrev pub known : ℕ → Bool
 known code = among code codes

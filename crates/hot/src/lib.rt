@@ -8,6 +8,7 @@ use operators::operators::and;
 use operators::operators::div;
 use operators::operators::emptiness;
 use operators::operators::eq;
+use operators::operators::falseness;
 use operators::operators::ge;
 use operators::operators::gt;
 use operators::operators::le;
@@ -19,6 +20,8 @@ use operators::operators::negate;
 use operators::operators::negation;
 use operators::operators::or;
 use operators::operators::sub;
+use operators::operators::trueness;
+use operators::operators::unknownness;
 use operators::types::takes_pair;
 use operators::types::takes_single;
 use paper::Answer;
@@ -133,6 +136,9 @@ pub fn computed(code: u8, ma: u8, na: u64, mb: u8, nb: u64) -> Answer
         65 => emptiness(int_cell(ma, na)),
         66 => emptiness(float_cell(ma, na)),
         67 => emptiness(truth_cell(ma, na)),
+        71 => trueness(truth_cell(ma, na)),
+        75 => falseness(truth_cell(ma, na)),
+        79 => unknownness(truth_cell(ma, na)),
         _ => Answer::Is(Cell::Empty),
     }
 }

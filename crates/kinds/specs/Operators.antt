@@ -24,7 +24,7 @@ use Rattle.paper.specs.declared.Answer.the-variants.{Is, Refused}
 use Rattle.paper.specs.declared.PairOp.{PairOp}
 use Rattle.paper.specs.declared.PairOp.the-variants.{Add, Sub, Mul, Div, Mod, Eq, Ne, Lt, Le, Gt, Ge, And, Or}
 use Rattle.paper.specs.declared.SingleOp.{SingleOp}
-use Rattle.paper.specs.declared.SingleOp.the-variants.{Negate, Absolute, Not, IsEmpty}
+use Rattle.paper.specs.declared.SingleOp.the-variants.{Negate, Absolute, Not, IsEmpty, IsTrue, IsFalse, IsUnknown}
 use Rattle.laws.specs.Tests.{and-left, and-right}
 use Rattle.laws.specs.Parts.{one-part, le-yes, parts-fit}
 use Rattle.laws.specs.Cells.{OfKind}
@@ -93,7 +93,7 @@ unfolding compared
 fine-compared f g h (Ints x y) = truth (f x y)
 fine-compared f g h (Floats x y) = truth (g x y)
 fine-compared f g h (Truths x y) = truth (h x y)
-fine-compared f g h OneEmpty = truth false
+fine-compared f g h OneEmpty = nothing BOOLEAN
 fine-compared f g h Unlike = nothing BOOLEAN
 
 -- a truth value, another one, or unknown
@@ -152,6 +152,9 @@ fine-single Negate kind c h = fine-signed negℤ Ieee.neg neg-finite (neg-fits b
 fine-single Absolute kind c h = fine-signed (λ x. pos (natAbs x)) absFloat abs-finite abs-fits kind c h
 fine-single Not kind c h = one-of (isTrue c) (isFalse c) false true
 fine-single IsEmpty kind c h = truth _
+fine-single IsTrue kind c h = truth _
+fine-single IsFalse kind c h = truth _
+fine-single IsUnknown kind c h = truth _
 
 -- ---- where the operator gives a cell
 

@@ -8,7 +8,7 @@ use native.Mathlib.Omega.{arith}
 use lib.ListN.{length, getElem?}
 use Rattle.paper.specs.Operators.{pairOp, pairNo, singleOp, singleNo}
 use Rattle.paper.specs.declared.PairOp.the-variants.{Or}
-use Rattle.paper.specs.declared.SingleOp.the-variants.{IsEmpty}
+use Rattle.paper.specs.declared.SingleOp.the-variants.{IsUnknown}
 
 -- n is none of these, the last arm's number first
 abbrev pub Differs : ℕ → List ℕ → Type 0
@@ -32,6 +32,6 @@ pub no-pair : (n : ℕ) → Differs n (countdown (pairNo Or)) → none ≡ pairO
 no-pair zero d = refl
 no-pair (suc n) d = let l : pairNo Or ≤ n = omega (arith, above (suc n) (pairNo Or) (omega arith) d) in rw (beyond _ n l)
 
-pub no-single : (n : ℕ) → Differs n (countdown (singleNo IsEmpty)) → none ≡ singleOp n
+pub no-single : (n : ℕ) → Differs n (countdown (singleNo IsUnknown)) → none ≡ singleOp n
 no-single zero d = refl
-no-single (suc n) d = let l : singleNo IsEmpty ≤ n = omega (arith, above (suc n) (singleNo IsEmpty) (omega arith) d) in rw (beyond _ n l)
+no-single (suc n) d = let l : singleNo IsUnknown ≤ n = omega (arith, above (suc n) (singleNo IsUnknown) (omega arith) d) in rw (beyond _ n l)

@@ -66,6 +66,9 @@ pub fn single_op(n: u8) -> SingleGot
         2 => SingleGot::Is(SingleOp::Absolute),
         3 => SingleGot::Is(SingleOp::Not),
         4 => SingleGot::Is(SingleOp::IsEmpty),
+        5 => SingleGot::Is(SingleOp::IsTrue),
+        6 => SingleGot::Is(SingleOp::IsFalse),
+        7 => SingleGot::Is(SingleOp::IsUnknown),
         _ => SingleGot::Unknown,
     }
 }
@@ -78,5 +81,8 @@ pub fn single_number(op: SingleOp) -> u8
         SingleOp::Absolute => 2,
         SingleOp::Not => 3,
         SingleOp::IsEmpty => 4,
+        SingleOp::IsTrue => 5,
+        SingleOp::IsFalse => 6,
+        SingleOp::IsUnknown => 7,
     }
 }

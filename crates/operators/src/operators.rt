@@ -9,7 +9,7 @@ use paper::Two;
 ghost use mathlib.Core.Path.{_≡_};
 ghost use Rattle.paper.specs.Operators.{pairCell, singleCell};
 ghost use Rattle.paper.specs.declared.PairOp.the-variants.{Add, Sub, Mul, Div, Mod, Eq, Ne, Lt, Le, Gt, Ge, And, Or};
-ghost use Rattle.paper.specs.declared.SingleOp.the-variants.{Negate, Absolute, Not, IsEmpty};
+ghost use Rattle.paper.specs.declared.SingleOp.the-variants.{Negate, Absolute, Not, IsEmpty, IsTrue, IsFalse, IsUnknown};
 
 pub fn add(a: Cell, b: Cell) -> Answer
     ensures { λ r. ⌜ r ≡ pairCell Add a b ⌝ }
@@ -78,7 +78,7 @@ pub fn eq(a: Cell, b: Cell) -> Answer
         Two::Ints(x, y) => Answer::Is(Cell::Truth(cell::ints::int_eq(x, y))),
         Two::Floats(x, y) => Answer::Is(Cell::Truth(x == y)),
         Two::Truths(x, y) => Answer::Is(Cell::Truth(x == y)),
-        Two::OneEmpty => Answer::Is(Cell::Truth(false)),
+        Two::OneEmpty => Answer::Is(Cell::Empty), // of two empty cells too
         Two::Unlike => Answer::Is(Cell::Empty),
     }
 }
@@ -90,7 +90,7 @@ pub fn ne(a: Cell, b: Cell) -> Answer
         Two::Ints(x, y) => Answer::Is(Cell::Truth(!cell::ints::int_eq(x, y))),
         Two::Floats(x, y) => Answer::Is(Cell::Truth(x != y)),
         Two::Truths(x, y) => Answer::Is(Cell::Truth(x != y)),
-        Two::OneEmpty => Answer::Is(Cell::Truth(false)),
+        Two::OneEmpty => Answer::Is(Cell::Empty),
         Two::Unlike => Answer::Is(Cell::Empty),
     }
 }
@@ -102,7 +102,7 @@ pub fn lt(a: Cell, b: Cell) -> Answer
         Two::Ints(x, y) => Answer::Is(Cell::Truth(x < y)),
         Two::Floats(x, y) => Answer::Is(Cell::Truth(x < y)),
         Two::Truths(_, _) => Answer::Is(Cell::Truth(false)),
-        Two::OneEmpty => Answer::Is(Cell::Truth(false)),
+        Two::OneEmpty => Answer::Is(Cell::Empty),
         Two::Unlike => Answer::Is(Cell::Empty),
     }
 }
@@ -114,7 +114,7 @@ pub fn le(a: Cell, b: Cell) -> Answer
         Two::Ints(x, y) => Answer::Is(Cell::Truth(x <= y)),
         Two::Floats(x, y) => Answer::Is(Cell::Truth(x <= y)),
         Two::Truths(_, _) => Answer::Is(Cell::Truth(false)),
-        Two::OneEmpty => Answer::Is(Cell::Truth(false)),
+        Two::OneEmpty => Answer::Is(Cell::Empty),
         Two::Unlike => Answer::Is(Cell::Empty),
     }
 }
@@ -177,6 +177,25 @@ pub fn emptiness(c: Cell) -> Answer
     Answer::Is(Cell::Truth(crate::logic::is_empty(c)))
 }
 
+pub fn trueness(c: Cell) -> Answer
+    ensures { λ r. ⌜ r ≡ singleCell IsTrue c ⌝ }
+{
+    Answer::Is(Cell::Truth(crate::logic::is_truth(true, c)))
+}
+
+pub fn falseness(c: Cell) -> Answer
+    ensures { λ r. ⌜ r ≡ singleCell IsFalse c ⌝ }
+{
+    Answer::Is(Cell::Truth(crate::logic::is_truth(false, c)))
+}
+
+// Unknown is what an empty cell is.
+pub fn unknownness(c: Cell) -> Answer
+    ensures { λ r. ⌜ r ≡ singleCell IsUnknown c ⌝ }
+{
+    emptiness(c)
+}
+
 // cell, operator, cell
 pub fn pair(op: PairOp, a: Cell, b: Cell) -> Answer
     ensures { λ r. ⌜ r ≡ pairCell op a b ⌝ }
@@ -207,5 +226,8 @@ pub fn single(op: SingleOp, c: Cell) -> Answer
         SingleOp::Absolute => absolute(c),
         SingleOp::Not => negation(c),
         SingleOp::IsEmpty => emptiness(c),
+        SingleOp::IsTrue => trueness(c),
+        SingleOp::IsFalse => falseness(c),
+        SingleOp::IsUnknown => unknownness(c),
     }
 }

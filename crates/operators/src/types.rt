@@ -45,6 +45,9 @@ pub fn takes_single(op: SingleOp, kind: u8) -> bool
         SingleOp::Absolute => kind != BOOLEAN,
         SingleOp::Not => BOOLEAN == kind,
         SingleOp::IsEmpty => true,
+        SingleOp::IsTrue => BOOLEAN == kind,
+        SingleOp::IsFalse => BOOLEAN == kind,
+        SingleOp::IsUnknown => BOOLEAN == kind,
     }
 }
 

@@ -10,7 +10,7 @@ use Rattle.paper.specs.declared.Answer.{Answer}
 use Rattle.paper.specs.declared.Cell.{Cell}
 use Rattle.paper.specs.declared.PairOp.the-variants.{Add, Sub, Mul, Div, Mod, Eq, Ne, Lt, Le, Gt, Ge, And, Or}
 use Rattle.paper.specs.declared.PairOp.{PairOp}
-use Rattle.paper.specs.declared.SingleOp.the-variants.{Negate, Absolute, Not, IsEmpty}
+use Rattle.paper.specs.declared.SingleOp.the-variants.{Negate, Absolute, Not, IsEmpty, IsTrue, IsFalse, IsUnknown}
 use Rattle.paper.specs.declared.SingleOp.{SingleOp}
 use Rattle.hot.proofs.computed.Statement.{statement}
 use Rattle.hot.proofs.computed.Tie as tie
@@ -69,6 +69,8 @@ computed-spec =
     (λ c κs. search needs) (λ c κs. search needs) (λ c κs. search needs) (λ c κs. judged (c .before) 58 (c .match .keys29) refl .0)
     (λ c κs. search needs) (λ c κs. search needs) (λ c κs. search needs) (λ c κs. search needs) (λ c κs. search needs)
     (λ c κs. judged (c .before) 66 (c .match .keys32) refl .0) (λ c κs. search needs) (λ c κs. search needs) (λ c κs. search needs)
+    (λ c κs. search needs) (λ c κs. search needs) (λ c κs. search needs) (λ c κs. search needs) (λ c κs. search needs)
+    (λ c κs. search needs)
     (λ c. pair-row (c .before .before .before .before) Add 1 (λ a b. refl) (c .before .before .before .match .keys1) (c .add .ensures) (c .before .before .int-cell .ensures) (c .before .int-cell2 .ensures))
     (λ c. pair-row (c .before .before .before .before) Sub 2 (λ a b. refl) (c .before .before .before .match .keys2) (c .sub .ensures) (c .before .before .int-cell3 .ensures) (c .before .int-cell4 .ensures))
     (λ c. pair-row (c .before .before .before .before) Mul 3 (λ a b. refl) (c .before .before .before .match .keys3) (c .mul .ensures) (c .before .before .int-cell5 .ensures) (c .before .int-cell6 .ensures))
@@ -102,4 +104,7 @@ computed-spec =
     (λ c. single-row (c .before .before .before) IsEmpty 65 (λ a b. refl) (c .before .before .match .keys31) (c .emptiness .ensures) (c .before .int-cell25 .ensures))
     (λ c. single-row (c .before .before .before) IsEmpty 66 (λ a b. refl) (c .before .before .match .keys32) (c .emptiness2 .ensures) (c .before .float-cell23 .ensures))
     (λ c. single-row (c .before .before .before) IsEmpty 67 (λ a b. refl) (c .before .before .match .keys33) (c .emptiness3 .ensures) (c .before .truth-cell10 .ensures))
+    (λ c. single-row (c .before .before .before) IsTrue 71 (λ a b. refl) (c .before .before .match .keys34) (c .trueness .ensures) (c .before .truth-cell11 .ensures))
+    (λ c. single-row (c .before .before .before) IsFalse 75 (λ a b. refl) (c .before .before .match .keys35) (c .falseness .ensures) (c .before .truth-cell12 .ensures))
+    (λ c. single-row (c .before .before .before) IsUnknown 79 (λ a b. refl) (c .before .before .match .keys36) (c .unknownness .ensures) (c .before .truth-cell13 .ensures))
     (λ c. no-code (c .before .args .code) _ _ (c .match .rest)))

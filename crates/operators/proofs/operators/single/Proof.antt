@@ -15,8 +15,12 @@ single-spec =
     tie.close
     (tie.spec
     (λ c. search needs) (λ c κs. search needs) (λ c. search needs) (λ c κs. search needs) (λ c. search needs) (λ c κs. search needs)
+    (λ c. search needs) (λ c κs. search needs) (λ c. search needs) (λ c κs. search needs) (λ c. search needs) (λ c κs. search needs)
     (λ c. search needs) (λ c κs. search needs)
     (λ c. chosen (c .before .before .before) (c .negate .ensures) (c .before .enum-told .given .1))
     (λ c. chosen (c .before .before .before) (c .absolute .ensures) (c .before .enum-told2 .given .1))
     (λ c. chosen (c .before .before .before) (c .negation .ensures) (c .before .enum-told3 .given .1))
-    (λ c. chosen (c .before .before .before) (c .emptiness .ensures) (c .before .enum-told4 .given .1)))
+    (λ c. chosen (c .before .before .before) (c .emptiness .ensures) (c .before .enum-told4 .given .1))
+    (λ c. chosen (c .before .before .before) (c .trueness .ensures) (c .before .enum-told5 .given .1))
+    (λ c. chosen (c .before .before .before) (c .falseness .ensures) (c .before .enum-told6 .given .1))
+    (λ c. chosen (c .before .before .before) (c .unknownness .ensures) (c .before .enum-told7 .given .1)))
