@@ -18,6 +18,10 @@ pub const fn step(k: u8) -> u8 {
 }
 
 /// An operator between two cells, or a cell and a scalar.
+///
+/// Arithmetic and comparisons with an empty cell give an empty cell: an empty cell divided by zero, and an empty cell compared with an
+/// empty one, too. AND and OR take it as SQL's unknown: FALSE AND empty is FALSE, TRUE OR empty is TRUE, with the other truth value, or
+/// with another empty cell, it stays empty.
 #[derive(Clone, Copy, Debug, PartialEq, Eq, Hash)]
 pub enum Operator {
     /// `+`, of INT or FLOAT.
@@ -48,7 +52,32 @@ pub enum Operator {
     Or = 13,
 }
 
-/// An operator on one cell.
+/// An operator on one cell. On an empty cell [`Negate`](Single::Negate), [`Absolute`](Single::Absolute) and [`Not`](Single::Not) give an
+/// empty one; the others give TRUE or FALSE, whatever the cell.
+///
+/// Which turns have eleven hours of rest? NOT of "below 660" leaves a turn that nobody entered unknown, so that it isn't listed; with
+/// is-true before it, NOT lists that turn too; is-unknown lists just such turns:
+///
+/// ```
+/// use rovgrint::{pack, step, Axis, Bundle, Cell, Head, Kind, Operator, Recipe, Single};
+///
+/// let turns = Head { kind: Kind::Int, axes: vec![Axis::new("turn", 1, 3)] };
+/// let mut bytes = [0; 59];
+/// pack(&[turns], &[Cell::Int(960), Cell::Empty, Cell::Int(360)], &mut bytes)?;
+/// let rests = Bundle::read(&bytes)?;
+/// let below = Recipe::new().right_scalar(1, Operator::Less, Cell::Int(660)); // FALSE, empty, TRUE
+/// let listed = |recipe: Recipe| -> Result<Vec<i32>, rovgrint::Refusal> {
+///     let (mut work, mut page) = ([0; 81], [0; 24]);
+///     let rows = rests.rows(recipe.bytes(), &mut work, &mut page)?;
+///     Ok(rows.map(|row| row.coordinate[0]).collect())
+/// };
+///
+/// assert_eq!(listed(below.clone().single(step(1), Single::Not))?, [1]);
+/// assert_eq!(listed(below.clone().single(step(1), Single::IsTrue).single(step(2), Single::Not))?, [1, 2]);
+/// assert_eq!(listed(below.clone().single(step(1), Single::IsFalse))?, [1]);
+/// assert_eq!(listed(below.single(step(1), Single::IsUnknown))?, [2]);
+/// # Ok::<(), rovgrint::Refusal>(())
+/// ```
 #[derive(Clone, Copy, Debug, PartialEq, Eq, Hash)]
 pub enum Single {
     /// The sign changed, of INT or FLOAT.
@@ -59,6 +88,12 @@ pub enum Single {
     Not = 3,
     /// Whether the cell is empty, of any type.
     IsEmpty = 4,
+    /// Whether the cell is TRUE, of BOOLEAN; FALSE of an empty one.
+    IsTrue = 5,
+    /// Whether the cell is FALSE, of BOOLEAN; FALSE of an empty one.
+    IsFalse = 6,
+    /// Whether the cell is unknown, which is what an empty one is, of BOOLEAN.
+    IsUnknown = 7,
 }
 
 /// The bytes of a recipe. Each function adds a step and gives the recipe back; operands are arrays (1 to 4) or [`step`]s.

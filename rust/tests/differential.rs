@@ -1,5 +1,6 @@
 //! The library held against the paper: the same cases are put to both, and every answer and every byte that was lent must be
-//! equal. `RMA_SEED` gives the seed (else the clock), `RMA_CASES` the number of cases (else 240,000).
+//! equal. `RMA_SEED` gives the seed (else the clock), `RMA_CASES` the number of cases (else 240,000). From that many cases on, each
+//! thing that `cases::met` counts must have been met in a hundred of them.
 //! What is reported goes straight to standard output, so that it is seen whether the test passes or not.
 
 mod cases;
@@ -7,12 +8,14 @@ mod paper;
 
 use cases::answers::{library_answers, paper_answers};
 use cases::dice::Dice;
+use cases::met::Met;
 use cases::{printed, Answer, Case, Function, FUNCTIONS};
 use std::io::Write;
 use std::time::{Instant, SystemTime, UNIX_EPOCH};
 
 const CASES: u64 = 240_000;
 const PRINTED_DIFFERENCES: u64 = 20;
+const LEAST_MET: u64 = 100;
 
 /// How many cases a function had, and how many ended with each number (0: done).
 #[derive(Clone, Copy, Default)]
@@ -21,10 +24,11 @@ struct Tally {
     ended: [u64; 15],
 }
 
-/// The cases so far: their tallies and how many differ.
+/// The cases so far: their tallies, what they met, and how many differ.
 struct Report {
     seed: u64,
     tallies: [Tally; 9],
+    met: Met,
     cases: u64,
     differ: u64,
 }
@@ -61,6 +65,7 @@ impl Report {
         let tally = &mut self.tallies[case.function as usize];
         tally.cases += 1;
         tally.ended[paper.number as usize] += 1;
+        self.met.count(case, paper.number);
         let library = library_answers(case);
         if library.as_ref() != Ok(&paper) {
             self.differ += 1;
@@ -92,6 +97,7 @@ impl Report {
             let counts: Vec<String> = refused.map(|number| format!("{number}: {}", tally.ended[number])).collect();
             print(&format!("{name} {} cases: {} done, refused {}", tally.cases, tally.ended[0], counts.join(", ")));
         }
+        self.met.lines().iter().for_each(|line| print(line));
     }
 }
 
@@ -102,7 +108,7 @@ fn library_and_paper_answer_alike() {
     let wanted = setting("RMA_CASES").unwrap_or(CASES);
     print(&format!("seed {seed}"));
     let mut dice = Dice::new(seed);
-    let mut report = Report { seed, tallies: [Tally::default(); 9], cases: 0, differ: 0 };
+    let mut report = Report { seed, tallies: [Tally::default(); 9], met: Met::new(), cases: 0, differ: 0 };
     while report.cases < wanted {
         for case in cases::of_function(&mut dice, report.next_function()) {
             report.compare(&case);
@@ -111,6 +117,8 @@ fn library_and_paper_answer_alike() {
     report.print_tallies();
     print(&format!("differential: {} cases, {} differ, {} s", report.cases, report.differ, began.elapsed().as_secs()));
     assert_eq!(report.differ, 0, "cases that differ, of {}", report.cases);
+    let seldom = report.met.seldom(LEAST_MET);
+    assert!(report.cases < CASES || seldom.is_empty(), "met in fewer than {LEAST_MET} cases: {seldom:?}");
 }
 
 /// The paper's demands on itself: valid bytes read and packed are those bytes, ordinalities count the coordinates in row-major
@@ -141,5 +149,7 @@ fn both_answer_as_the_paper_prints() {
         printed::gluing(ask);
         printed::values(ask);
         printed::ends(ask);
+        printed::blank_turns(ask);
+        printed::comparisons_with_empty(ask);
     }
 }

@@ -145,6 +145,81 @@ mod both_sides_of_each_line {
     }
 }
 
+/// A comparison with an empty cell is unknown; is-true, is-false and is-unknown tell it apart.
+mod blank_turns {
+    use super::*;
+
+    const COMPARISONS: [Operator; 6] =
+        [Operator::Equal, Operator::Unequal, Operator::Less, Operator::LessOrEqual, Operator::Greater, Operator::GreaterOrEqual];
+
+    /// Who and turn of the rows listed, of the roster with person 1's turn 3 not entered: the rests are 960, none, 360 and 1560.
+    fn listed(recipe: Recipe) -> Vec<[i32; 2]> {
+        let turns = int_head(&[("who", 1, 2), ("turn", 1, 3)]);
+        let mut minutes = ints([1320, 2760, 4200, 360, 1200, 3240, 1800, 3240, 4680, 840, 1680, 3720]);
+        (minutes[2], minutes[8]) = (Cell::Empty, Cell::Empty);
+        let bytes = packed(&[turns.clone(), turns], &minutes);
+        let (mut work, mut page) = (vec![0; MOST_WORK], [0; 48]);
+        let bundle = Bundle::read(&bytes).unwrap();
+        let rows = bundle.rows(recipe.bytes(), &mut work, &mut page).unwrap();
+        rows.map(|row| row.coordinate.try_into().expect("two axes")).collect()
+    }
+
+    #[test]
+    fn rest_enough() {
+        let below = rests();
+        assert_eq!(listed(below.clone()), [[2, 1]]);
+        assert_eq!(listed(below.clone().single(step(5), Single::Not)), [[1, 1], [2, 2]]);
+        assert_eq!(listed(below.clone().single(step(5), Single::IsTrue).single(step(6), Single::Not)), [[1, 1], [1, 2], [2, 2]]);
+        assert_eq!(listed(below.clone().single(step(5), Single::IsFalse)), [[1, 1], [2, 2]]);
+        assert_eq!(listed(below.single(step(5), Single::IsUnknown)), [[1, 2]]);
+    }
+
+    /// Each comparison of a filled and an empty cell, and of two empty ones: as a pair, and with a scalar on either side.
+    #[test]
+    fn comparisons() {
+        let kinds = [(Kind::Int, Cell::Int(660)), (Kind::Float, Cell::Float(0.5)), (Kind::Boolean, Cell::Truth(true))];
+        for (kind, filled) in kinds {
+            let heads = vec![Head { kind, axes: vec![Axis::new("i", 1, 2)] }; 2];
+            let bytes = packed(&heads, &[filled, Cell::Empty, Cell::Empty, Cell::Empty]);
+            for operator in COMPARISONS {
+                let pair = Recipe::new().pair(1, 2, operator);
+                let right = Recipe::new().right_scalar(2, operator, filled);
+                let left = Recipe::new().left_scalar(2, operator, filled);
+                let taken = kind != Kind::Boolean || matches!(operator, Operator::Equal | Operator::Unequal);
+                let expected = if taken { Ok(vec![Cell::Empty; 2]) } else { Err(refused(7, 1, 0)) };
+                for recipe in [pair, right, left] {
+                    assert_eq!(last_cells(&bytes, &recipe, Kind::Boolean, 2), expected, "{operator:?} of {kind:?}");
+                }
+            }
+        }
+    }
+
+    #[test]
+    fn told_apart() {
+        let [yes, no] = [true, false].map(Cell::Truth);
+        let bytes = line(Kind::Boolean, &[yes, no, Cell::Empty]);
+        let expected = [(Single::IsTrue, [yes, no, no]), (Single::IsFalse, [no, yes, no]), (Single::IsUnknown, [no, no, yes])];
+        for (operator, cells) in expected {
+            let recipe = Recipe::new().single(1, operator);
+            assert_eq!(last_cells(&bytes, &recipe, Kind::Boolean, 3), Ok(cells.to_vec()), "{operator:?}");
+            for kind in [Kind::Int, Kind::Float] {
+                let number = line(kind, &[Cell::Empty]);
+                assert_eq!(last_cells(&number, &recipe, Kind::Boolean, 1), Err(refused(7, 1, 0)), "{operator:?} of {kind:?}");
+            }
+        }
+    }
+
+    /// A step of the single operator with that number: 8 is none.
+    #[test]
+    fn eighth_single_operator() {
+        let bytes = line(Kind::Boolean, &[Cell::Empty]);
+        let bundle = Bundle::read(&bytes).unwrap();
+        let step_of = |operator: u8| [&[12, 1, 0, 0, operator][..], &[0; 31]].concat();
+        assert_eq!(bundle.run(&step_of(7), &mut [0; 9]), Ok(1));
+        assert_eq!(bundle.run(&step_of(8), &mut [0; 9]), Err(refused(4, 1, 0)));
+    }
+}
+
 mod iterators {
     use super::*;
 

@@ -39,6 +39,10 @@ impl Dice {
         list[self.index(list.len())]
     }
 
+    pub fn pick_if_any<T: Copy>(&mut self, list: &[T]) -> Option<T> {
+        (!list.is_empty()).then(|| self.pick(list))
+    }
+
     pub fn bytes(&mut self, length: usize) -> Vec<u8> {
         let mut bytes = Vec::with_capacity(length + 8);
         while bytes.len() < length {

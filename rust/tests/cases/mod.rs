@@ -6,6 +6,7 @@ pub mod bundles;
 pub mod cells;
 pub mod dice;
 pub mod faults;
+pub mod met;
 pub mod packs;
 pub mod printed;
 pub mod questions;

@@ -1,5 +1,6 @@
-//! The cases that the paper itself prints: the example of eleven hours, whole, and "Both sides of each line".
-//! Each is put to whoever answers (paper or library) and held against the values printed.
+//! The cases that the paper itself prints: the example of eleven hours, whole, and "Both sides of each line"; and what request [1]
+//! of paper 02 tells of blank turns. Each is put to whoever answers (paper or library) and held against the values printed, those
+//! of request [1] being worked out from its words by hand.
 
 use super::bundles::{bundle_bytes, eight, RawArray, RawAxis};
 use super::cells::filled;
@@ -40,6 +41,10 @@ fn refer_to(array: &RawArray, coordinate: &[i32]) -> Case {
 
 fn right_scalar(a: u8, operator: u8, scalar: i64) -> Vec<u8> {
     step(10, a, 0, 0, &[&[operator, 0, 0, 0], scalar.to_le_bytes().as_slice()].concat())
+}
+
+fn single(a: u8, operator: u8) -> Vec<u8> {
+    step(12, a, 0, 0, &[operator])
 }
 
 fn said_number(answer: &Answer, at: usize) -> u32 {
@@ -154,4 +159,54 @@ pub fn ends(ask: Ask) {
     let answer = read(ints(&[("x", 1, 64), ("y", 1, 64)], &counting(4_096)));
     assert_eq!((answer.number, said_number(&answer, 0)), (0, 1), "64 by 64");
     assert_eq!(refused(&read(ints(&[("x", 1, 4_097)], &counting(4_097)))), [2, 1, 0]);
+}
+
+/// Request [1]: two people's rests after three turns, (1, 3) blank. Not below 660 are (1, 1), (2, 1) and (2, 3).
+pub fn blank_turns(ask: Ask) {
+    let rests = [ints(&[("who", 1, 2), ("turn", 1, 3)], &[960, 360, EMPTY, 660, 659, 1560])];
+    let of_below_660 = |operators: &[u8]| {
+        let singles = (17..).zip(operators).map(|(a, &operator)| single(a, operator));
+        let recipe: Vec<Vec<u8>> = std::iter::once(right_scalar(1, 8, 660)).chain(singles).collect();
+        ask(&page_of(&rests, &recipe, 54 * recipe.len(), 1))
+    };
+    let lists = |operators: &[u8], rows: &[[i32; 3]]| {
+        let answer = of_below_660(operators);
+        assert_eq!((answer.number, said_number(&answer, 0), said_number(&answer, 1)), (0, rows.len() as u32, 7), "{operators:?}");
+        assert_eq!(answer.lent[1][..12 * rows.len()], numbers(&rows.concat()), "{operators:?}");
+        assert!(answer.lent[1][12 * rows.len()..].iter().all(|&byte| byte == 0x77), "bytes after the rows stay");
+    };
+    lists(&[], &[[2, 1, 2], [5, 2, 2]]);
+    lists(&[3], &[[1, 1, 1], [4, 2, 1], [6, 2, 3]]); // NOT: rest enough, and not the blank one
+    lists(&[5, 3], &[[1, 1, 1], [3, 1, 3], [4, 2, 1], [6, 2, 3]]); // is-true before NOT: the blank one too
+    lists(&[6], &[[1, 1, 1], [4, 2, 1], [6, 2, 3]]); // is-false
+    lists(&[7], &[[3, 1, 3]]); // is-unknown
+    let cells = of_below_660(&[5, 3]).lent.swap_remove(0);
+    let (truth, falsity) = (filled(1), filled(0));
+    assert_eq!(cells[..54], [falsity, truth, [0; 9], falsity, truth, falsity].concat(), "below 660, the blank one unknown");
+    assert_eq!(cells[54..108], [falsity, truth, falsity, falsity, truth, falsity].concat(), "is-true is never empty");
+    for operator in [5, 6, 7] {
+        assert_eq!(refused(&ask(&run_of(&rests, &[single(1, operator)], 54))), [7, 1, 0], "{operator} on INT");
+    }
+    assert_eq!(refused(&ask(&run_of(&rests, &[right_scalar(1, 8, 660), single(1, 5)], 108))), [7, 2, 0]);
+    assert_eq!(refused(&ask(&run_of(&rests, &[single(1, 8)], 54))), [4, 1, 0], "8 on INT");
+    assert_eq!(refused(&of_below_660(&[8])), [4, 2, 0], "8 on BOOLEAN");
+}
+
+/// Request [1]: each comparison with an empty cell among its two is an empty cell, in operations 9, 10 and 11; empty = empty too.
+pub fn comparisons_with_empty(ask: Ask) {
+    let line = |of: u8, values: &[i64]| RawArray { of, ..ints(&[("x", 1, 3)], values) };
+    let comparisons = (6..=11).map(|operator| (1, operator)).chain((6..=11).map(|operator| (2, operator))).chain([(3, 6), (3, 7)]);
+    for (of, operator) in comparisons {
+        let arrays = [line(of, &[1, EMPTY, EMPTY]), line(of, &[EMPTY, 1, EMPTY])];
+        let pair = ask(&run_of(&arrays, &[step(9, 1, 2, 0, &[operator])], 27));
+        assert_eq!((pair.number, pair.lent[0].as_slice()), (0, [0; 27].as_slice()), "operation 9, operator {operator}, type {of}");
+        let right = right_scalar(1, operator, 1);
+        let left = [&[11], &right[1..]].concat();
+        let equal = filled(u64::from([6, 9, 11].contains(&operator)));
+        for scalar in [right, left] {
+            let answer = ask(&run_of(&arrays, std::slice::from_ref(&scalar), 27));
+            let cells = [equal, [0; 9], [0; 9]].concat();
+            assert_eq!((answer.number, &answer.lent[0]), (0, &cells), "operation {}, operator {operator}, type {of}", scalar[0]);
+        }
+    }
 }

@@ -5,8 +5,11 @@ use super::dice::Dice;
 use super::faults::change_byte;
 use super::steps::{self, StepBytes};
 use crate::paper::array::{Array, Declared};
+use crate::paper::cell::Cell;
 use crate::paper::judge::{judge, Shapes};
+use crate::paper::listing::operand;
 use crate::paper::moves::carry_out;
+use crate::paper::recipe::Step;
 
 /// A recipe in the making: the shapes so far, and the arrays so far while every value is known.
 struct Kitchen<'a> {
@@ -45,7 +48,7 @@ pub fn recipe(dice: &mut Dice, bundle: &[Declared], aim: Aim) -> Vec<u8> {
         }
     }
     let mut recipe = kitchen.recipe;
-    if dice.one_in(9) {
+    if dice.one_in(8) {
         damage(dice, &mut recipe);
     }
     recipe
@@ -55,14 +58,46 @@ impl Kitchen<'_> {
     /// A step that passes and has values, after a few tries; if none does, is-empty of the latest.
     fn add_fitting(&mut self, dice: &mut Dice, truth: bool) {
         for _ in 0..24 {
-            let proposed = if truth { steps::truth(dice, &self.shapes) } else { steps::fitting(dice, &self.shapes) };
             let passes = |bytes: &StepBytes| self.passes(bytes);
-            if let Some(bytes) = proposed.filter(passes) {
+            if let Some(bytes) = self.proposed(dice, truth).filter(passes) {
                 return self.add(&bytes);
             }
         }
         let latest = steps::operand(dice, &self.shapes);
         self.add(&steps::step(12, latest, 0, 0, &[4]));
+    }
+
+    /// A step that should pass; where they can be had, often one on what a comparison with an empty cell gave, and now and then a
+    /// comparison with an empty cell on one side alone.
+    fn proposed(&self, dice: &mut Dice, truth: bool) -> Option<StepBytes> {
+        let with_empty = match dice.below(16) {
+            0..=2 => self.on_unknown(dice),
+            3 => self.one_empty(dice),
+            _ => None,
+        };
+        let any = |dice: &mut Dice| if truth { steps::truth(dice, &self.shapes) } else { steps::fitting(dice, &self.shapes) };
+        with_empty.or_else(|| any(dice))
+    }
+
+    /// A step on one of those steps so far that are comparisons with an empty cell in their result.
+    fn on_unknown(&self, dice: &mut Dice) -> Option<StepBytes> {
+        let compares = |bytes: &[u8]| Step::of_bytes(bytes).is_some_and(|step| step.compares());
+        let unknown = |(bytes, result): (&[u8], &Array)| compares(bytes) && result.cells.values().any(|cell| *cell == Cell::Empty);
+        let steps = (17..).zip(self.recipe.chunks(36).zip(self.results.as_ref()?));
+        let found: Vec<u8> = steps.filter(|(_, step)| unknown(*step)).map(|(operand, _)| operand).collect();
+        let which = dice.pick_if_any(&found)?;
+        steps::on_unknown(dice, &self.shapes, which)
+    }
+
+    /// A comparison of two operands of which one is empty where the other is filled.
+    fn one_empty(&self, dice: &mut Dice) -> Option<StepBytes> {
+        let results = self.results.as_ref()?;
+        let array = |which: u8| operand(self.bundle, results, which);
+        let all = steps::operands(&self.shapes);
+        let pairs = all.iter().flat_map(|&a| all.iter().map(move |&b| (a, b)));
+        let found: Vec<(u8, u8)> = pairs.filter(|&(a, b)| emptied_apart(array(a), array(b))).collect();
+        let (a, b) = dice.pick_if_any(&found)?;
+        Some(steps::comparison(dice, array(a).of, a, b))
     }
 
     /// A step that is judged good and has a cell that refuses, if one is found in a few tries.
@@ -87,12 +122,8 @@ impl Kitchen<'_> {
 
     fn carried_out(&self, bytes: &[u8], results: &[Array]) -> Option<Array> {
         let (step, shape) = judge(bytes, &self.shapes).ok()?;
-        let operand = |which: u8| match which {
-            1..=4 => &self.bundle[usize::from(which) - 1].array,
-            _ => &results[usize::from(which) - 17],
-        };
-        let b = step.uses_b().then(|| operand(step.b));
-        carry_out(&step, &shape, operand(step.a), b).ok()
+        let b = step.uses_b().then(|| operand(self.bundle, results, step.b));
+        carry_out(&step, &shape, operand(self.bundle, results, step.a), b).ok()
     }
 
     /// The step as it is. If it doesn't pass, later steps see A's shape in its stead.
@@ -107,6 +138,12 @@ impl Kitchen<'_> {
         self.shapes.steps.extend(shape);
         self.recipe.extend(bytes);
     }
+}
+
+/// Whether two arrays of one type and extent have a coordinate at which one of them is empty and the other filled.
+fn emptied_apart(a: &Array, b: &Array) -> bool {
+    let empty = |cell: &Cell| *cell == Cell::Empty;
+    a.of == b.of && a.extent == b.extent && a.cells.values().zip(b.cells.values()).any(|(a, b)| empty(a) != empty(b))
 }
 
 /// One fault in the recipe's bytes.
@@ -125,7 +162,7 @@ fn damage(dice: &mut Dice, recipe: &mut Vec<u8>) {
         5 => recipe[at] = dice.pick(&[0, 13, 255, 14]),
         6 => recipe[at + 1 + dice.index(2)] = dice.pick(&[0, 5, 16, 33, 255, 32, 17 + (at / 36) as u8, 4, 3]),
         7 => recipe[at + 3] = dice.pick(&[0, 1, 2, 5, 255]),
-        8 => recipe[at + 4] = dice.pick(&[0, 14, 255, 5, 13]),
+        8 => recipe[at + 4] = dice.pick(&[0, 14, 255, 5, 13, 7, 8]),
         9 => recipe[at + 4 + dice.index(32)] = 1 + dice.below(255) as u8,
         10 | 11 => recipe[at + dice.pick(&[5, 6, 7, 2, 3, 16, 35])] = 1,
         _ => {

@@ -60,6 +60,28 @@ pub fn truth(dice: &mut Dice, shapes: &Shapes) -> Option<StepBytes> {
     (shape.of == Type::Boolean).then_some(bytes)
 }
 
+/// A comparison of two operands of that type.
+pub fn comparison(dice: &mut Dice, of: Type, a: u8, b: u8) -> StepBytes {
+    let comparisons = if of.is_number() { 6 } else { 2 };
+    step(9, a, b, 0, &[6 + dice.index(comparisons) as u8])
+}
+
+/// A step that takes truth values of which some are unknown: NOT or a single operator of 5 to 7, AND or OR with a scalar, or a pair
+/// with an operand that fits, on either side.
+pub fn on_unknown(dice: &mut Dice, shapes: &Shapes, unknown: u8) -> Option<StepBytes> {
+    match dice.below(6) {
+        0..=2 => Some(step(12, unknown, 0, 0, &[dice.pick(&[3, 3, 5, 6, 7])])),
+        3 => Some(with_scalar(dice.pick(&[10, 11]), unknown, dice.pick(&[12, 13]), dice.below(2))),
+        _ => {
+            let mut bytes = two_operands(dice, shapes, 9, unknown)?;
+            if dice.one_in(2) {
+                bytes.swap(1, 2);
+            }
+            Some(bytes)
+        }
+    }
+}
+
 /// Arithmetic at which a value may well refuse: edges and zeros as scalars, pairs, negate and absolute.
 pub fn risky(dice: &mut Dice, shapes: &Shapes) -> Option<StepBytes> {
     let a = operand(dice, shapes);
@@ -67,7 +89,7 @@ pub fn risky(dice: &mut Dice, shapes: &Shapes) -> Option<StepBytes> {
     if !shape.of.is_number() {
         return None;
     }
-    let operation = dice.pick(&[9, 9, 9, 10, 10, 11, 11, 12]);
+    let operation = dice.pick(&[9, 9, 9, 10, 10, 11, 11, 12, 12]);
     match operation {
         9 => two_operands(dice, shapes, 9, a),
         12 => Some(step(12, a, 0, 0, &[dice.pick(&[1, 2])])),
@@ -192,7 +214,7 @@ fn pair_operator(dice: &mut Dice, of: Type) -> u8 {
 
 fn single_operator(dice: &mut Dice, of: Type) -> u8 {
     if of == Type::Boolean {
-        dice.pick(&[3, 3, 4])
+        dice.pick(&[3, 3, 4, 5, 6, 7])
     } else {
         dice.pick(&[1, 1, 2, 2, 4])
     }
@@ -224,7 +246,7 @@ pub fn loose(dice: &mut Dice, shapes: &Shapes) -> StepBytes {
     if dice.one_in(3) {
         b = a;
     }
-    match dice.pick(&[1, 1, 2, 2, 3, 4, 5, 5, 6, 6, 7, 7, 7, 8, 8, 8, 9, 9, 10, 11, 12]) {
+    match dice.pick(&[1, 1, 2, 2, 3, 4, 5, 5, 6, 6, 7, 7, 7, 8, 8, 8, 9, 9, 10, 11, 12, 12, 12]) {
         operation @ (1 | 3) => step(operation, a, 0, 0, &pairs(dice, &shape, near_pair)),
         2 => step(2, a, 0, axis, &numbers(&[near(dice, &shape.extent.axes[usize::from(axis).clamp(1, count) - 1])])),
         4 => {
@@ -237,7 +259,7 @@ pub fn loose(dice: &mut Dice, shapes: &Shapes) -> StepBytes {
         8 => step(8, a, b, axis, &[]),
         9 => step(9, a, b, 0, &[1 + dice.index(13) as u8]),
         operation @ (10 | 11) => loose_scalar(dice, operation, a, &shape),
-        _ => step(12, a, 0, 0, &[1 + dice.index(4) as u8]),
+        _ => step(12, a, 0, 0, &[dice.pick(&[1, 2, 3, 4, 5, 5, 6, 6, 7, 7, 8, 8])]),
     }
 }
 

@@ -75,8 +75,8 @@ fn pair_operator_takes(operator: u8, of: Type) -> bool {
 fn single_operator_takes(operator: u8, of: Type) -> bool {
     match operator {
         1 | 2 => of.is_number(),
-        3 => of == Type::Boolean,
-        _ => true,
+        4 => true,
+        _ => of == Type::Boolean,
     }
 }
 

@@ -40,12 +40,8 @@ impl Plan {
     pub fn results(&self, arrays: &[Declared]) -> Result<Vec<Array>, Refusal> {
         let mut results: Vec<Array> = vec![];
         for (number, (step, shape)) in (1..).zip(self.steps.iter().zip(&self.shapes)) {
-            let operand = |which: u8| match which {
-                1..=4 => &arrays[usize::from(which) - 1].array,
-                _ => &results[usize::from(which) - 17],
-            };
-            let b = step.uses_b().then(|| operand(step.b));
-            let result = super::moves::carry_out(step, shape, operand(step.a), b);
+            let b = step.uses_b().then(|| operand(arrays, &results, step.b));
+            let result = super::moves::carry_out(step, shape, operand(arrays, &results, step.a), b);
             let result = result.map_err(|(refusal, ordinality)| refused_at(refusal, number, ordinality))?;
             results.push(result);
         }
@@ -65,6 +61,14 @@ impl Plan {
                 Err(refusal)
             }
         }
+    }
+}
+
+/// The array that an operand of a judged step names: 1..4 of the bundle, 17..32 the result of step 1..16.
+pub fn operand<'a>(arrays: &'a [Declared], results: &'a [Array], which: u8) -> &'a Array {
+    match which {
+        1..=4 => &arrays[usize::from(which) - 1].array,
+        _ => &results[usize::from(which) - 17],
     }
 }
 

@@ -1,5 +1,5 @@
-//! Paper 01 in plain Rust, written from its words alone and sharing nothing with the engine that is proved.
-//! An array is a map from coordinate to cell, and each operation is said over coordinates, as the paper says it.
+//! Paper 01 and request [1] of paper 02 in plain Rust, written from their words alone and sharing nothing with the engine that
+//! is proved. An array is a map from coordinate to cell, and each operation is said over coordinates, as the paper says it.
 //! `face` answers the nine callable parts with it; bytes are met only in `bytes`, `bundle`, `recipe` and `face`.
 
 pub mod array;

@@ -87,13 +87,18 @@ impl Step {
     pub fn operator_known(&self) -> bool {
         match self.operation {
             Pair | RightScalar | LeftScalar => (1..=13).contains(&self.operator()),
-            Single => (1..=4).contains(&self.operator()),
+            Single => (1..=7).contains(&self.operator()),
             _ => true,
         }
     }
 
     pub fn operator(&self) -> u8 {
         self.detail[0]
+    }
+
+    /// Whether the step compares: =, <>, <, <=, > or >= in operations 9 to 11.
+    pub fn compares(&self) -> bool {
+        matches!(self.operation, Pair | RightScalar | LeftScalar) && (6..=11).contains(&self.operator())
     }
 
     pub fn pairs(&self, axes_of_a: usize) -> Vec<(i32, i32)> {

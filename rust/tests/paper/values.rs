@@ -1,4 +1,4 @@
-//! The operators at one cell: arithmetic, comparisons, AND and OR on two cells, and the four single operators.
+//! The operators at one cell: arithmetic, comparisons, AND and OR on two cells, and the seven single operators.
 //! What has no value is refused: 13 for a division by zero or MOD zero, 12 for a result that doesn't fit.
 
 use super::cell::Cell::{self, *};
@@ -8,13 +8,13 @@ use std::cmp::Ordering;
 pub fn pair(operator: u8, left: Cell, right: Cell) -> Result<Cell, u32> {
     match operator {
         1..=5 => arithmetic(operator, left, right),
-        6..=11 => Ok(Truth(compare(operator, left, right))),
+        6..=11 => Ok(compare(operator, left, right)),
         12 => Ok(both(left, right)),
         _ => Ok(negated(both(negated(left), negated(right)))),
     }
 }
 
-/// A single operator (1 negate, 2 absolute, 3 NOT, 4 is-empty) on a cell.
+/// A single operator (1 negate, 2 absolute, 3 NOT, 4 is-empty, 5 is-true, 6 is-false, 7 is-unknown) on a cell.
 pub fn single(operator: u8, cell: Cell) -> Result<Cell, u32> {
     match (operator, cell) {
         (1, Int(number)) => fitting(-i128::from(number)),
@@ -22,7 +22,9 @@ pub fn single(operator: u8, cell: Cell) -> Result<Cell, u32> {
         (1, Float(number)) => Ok(Float(f64::from_bits(number.to_bits() ^ SIGN))),
         (2, Float(number)) => Ok(Float(f64::from_bits(number.to_bits() & !SIGN))),
         (3, _) => Ok(negated(cell)),
-        (4, _) => Ok(Truth(cell == Empty)),
+        (5, _) => Ok(Truth(cell == Truth(true))),
+        (6, _) => Ok(Truth(cell == Truth(false))),
+        (4 | 7, _) => Ok(Truth(cell == Empty)),
         _ => Ok(Empty),
     }
 }
@@ -70,22 +72,23 @@ fn binary(operator: u8, left: f64, right: f64) -> Result<Cell, u32> {
     }
 }
 
-/// A comparison with an empty cell is FALSE.
-fn compare(operator: u8, left: Cell, right: Cell) -> bool {
+/// A comparison with an empty cell among its two is an empty cell, SQL's unknown; so empty = empty is one too.
+fn compare(operator: u8, left: Cell, right: Cell) -> Cell {
     let order = match (left, right) {
         (Int(left), Int(right)) => Some(left.cmp(&right)),
         (Float(left), Float(right)) => left.partial_cmp(&right),
         (Truth(left), Truth(right)) => Some(left.cmp(&right)),
         _ => None,
     };
-    order.is_some_and(|order| match operator {
+    let holds = |order: Ordering| match operator {
         6 => order == Ordering::Equal,
         7 => order != Ordering::Equal,
         8 => order == Ordering::Less,
         9 => order != Ordering::Greater,
         10 => order == Ordering::Greater,
         _ => order != Ordering::Less,
-    })
+    };
+    order.map_or(Empty, |order| Truth(holds(order)))
 }
 
 /// AND, with empty as SQL's unknown: FALSE if either is, else unknown if either is, else TRUE.
