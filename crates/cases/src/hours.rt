@@ -32,8 +32,8 @@ fn turns(who_lo: u32, who_hi: u32, turn_lo: u32, turn_hi: u32) -> Extent {
     and_axis(who, TURN, turn_lo, turn_hi)
 }
 
-fn put_minutes(cells: &mut [u8], k: usize, a: i64, b: i64, c: i64) {
-    put_three(cells, k, Cell::Int(a), Cell::Int(b), Cell::Int(c));
+fn put_minutes(cells: &mut [u8], k: usize, a: i64, b: i64, third: Cell) {
+    put_three(cells, k, Cell::Int(a), Cell::Int(b), third);
 }
 
 // Starts and ends of two people's three turns; person 1's turn 3 as it is given.
@@ -47,15 +47,15 @@ pub fn pack_roster(bundle: &mut [u8], start: Cell, end: Cell) {
     };
     let forms = [form; paper::ARRAYS];
     let mut cells = [0u8; 108];
-    put_three(&mut cells, 0, Cell::Int(1320), Cell::Int(2760), start);
-    put_minutes(&mut cells, 3, 360, 1200, 3240);
-    put_three(&mut cells, 6, Cell::Int(1800), Cell::Int(3240), end);
-    put_minutes(&mut cells, 9, 840, 1680, 3720);
+    put_minutes(&mut cells, 0, 1320, 2760, start);
+    put_minutes(&mut cells, 3, 360, 1200, Cell::Int(3240));
+    put_minutes(&mut cells, 6, 1800, 3240, end);
+    put_minutes(&mut cells, 9, 840, 1680, Cell::Int(3720));
     pack_arrays(2, forms, &cells, bundle);
 }
 
 // The next starts, moved to the turn before, and the ends.
-fn write_trims(steps: &mut [u8]) {
+pub fn write_trims(steps: &mut [u8]) {
     step(steps, 0, TRIM, 1, 0, 0);
     limits(steps, 0, 1, 2, 2, 3);
     step(steps, 1, SHIFT, 17, 0, 0);
@@ -65,17 +65,11 @@ fn write_trims(steps: &mut [u8]) {
 }
 
 // The rests, and those below 660.
-fn write_rests(steps: &mut [u8]) {
+pub fn write_rests(steps: &mut [u8]) {
     step(steps, 3, PAIR, 18, 19, 0);
     detail(steps, 3, 0, 2);
     step(steps, 4, RIGHT, 20, 0, 0);
     scalar(steps, 4, 8, 660);
-}
-
-// The whole recipe, on zeros.
-pub fn write_recipe(steps: &mut [u8]) {
-    write_trims(steps);
-    write_rests(steps);
 }
 
 fn show_area(bundle: &[u8], steps: &[u8], work: &mut [u8]) {
@@ -97,7 +91,8 @@ pub fn show() {
     let mut bundle = [0u8; 214];
     pack_roster(&mut bundle, Cell::Int(4200), Cell::Int(4680));
     let mut steps = [0u8; 180];
-    write_recipe(&mut steps);
+    write_trims(&mut steps);
+    write_rests(&mut steps);
     let mut work = [0u8; 180];
     say(b"eleven hours:");
     show_page(&bundle, &steps, &mut work, Ordinality(1));

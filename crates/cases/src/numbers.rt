@@ -1,4 +1,5 @@
-// The paper's cases of division, MOD, sums and shifts to the end of the range.
+// The paper's cases of division, MOD, sums and shifts to the end of the range; comparisons with an empty cell, and single operators on
+// what these give.
 use paper::Cell;
 use paper::Total;
 use shown::ask::pack_arrays;
@@ -6,6 +7,7 @@ use shown::ask::show_run;
 use shown::ask::show_total;
 use shown::make::RIGHT;
 use shown::make::SHIFT;
+use shown::make::SINGLE;
 use shown::make::TRIM;
 use shown::make::ZERO;
 use shown::make::detail;
@@ -66,6 +68,16 @@ fn show_empty(bundle: &[u8]) {
     show_run(bundle, &steps);
 }
 
+// A single operator on array 1, cell by cell with the scalar 7.
+fn show_told(bundle: &[u8], operator: i64, single: i64) {
+    let mut steps = [0u8; 72];
+    step(&mut steps, 0, RIGHT, 1, 0, 0);
+    scalar(&mut steps, 0, operator, 7);
+    step(&mut steps, 1, SINGLE, 17, 0, 0);
+    detail(&mut steps, 1, 0, single);
+    show_run(bundle, &steps);
+}
+
 // The lower limit moved to -1,000,000.
 fn show_shift(bundle: &[u8]) {
     let mut steps = [0u8; 36];
@@ -99,10 +111,41 @@ fn show_divided(bundle: &[u8]) {
     show_empty(bundle);
 }
 
+fn show_compared(bundle: &[u8]) {
+    say(b"= 7:");
+    show_scalar(bundle, 6, 7);
+    say(b"<> 7:");
+    show_scalar(bundle, 7, 7);
+    say(b"< 7:");
+    show_scalar(bundle, 8, 7);
+    say(b"<= 7:");
+    show_scalar(bundle, 9, 7);
+    say(b"> 7:");
+    show_scalar(bundle, 10, 7);
+    say(b">= 7:");
+    show_scalar(bundle, 11, 7);
+}
+
+// Single operators 5 to 8 on "= 7", and 5 on an INT.
+fn show_singles(bundle: &[u8]) {
+    say(b"is-true of = 7:");
+    show_told(bundle, 6, 5);
+    say(b"is-false of = 7:");
+    show_told(bundle, 6, 6);
+    say(b"is-unknown of = 7:");
+    show_told(bundle, 6, 7);
+    say(b"single operator 8 of = 7:");
+    show_told(bundle, 6, 8);
+    say(b"is-true of MOD 7:");
+    show_told(bundle, MOD, 5);
+}
+
 pub fn show() {
     let mut bundle = [0u8; 165];
     pack_numbers(&mut bundle);
     show_divided(&bundle);
+    show_compared(&bundle);
+    show_singles(&bundle);
     say(b"sum of largest, 1, -1:");
     show_total(&bundle, 2, Total::Sum);
     say(b"sum of largest, 1:");
