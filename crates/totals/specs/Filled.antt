@@ -14,6 +14,10 @@ use Rattle.totals.specs.Best.{beatsOf}
 abbrev pub elseIf : Bool → (Cell → Cell → Bool) → Cell → Cell → Bool
 elseIf v beats c b = if emptyCell c || emptyCell b then v else beats c b
 
+-- a cell in front of others, unless it is empty
+abbrev unless : Bool → Cell → ℕ → List Numbered → List Numbered
+unless e c o later = if e then later else record { at = o; cell = c } ∷ later
+
 module _ (v : Bool) (beats : Cell → Cell → Bool) where
   both-filled : (c b : Cell) → emptyCell c ≡ false → emptyCell b ≡ false → elseIf v beats c b ≡ beats c b
   both-filled c b p q = rw (p, q)
@@ -22,11 +26,11 @@ module _ (v : Bool) (beats : Cell → Cell → Bool) where
   abbrev Same : List Numbered → Type 0
   Same later = (b : Cell) → emptyCell b ≡ false → best (elseIf v beats) b later ≡ best beats b later
 
-  -- a cell in front of them, if it is filled
-  front : (e : Bool) (c : Cell) (o : ℕ) (later : List Numbered) → emptyCell c ≡ e → Same later → Same (if e then later else record { at = o; cell = c } ∷ later)
+  front : (e : Bool) (c : Cell) (o : ℕ) (later : List Numbered) → emptyCell c ≡ e → Same later → Same (unless e c o later)
   unfolding best
   front true c o later p s b q = s b q
-  front false c o later p s b q = ap (λ (z : Bool). best (elseIf v beats) (if z then c else b) later) (both-filled c b p q) ∙ by (beats c b)
+  front false c o later p s b q =
+      ap (λ (z : Bool). best (elseIf v beats) (if z then c else b) later) (both-filled c b p q) ∙ by (beats c b)
     where
       by : (z : Bool) → best (elseIf v beats) (if z then c else b) later ≡ best beats (if z then c else b) later
       by true = s c p
@@ -37,8 +41,9 @@ module _ (v : Bool) (beats : Cell → Cell → Bool) where
   same o [] = λ b q. refl
   same o (c ∷ cs) = front (emptyCell c) c o (filledFrom (o + 1) cs) refl (same (o + 1) cs)
 
-  front-of : (e : Bool) (c : Cell) (o : ℕ) (later : List Numbered) → emptyCell c ≡ e → Same later → bestOf (elseIf v beats) later ≡ bestOf beats later
-      → bestOf (elseIf v beats) (if e then later else record { at = o; cell = c } ∷ later) ≡ bestOf beats (if e then later else record { at = o; cell = c } ∷ later)
+  front-of : (e : Bool) (c : Cell) (o : ℕ) (later : List Numbered) → emptyCell c ≡ e → Same later
+      → bestOf (elseIf v beats) later ≡ bestOf beats later
+      → bestOf (elseIf v beats) (unless e c o later) ≡ bestOf beats (unless e c o later)
   unfolding bestOf
   front-of true c o later p s r = r
   front-of false c o later p s r = s c p
@@ -49,5 +54,6 @@ module _ (v : Bool) (beats : Cell → Cell → Bool) where
   best-same o (c ∷ cs) = front-of (emptyCell c) c o (filledFrom (o + 1) cs) refl (same (o + 1) cs) (best-same (o + 1) cs)
 
 -- the smallest, or the largest, of an array's cells
-pub filled-alone : (v largest : Bool) (cs : List Cell) → bestOf (elseIf v (beatsOf largest)) (filledFrom 1 cs) ≡ bestOf (beatsOf largest) (filledFrom 1 cs)
+pub filled-alone : (v largest : Bool) (cs : List Cell)
+    → bestOf (elseIf v (beatsOf largest)) (filledFrom 1 cs) ≡ bestOf (beatsOf largest) (filledFrom 1 cs)
 filled-alone v largest cs = best-same v (beatsOf largest) 1 cs
