@@ -10,29 +10,29 @@ use Rattle.paper.specs.Operators.{emptyCell}
 use Rattle.paper.specs.Totals.{Numbered, filledFrom, best, bestOf}
 use Rattle.totals.specs.Best.{beatsOf}
 
--- a comparison, but v where one of the two is empty
-abbrev pub elseIf : Bool → (Cell → Cell → Bool) → Cell → Cell → Bool
-elseIf v beats c b = if emptyCell c || emptyCell b then v else beats c b
+-- a comparison that gives v where one of the two is empty
+abbrev pub emptyAs : Bool → (Cell → Cell → Bool) → Cell → Cell → Bool
+emptyAs v beats c b = if emptyCell c || emptyCell b then v else beats c b
 
 -- a cell in front of others, unless it is empty
-abbrev unless : Bool → Cell → ℕ → List Numbered → List Numbered
-unless e c o later = if e then later else record { at = o; cell = c } ∷ later
+abbrev unlessEmpty : Bool → Cell → ℕ → List Numbered → List Numbered
+unlessEmpty e c o later = if e then later else record { at = o; cell = c } ∷ later
 
 module _ (v : Bool) (beats : Cell → Cell → Bool) where
-  both-filled : (c b : Cell) → emptyCell c ≡ false → emptyCell b ≡ false → elseIf v beats c b ≡ beats c b
+  both-filled : (c b : Cell) → emptyCell c ≡ false → emptyCell b ≡ false → emptyAs v beats c b ≡ beats c b
   both-filled c b p q = rw (p, q)
 
   -- from a filled cell on, the best of these cells is the same
   abbrev Same : List Numbered → Type 0
-  Same later = (b : Cell) → emptyCell b ≡ false → best (elseIf v beats) b later ≡ best beats b later
+  Same later = (b : Cell) → emptyCell b ≡ false → best (emptyAs v beats) b later ≡ best beats b later
 
-  front : (e : Bool) (c : Cell) (o : ℕ) (later : List Numbered) → emptyCell c ≡ e → Same later → Same (unless e c o later)
+  front : (e : Bool) (c : Cell) (o : ℕ) (later : List Numbered) → emptyCell c ≡ e → Same later → Same (unlessEmpty e c o later)
   unfolding best
   front true c o later p s b q = s b q
   front false c o later p s b q =
-      ap (λ (z : Bool). best (elseIf v beats) (if z then c else b) later) (both-filled c b p q) ∙ by (beats c b)
+      ap (λ (z : Bool). best (emptyAs v beats) (if z then c else b) later) (both-filled c b p q) ∙ by (beats c b)
     where
-      by : (z : Bool) → best (elseIf v beats) (if z then c else b) later ≡ best beats (if z then c else b) later
+      by : (z : Bool) → best (emptyAs v beats) (if z then c else b) later ≡ best beats (if z then c else b) later
       by true = s c p
       by false = s b q
 
@@ -42,18 +42,18 @@ module _ (v : Bool) (beats : Cell → Cell → Bool) where
   same o (c ∷ cs) = front (emptyCell c) c o (filledFrom (o + 1) cs) refl (same (o + 1) cs)
 
   front-of : (e : Bool) (c : Cell) (o : ℕ) (later : List Numbered) → emptyCell c ≡ e → Same later
-      → bestOf (elseIf v beats) later ≡ bestOf beats later
-      → bestOf (elseIf v beats) (unless e c o later) ≡ bestOf beats (unless e c o later)
+      → bestOf (emptyAs v beats) later ≡ bestOf beats later
+      → bestOf (emptyAs v beats) (unlessEmpty e c o later) ≡ bestOf beats (unlessEmpty e c o later)
   unfolding bestOf
   front-of true c o later p s r = r
   front-of false c o later p s r = s c p
 
-  best-same : (o : ℕ) (cs : List Cell) → bestOf (elseIf v beats) (filledFrom o cs) ≡ bestOf beats (filledFrom o cs)
+  best-same : (o : ℕ) (cs : List Cell) → bestOf (emptyAs v beats) (filledFrom o cs) ≡ bestOf beats (filledFrom o cs)
   unfolding filledFrom bestOf
   best-same o [] = refl
   best-same o (c ∷ cs) = front-of (emptyCell c) c o (filledFrom (o + 1) cs) refl (same (o + 1) cs) (best-same (o + 1) cs)
 
 -- the smallest, or the largest, of an array's cells
 pub filled-alone : (v largest : Bool) (cs : List Cell)
-    → bestOf (elseIf v (beatsOf largest)) (filledFrom 1 cs) ≡ bestOf (beatsOf largest) (filledFrom 1 cs)
+    → bestOf (emptyAs v (beatsOf largest)) (filledFrom 1 cs) ≡ bestOf (beatsOf largest) (filledFrom 1 cs)
 filled-alone v largest cs = best-same v (beatsOf largest) 1 cs
