@@ -14,6 +14,8 @@ use Rattle.paper.specs.declared.Reading.{Reading}
 use Rattle.paper.specs.declared.Refusal.{Refusal}
 use Rattle.paper.specs.declared.PackAnswer.{PackAnswer}
 use Rattle.paper.specs.declared.PackAnswer.the-variants as Pack
+use Rattle.paper.specs.declared.JsonAnswer.{JsonAnswer}
+use Rattle.paper.specs.declared.JsonAnswer.the-variants as Json
 use Rattle.paper.specs.declared.ReferenceAnswer.{ReferenceAnswer}
 use Rattle.paper.specs.declared.ReferenceAnswer.the-variants as Reference
 use Rattle.paper.specs.declared.WalkAnswer.{WalkAnswer}
@@ -31,7 +33,7 @@ use Rattle.paper.specs.Limits.{mostAxes, mostArrays}
 use Rattle.paper.specs.Refusals.{Res, got, refused, refusal}
 use Rattle.paper.specs.Axes.{noAxis, Shape, shaped}
 use Rattle.paper.specs.Reference.{Walked}
-use Rattle.paper.specs.Answers.{axesOf, extentOf, shapeOf, readSaid, packSaid, referenceSaid, seenSaid, walkSaid, totalSaid, runSaid, pageSaid, stretchSaid}
+use Rattle.paper.specs.Answers.{axesOf, extentOf, shapeOf, readSaid, packSaid, referenceSaid, seenSaid, walkSaid, totalSaid, runSaid, pageSaid, stretchSaid, jsonSaid}
 
 -- ---- answers that are enums
 
@@ -41,6 +43,9 @@ fixed said back h a b e = sym (h a) ∙ ap back e ∙ h b
 
 pub pack-one : (a b : PackAnswer) → packSaid a ≡ packSaid b → a ≡ b
 pack-one = fixed packSaid (λ m. elim m [ got x ↦ Pack.Got x | refused r ↦ Pack.Refused r ]) (λ a. elim a [ Pack.Got x ↦ refl | Pack.Refused r ↦ refl ])
+
+pub json-one : (a b : JsonAnswer) → jsonSaid a ≡ jsonSaid b → a ≡ b
+json-one = fixed jsonSaid (λ m. elim m [ got x ↦ Json.Got x | refused r ↦ Json.Refused r ]) (λ a. elim a [ Json.Got x ↦ refl | Json.Refused r ↦ refl ])
 
 pub reference-one : (a b : ReferenceAnswer) → referenceSaid a ≡ referenceSaid b → a ≡ b
 reference-one = fixed referenceSaid (λ m. elim m [ got x ↦ Reference.Got x | refused r ↦ Reference.Refused r ]) (λ a. elim a [ Reference.Got x ↦ refl | Reference.Refused r ↦ refl ])

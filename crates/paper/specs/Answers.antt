@@ -29,6 +29,8 @@ use Rattle.paper.specs.declared.PageAnswer.the-variants as Page
 use Rattle.paper.specs.declared.Part.{Part}
 use Rattle.paper.specs.declared.StretchAnswer.{StretchAnswer}
 use Rattle.paper.specs.declared.StretchAnswer.the-variants as Stretch
+use Rattle.paper.specs.declared.JsonAnswer.{JsonAnswer}
+use Rattle.paper.specs.declared.JsonAnswer.the-variants as Json
 use Rattle.paper.specs.Limits.{mostAxes, axisBytes, typeBytes, cellBytes}
 use Rattle.paper.specs.Refusals.{Res, got, refused, _>>=_, if_then_else_}
 use Rattle.paper.specs.Axes.{cells, noAxis, Shape, Array, shaped}
@@ -103,3 +105,7 @@ pageSaid (Page.Refused r) = refused r
 abbrev pub stretchSaid : StretchAnswer → Res Part
 stretchSaid (Stretch.Got p) = got p
 stretchSaid (Stretch.Refused r) = refused r
+
+abbrev pub jsonSaid : JsonAnswer → Res ℕ
+jsonSaid (Json.Got n) = got n
+jsonSaid (Json.Refused r) = refused r

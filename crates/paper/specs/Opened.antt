@@ -11,6 +11,7 @@ use Rattle.paper.specs.Values as Values
 use Rattle.paper.specs.Listing as Listing
 use Rattle.paper.specs.Stretch as Stretch
 use Rattle.paper.specs.Rests as Rests
+use Rattle.paper.specs.Json as Json
 
 unfoldable pub numbers : Unit {0}
 unfolding Numbers.leBytes Numbers.position Numbers.distance Numbers.lastOf Numbers.from Numbers.concat Numbers.total Numbers.same Numbers.zeros
@@ -60,6 +61,10 @@ unfoldable pub rests : Unit {0}
 unfolding Rests.digits Rests.decimal Rests.spaced Rests.printed Rests.rests
 rests = tt
 
+unfoldable pub json : Unit {0}
+unfolding Json.cellText Json.commas Json.layers Json.brackets Json.written
+json = tt
+
 unfoldable pub opened : Unit {0}
-unfolding numbers axes cells operators bundle reference totals recipe values listing stretch rests
+unfolding numbers axes cells operators bundle reference totals recipe values listing stretch rests json
 opened = tt
