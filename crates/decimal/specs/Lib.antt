@@ -1,5 +1,6 @@
 -- What the writers of decimal text promise, and the laws that they cite.
 pub mod Wrote
 pub mod Digits
+pub mod Pairs
 pub mod Lines
 pub mod Rows

@@ -1,12 +1,12 @@
 -- What a writer says of its buffer: where it stopped, and what stands there now. One writer after the other writes both texts.
 use Prim.Native.Nat.{ℕ, _+_, _≤_}
 use mathlib.Core.Path.{_≡_, refl, sym, ap, _∙_, subst}
-use mathlib.Core.List.{List, _++_}
+use mathlib.Core.List.{List, [], _++_}
 use native.Mathlib.Omega.{arith}
 use lib.ListN.{length, length-append}
 use lib.Seq.{take-length}
 use Rattle.paper.specs.Numbers.{part}
-use Rattle.laws.specs.Put.{put, length-put, after}
+use Rattle.laws.specs.Put.{put, put-none, length-put, after}
 
 -- x was put into d from byte `at` on, which gave y, and r is the byte after x
 abbrev pub Wrote : List ℕ → ℕ → List ℕ → ℕ → List ℕ → Type 0
@@ -20,6 +20,14 @@ wrote-then d at x m y w r z h p q = (omega (arith, length-append x w, p .0, q .0
 -- the same text said otherwise
 pub wrote-as : (d : List ℕ) (at : ℕ) (x w : List ℕ) (r : ℕ) (y : List ℕ) → w ≡ x → Wrote d at x r y → Wrote d at w r y
 wrote-as d at x w r y e p = subst (λ (l : List ℕ). Wrote d at l r y) (sym e) p
+
+-- a text in two parts, where there is room for all of it
+pub wrote-both : (d : List ℕ) (at : ℕ) (x w t : List ℕ) (m r : ℕ) (y z : List ℕ) → t ≡ x ++ w → at + length t ≤ length d → Wrote d at x m y → Wrote y m w r z → Wrote d at t r z
+wrote-both d at x w t m r y z e h p q = wrote-as d at (x ++ w) t r z e (wrote-then d at x m y w r z (omega (arith, ap length e, length-append x w)) p q)
+
+-- nothing
+pub wrote-none : (d : List ℕ) (at : ℕ) → Wrote d at [] at d
+wrote-none d at = (omega arith, sym (put-none d at))
 
 -- the buffer keeps its length
 pub wrote-long : (d : List ℕ) (at : ℕ) (x : List ℕ) (r : ℕ) (y : List ℕ) → at + length x ≤ length d → Wrote d at x r y → length y ≡ length d

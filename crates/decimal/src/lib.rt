@@ -1,5 +1,6 @@
-// Numbers and positions in decimal, and the lines that the program prints of a refusal and of a listing. Each function writes into
-// `out` from the byte `at` on and answers the byte after what it wrote; the rest of `out` stays.
+// Numbers and positions in decimal, how many bytes they take, and the lines that the program prints of a refusal and of a listing.
+// Each writer writes into `out` from the byte `at` on and answers the byte after what it wrote; the rest of `out` stays.
+ghost use mathlib.Core.Path.{_≡_};
 ghost use mathlib.Core.List.{[], _∷_};
 ghost use Prim.Native.Nat.{_+_, _*_, _<_, _≤_};
 ghost use lib.IntN.{pos};
@@ -8,11 +9,13 @@ ghost use Rattle.paper.specs.Limits.{limitBytes};
 ghost use Rattle.paper.specs.Numbers.{position};
 ghost use Rattle.paper.specs.Rests.{digits, decimal, refusedText};
 ghost use Rattle.decimal.specs.Wrote.{Wrote};
-ghost use Rattle.decimal.specs.Digits.{mostDigits, mostSigned};
+ghost use Rattle.decimal.specs.Digits.{mostSigned, sign};
+ghost use Rattle.decimal.specs.Pairs.{pair, four, eight};
 ghost use Rattle.decimal.specs.Lines.{mostSpaced, mostRefused, mostFound, number, foundLine};
 ghost use Rattle.decimal.specs.Rows.{mostRow, lineAt};
 use cell::bytes::copy_bytes;
 use cell::bytes::half;
+use cell::ints::magnitude;
 use paper::Refusal;
 use positions::LIMIT;
 use positions::REACH;
@@ -26,17 +29,152 @@ fn put_byte(out: &mut [u8], at: usize, b: u8) -> usize
     at + 1
 }
 
-// The digits of n: those of n / 10, then the last.
-pub fn put_decimal(out: &mut [u8], at: usize, n: u64) -> usize
-    requires { ⌜ at + mostDigits ≤ length (now out) ⌝ }
+// How many digits a number of at most four has.
+fn short_length(n: u64) -> usize
+    requires { ⌜ n < 10000 ⌝ }
+    ensures { λ r. ⌜ (r ≡ length (digits 19 n)) × (r ≤ 4) ⌝ }
+{
+    if n < 100 {
+        if n < 10 {
+            return 1;
+        }
+        return 2;
+    }
+    if n < 1000 {
+        return 3;
+    }
+    4
+}
+
+// How many digits n has. (LLVM makes comparisons of the divisions.)
+pub fn decimal_length(n: u64) -> usize
+    ensures { λ r. ⌜ r ≡ length (digits 19 n) ⌝ }
+{
+    if n < 10000 {
+        return short_length(n);
+    }
+    if n < 100000000 {
+        return 4 + short_length(n / 10000);
+    }
+    if n < 1000000000000 {
+        return 8 + short_length(n / 100000000);
+    }
+    if n < 10000000000000000 {
+        return 12 + short_length(n / 1000000000000);
+    }
+    16 + short_length(n / 10000000000000000)
+}
+
+// The last two digits of n.
+fn put_pair(out: &mut [u8], at: usize, n: u64) -> usize
+    requires { ⌜ at + 2 ≤ length (now out) ⌝ }
+    ensures { λ r. ⌜ Wrote (now (out .entry)) at (pair n) r (now (out .exit)) ⌝ }
+{
+    let two = (n % 100) as u8;
+    out[at] = b'0' + two / 10;
+    out[at + 1] = b'0' + two % 10;
+    at + 2
+}
+
+// The last four digits of n.
+fn put_four(out: &mut [u8], at: usize, n: u64) -> usize
+    requires { ⌜ at + 4 ≤ length (now out) ⌝ }
+    ensures { λ r. ⌜ Wrote (now (out .entry)) at (four n) r (now (out .exit)) ⌝ }
+{
+    let low = n % 10000;
+    let from = put_pair(out, at, low / 100);
+    put_pair(out, from, low)
+}
+
+// The last eight digits of n.
+fn put_eight(out: &mut [u8], at: usize, n: u64) -> usize
+    requires { ⌜ at + 8 ≤ length (now out) ⌝ }
+    ensures { λ r. ⌜ Wrote (now (out .entry)) at (eight n) r (now (out .exit)) ⌝ }
+{
+    let low = n % 100000000;
+    let from = put_four(out, at, low / 10000);
+    put_four(out, from, low)
+}
+
+// The digits of a number of at most four.
+fn put_short(out: &mut [u8], at: usize, n: u64) -> usize
+    requires { ⌜ (n < 10000) × (at + length (digits 19 n) ≤ length (now out)) ⌝ }
     ensures { λ r. ⌜ Wrote (now (out .entry)) at (digits 19 n) r (now (out .exit)) ⌝ }
 {
-    let digit = b'0' + (n % 10) as u8;
     if n < 10 {
-        return put_byte(out, at, digit);
+        return put_byte(out, at, b'0' + n as u8);
     }
-    let last = put_decimal(out, at, n / 10);
-    put_byte(out, last, digit)
+    if n < 100 {
+        return put_pair(out, at, n);
+    }
+    if n < 1000 {
+        let from = put_byte(out, at, b'0' + (n / 100) as u8);
+        return put_pair(out, from, n);
+    }
+    put_four(out, at, n)
+}
+
+// The digits of a number of at most eight.
+fn put_medium(out: &mut [u8], at: usize, n: u64) -> usize
+    requires { ⌜ (n < 100000000) × (at + length (digits 19 n) ≤ length (now out)) ⌝ }
+    ensures { λ r. ⌜ Wrote (now (out .entry)) at (digits 19 n) r (now (out .exit)) ⌝ }
+{
+    if n < 10000 {
+        return put_short(out, at, n);
+    }
+    let from = put_short(out, at, n / 10000);
+    put_four(out, from, n)
+}
+
+// The digits of n.
+pub fn put_decimal(out: &mut [u8], at: usize, n: u64) -> usize
+    requires { ⌜ at + length (digits 19 n) ≤ length (now out) ⌝ }
+    ensures { λ r. ⌜ Wrote (now (out .entry)) at (digits 19 n) r (now (out .exit)) ⌝ }
+{
+    if n < 100000000 {
+        return put_medium(out, at, n);
+    }
+    if n < 10000000000000000 {
+        let from = put_medium(out, at, n / 100000000);
+        return put_eight(out, from, n);
+    }
+    let from = put_short(out, at, n / 10000000000000000);
+    let last = put_eight(out, from, n / 100000000);
+    put_eight(out, last, n)
+}
+
+// 1 for the sign of a number below 0.
+fn sign_length(z: i64) -> usize
+    ensures { λ r. ⌜ (r ≡ length (sign z)) × (r ≤ 1) ⌝ }
+{
+    if z < 0 { 1 } else { 0 }
+}
+
+// How many bytes a whole number takes, with `-` where negative.
+pub fn int_length(z: i64) -> usize
+    ensures { λ r. ⌜ r ≡ length (decimal z) ⌝ }
+{
+    sign_length(z) + decimal_length(magnitude(z))
+}
+
+// `-` for a number below 0, else nothing.
+fn put_sign(out: &mut [u8], at: usize, z: i64) -> usize
+    requires { ⌜ at + length (sign z) ≤ length (now out) ⌝ }
+    ensures { λ r. ⌜ Wrote (now (out .entry)) at (sign z) r (now (out .exit)) ⌝ }
+{
+    if z < 0 {
+        return put_byte(out, at, b'-');
+    }
+    at
+}
+
+// A whole number, with `-` where negative.
+pub fn put_int(out: &mut [u8], at: usize, z: i64) -> usize
+    requires { ⌜ at + length (decimal z) ≤ length (now out) ⌝ }
+    ensures { λ r. ⌜ Wrote (now (out .entry)) at (decimal z) r (now (out .exit)) ⌝ }
+{
+    let from = put_sign(out, at, z);
+    put_decimal(out, from, magnitude(z))
 }
 
 // The position at distance d.
@@ -52,7 +190,7 @@ pub fn put_signed(out: &mut [u8], at: usize, d: u32) -> usize
 }
 
 // A word.
-fn put_text(out: &mut [u8], at: usize, s: &[u8]) -> usize
+pub fn put_text(out: &mut [u8], at: usize, s: &[u8]) -> usize
     requires { ⌜ at + length (now s) ≤ length (now out) ⌝ }
     ensures { λ r. ⌜ Wrote (now (out .entry)) at (now (s .entry)) r (now (out .exit)) ⌝ }
 {

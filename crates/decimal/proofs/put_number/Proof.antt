@@ -6,8 +6,12 @@ use denote.Ref.{now}
 use Rattle.paper.specs.Numbers.{text}
 use Rattle.paper.specs.Rests.{decimal}
 use Rattle.decimal.specs.Wrote.{wrote-then}
+use Rattle.decimal.specs.Digits.{digits-most}
 use Rattle.decimal.proofs.put_number.Statement.{statement}
 use Rattle.decimal.proofs.put_number.Tie as tie
+
+put-decimal-requires : tie.Need-put-decimal-requires
+put-decimal-requires c κs = omega (arith, digits-most 19 (c .before .before .before .before .before .before .args .n), c .before .before .before .put-byte .ensures .0)
 
 returns : tie.Need-returns
 unfolding decimal
@@ -16,4 +20,4 @@ returns c =
     wrote-then (now (s .out)) (s .at) (text " ") _ _ (decimal (pos (s .n))) _ _ (omega arith) (c .before .before .before .before .before .before .put-byte .ensures) (c .before .before .put-decimal .ensures)
 
 pub put-number-spec : {M : Type 1} → statement M
-put-number-spec = tie.close (tie.spec (λ c κs. search needs) (λ c κs. search needs) (λ c. search needs) returns)
+put-number-spec = tie.close (tie.spec (λ c κs. search needs) put-decimal-requires (λ c. search needs) returns)

@@ -16,6 +16,9 @@ Inv-loop rows from rank out₀ at end₀ i₀ out end i = Lining rows (from + li
 abbrev μ-loop : tie.MeasureT-loop
 μ-loop rows from rank out₀ at end₀ i₀ out end i = rank - i
 
+put-decimal-requires : tie.Need-put-decimal-requires Inv-loop μ-loop
+put-decimal-requires c κs = omega (arith, digits-most 19 (c .half .result))
+
 loop-holds : tie.Need-loop-holds Inv-loop μ-loop
 loop-holds c =
     line-begins (now (c .before .before .before .before .before .before .before .args .rows)) (c .before .before .before .before .before .before .before .args .from + limitBytes) (c .before .before .before .before .before .before .before .args .rank) (c .before .before .put-decimal .last .0) (c .before .before .put-decimal .result)
@@ -48,5 +51,5 @@ pub put-row-spec : {M : Type 1} → statement M
 put-row-spec =
     tie.close
     (tie.spec
-    Inv-loop μ-loop (λ c κs. search needs) (λ c. search needs) (λ c κs. search needs) loop-holds (λ c. search needs) (λ c. search needs) (λ c. search needs)
+    Inv-loop μ-loop (λ c κs. search needs) (λ c. search needs) put-decimal-requires loop-holds (λ c. search needs) (λ c. search needs) (λ c. search needs)
     position-at-requires put-position-requires (λ c. search needs) (λ c. search needs) loop-again put-byte-requires same-length returns)
