@@ -8,7 +8,7 @@
 
 struct bytes { uint8_t *at; size_t len; };
 
-static struct bytes roster, recipe, work, row; /* each on the heap and of its exact length, so that valgrind guards its ends */
+static struct bytes roster, recipe, work, row, text; /* each on the heap and of its exact length, so that valgrind guards its ends */
 static uint8_t said[RMA_SAID];
 
 /* Gives a buffer another length. One of length 0 has a pointer too: the engine takes no NULL. */
@@ -100,6 +100,9 @@ static void ask(void)
         printf(" %u", rma_u32(said + 2));
     rma_total(roster.at, roster.len, 2, 4, said, sizeof said);
     printf("\nlast end: %u\n", rma_u32(said + 1));
+    resize(&text, RMA_JSON);
+    if (rma_write_json(roster.at, roster.len, 1, text.at, text.len, said, sizeof said) == 0)
+        printf("starts: %.*s\n", (int)rma_u32(said), (const char *)text.at);
 }
 
 /* Lists the two files of a folder. */
@@ -125,5 +128,6 @@ int main(int argc, char **argv)
     free(recipe.at);
     free(work.at);
     free(row.at);
+    free(text.at);
     return 0;
 }

@@ -16,6 +16,7 @@ packed: 214 bytes, 2 arrays
 start of person 2, turn 1: 360
 walked: 1320 2760 4200 360 1200 3240
 last end: 4680
+starts: {"data":[[1320,2760,4200],[360,1200,3240]]}
 END
 
 # prints FILE COMMAND..: the command must print the file, byte for byte, and exit with 0.

@@ -1,4 +1,4 @@
-/* The C face of Rovgrint, a proved engine for small multi-dimensional arrays: nine functions of librma.a (x86-64 Linux).
+/* The C face of Rovgrint, a proved engine for small multi-dimensional arrays: ten functions of librma.a (x86-64 Linux).
  * `rt staticlib rma` at the repository's root proves and writes target/staticlib/librma.a. An example is c/example.c.
  *
  * Rules of every call:
@@ -19,7 +19,8 @@
  * Refusals: 1 mark, version, count, type, axis count or length bad. 2 extent bad: names, limits, maximum, over 4,096 cells.
  * 3 not a cell. 4 recipe length, operation, operand, operator, unused byte, or no such array. 5 no such axis, or wrong number of
  * coordinates. 6 outside. 7 types unfit. 8 axis count, names or limits differ. 9 the result's extent is bad. 10 work area under 9T
- * bytes. 11 no room for a row, or start outside. 12 a value doesn't fit. 13 division by zero. 14 no room for the bundle. */
+ * bytes. 11 no room for a row, or start outside. 12 a value doesn't fit. 13 division by zero. 14 no room for the bundle or
+ * the text. */
 #ifndef RMA_H
 #define RMA_H
 
@@ -28,6 +29,7 @@
 
 #define RMA_SAID 16 /* bytes: the longest answer */
 #define RMA_HEAD 98 /* bytes: a head */
+#define RMA_JSON 110602 /* bytes: the longest text of rma_write_json */
 
 #ifdef __cplusplus
 extern "C" {
@@ -65,6 +67,14 @@ uint32_t rma_walk(const uint8_t *bundle, size_t bundle_len, uint32_t array, uint
  * rma_read, then with the array as place 4 (no such array, or another `which`), 7 (type unfit), 12 (an INT sum that doesn't fit,
  * ordinality 0; a FLOAT sum or average that isn't finite, ordinality of the cell whose addition fails). */
 uint32_t rma_total(const uint8_t *bundle, size_t bundle_len, uint32_t array, uint32_t which, uint8_t *said, size_t said_len);
+
+/* Writes an array as JSON: an object with one member, {"data":[[1,2],[5,6]]}, a bracket deeper for each axis, the first axis
+ * outermost. No space, no newline, no zero byte at the end. INT in shortest decimal, BOOLEAN as true and false, an empty cell as null.
+ * `said`: the text's length (u32). `out`: the text, then what was there; untouched by a refusal. Refused as rma_read, then with the
+ * array as place 4 (no such array), 7 (FLOAT), then with place 0 14 (`out` is shorter than the text). RMA_JSON bytes are room for
+ * every text; n cells on d axes take at most 10 + n * (19 + 2 * d). */
+uint32_t rma_write_json(const uint8_t *bundle, size_t bundle_len, uint32_t array, uint8_t *out, size_t out_len, uint8_t *said,
+                        size_t said_len);
 
 /* Runs a recipe of 1 to 16 steps, 36 bytes each, over a bundle. `said`: T, the number of cells of all results together (u32).
  * `work`: these cells in step order, 9T bytes, then what was there. Refused as rma_read, 4 with place 0 (recipe length), with the

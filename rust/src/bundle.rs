@@ -41,7 +41,7 @@ impl<'a> Bundle<'a> {
         let axis_bytes = &self.bytes[begin - axes * AXIS..begin];
         let axes = axis_bytes.chunks_exact(AXIS).map(Axis::judged).collect();
         let head = Head { kind: Kind::of(said.number(0)), axes };
-        Ok(Array { head, bytes: &self.bytes[begin..begin + cells * CELL] })
+        Ok(Array { head, bytes: &self.bytes[begin..begin + cells * CELL], bundle: self.bytes, number: k })
     }
 
     /// The cell of array k at a coordinate: empty where that lies inside the declared maximum but not in the array. Refused 4, then 5
@@ -103,12 +103,23 @@ pub enum Total {
     Average = 6,
 }
 
-/// One array of a bundle.
-#[derive(Clone, Debug, PartialEq, Eq)]
+/// One array of a bundle. Two are equal if their types, axes and cells are, wherever they stand.
+#[derive(Clone, Debug)]
 pub struct Array<'a> {
     head: Head,
     bytes: &'a [u8],
+    /// The bundle that it stands in, and its number there.
+    bundle: &'a [u8],
+    number: u32,
 }
+
+impl PartialEq for Array<'_> {
+    fn eq(&self, other: &Self) -> bool {
+        self.head == other.head && self.bytes == other.bytes
+    }
+}
+
+impl Eq for Array<'_> {}
 
 impl<'a> Array<'a> {
     /// Its type and axes.
@@ -135,6 +146,27 @@ impl<'a> Array<'a> {
     pub fn cells(&self) -> impl ExactSizeIterator<Item = Cell> + 'a {
         let kind = self.kind();
         self.bytes.chunks_exact(CELL).map(move |bytes| Cell::judged(kind, bytes))
+    }
+
+    /// The array as JSON: an object with one member `data`, a bracket deeper for each axis, the first axis outermost, with no space and
+    /// no newline. INT in shortest decimal, BOOLEAN as `true` and `false`, an empty cell as `null`. Refused 7 for FLOAT.
+    ///
+    /// ```
+    /// use rovgrint::{pack, Axis, Bundle, Cell, Head, Kind};
+    ///
+    /// let square = Head { kind: Kind::Int, axes: vec![Axis::new("x", 1, 2), Axis::new("y", 1, 2)] };
+    /// let mut bytes = [0; 92];
+    /// let length = pack(&[square], &[Cell::Int(1), Cell::Int(2), Cell::Empty, Cell::Int(-6)], &mut bytes)?;
+    /// let bundle = Bundle::read(&bytes[..length])?;
+    /// assert_eq!(bundle.array(1)?.to_json()?, r#"{"data":[[1,2],[null,-6]]}"#);
+    /// # Ok::<(), rovgrint::Refusal>(())
+    /// ```
+    pub fn to_json(&self) -> Result<String, Refusal> {
+        let most = 10 + self.cells().len() * (19 + 2 * self.axes().len()); // proved: no text is longer
+        let mut out = vec![0; most];
+        let length = call::write_json(self.bundle, self.number, &mut out)?.number(0) as usize;
+        out.truncate(length);
+        Ok(String::from_utf8(out).expect("the text is ASCII"))
     }
 }
 

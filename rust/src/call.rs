@@ -1,4 +1,4 @@
-//! The nine functions over slices: all of the crate's unsafe code. A slice's pointer is never null and points to its length's bytes; a
+//! The ten functions over slices: all of the crate's unsafe code. A slice's pointer is never null and points to its length's bytes; a
 //! `&mut` slice overlaps no other argument, by the borrow rules; the engine keeps none. That is all that the functions ask for.
 
 use crate::raw;
@@ -83,6 +83,14 @@ pub(crate) fn total(bundle: &[u8], array: u32, which: u32) -> Answer {
     answer(|said| {
         // SAFETY: each pointer and length are one slice's; `said`, which is written to, is borrowed alone.
         unsafe { raw::rma_total(bundle.as_ptr(), bundle.len(), array, which, said.as_mut_ptr(), said.len()) }
+    })
+}
+
+pub(crate) fn write_json(bundle: &[u8], array: u32, out: &mut [u8]) -> Answer {
+    answer(|said| {
+        let (at, len) = (out.as_mut_ptr(), out.len());
+        // SAFETY: each pointer and length are one slice's; `out` and `said`, which are written to, are borrowed alone.
+        unsafe { raw::rma_write_json(bundle.as_ptr(), bundle.len(), array, at, len, said.as_mut_ptr(), said.len()) }
     })
 }
 

@@ -1,4 +1,4 @@
-//! The engine's nine functions as the static library has them. `include/rma.h` tells the same in C.
+//! The engine's ten functions as the static library has them. `include/rma.h` tells the same in C.
 //!
 //! Each byte slice is two arguments, a pointer and its length. Pointers are never null, also for length 0, and point to as many bytes.
 //! A buffer that a call writes to (`out`, `work`, `rows`, `place`, `said`) overlaps no other argument. Numbers in bytes are
@@ -17,6 +17,9 @@ pub const SAID: usize = 16;
 
 /// The bytes of a head.
 pub const HEAD: usize = 98;
+
+/// The bytes of the longest text of [`rma_write_json`].
+pub const JSON: usize = 110_602;
 
 extern "C" {
     /// Judges a bundle. `said`: the count of its arrays. Refused 1, 2, 3.
@@ -65,6 +68,18 @@ extern "C" {
     /// Totals an array: 1 count of filled, 2 count of TRUE, 3 smallest, 4 largest, 5 sum, 6 average. `said`: a cell's nine bytes, a
     /// count as an INT. Refused as [`rma_read`], then 4 (another `which` too), 7, 12.
     pub fn rma_total(bundle: *const u8, bundle_len: usize, array: u32, which: u32, said: *mut u8, said_len: usize) -> u32;
+
+    /// Writes an array as JSON. `said`: the text's length. `out`: the text, then what was there; untouched by a refusal. Refused as
+    /// [`rma_read`], then 4, 7 (FLOAT), 14 (`out` is shorter than the text). [`JSON`] bytes are room for every text.
+    pub fn rma_write_json(
+        bundle: *const u8,
+        bundle_len: usize,
+        array: u32,
+        out: *mut u8,
+        out_len: usize,
+        said: *mut u8,
+        said_len: usize,
+    ) -> u32;
 
     /// Runs a recipe. `said`: T, the cells of all results. `work`: these cells in step order, 9T bytes, then what was there; with 12 and
     /// 13 9T zeros in their place; untouched by the other refusals. Refused as [`rma_read`], then 4 to 9 by step, 10, 12 or 13.

@@ -1,6 +1,6 @@
 //! The library held against the paper: the same cases are put to both, and every answer and every byte that was lent must be
 //! equal. `RMA_SEED` gives the seed (else the clock), `RMA_CASES` the number of cases (else 240,000). From that many cases on, each
-//! thing that `cases::met` counts must have been met in a hundred of them.
+//! thing that `cases::met` and `cases::met_json` count must have been met in a hundred of them.
 //! What is reported goes straight to standard output, so that it is seen whether the test passes or not.
 
 mod cases;
@@ -9,6 +9,7 @@ mod paper;
 use cases::answers::{library_answers, paper_answers};
 use cases::dice::Dice;
 use cases::met::Met;
+use cases::met_json::MetJson;
 use cases::{printed, Answer, Case, Function, FUNCTIONS};
 use std::io::Write;
 use std::time::{Instant, SystemTime, UNIX_EPOCH};
@@ -27,8 +28,9 @@ struct Tally {
 /// The cases so far: their tallies, what they met, and how many differ.
 struct Report {
     seed: u64,
-    tallies: [Tally; 9],
+    tallies: [Tally; 10],
     met: Met,
+    met_json: MetJson,
     cases: u64,
     differ: u64,
 }
@@ -66,6 +68,7 @@ impl Report {
         tally.cases += 1;
         tally.ended[paper.number as usize] += 1;
         self.met.count(case, paper.number);
+        self.met_json.count(case, paper.number);
         let library = library_answers(case);
         if library.as_ref() != Ok(&paper) {
             self.differ += 1;
@@ -97,7 +100,7 @@ impl Report {
             let counts: Vec<String> = refused.map(|number| format!("{number}: {}", tally.ended[number])).collect();
             print(&format!("{name} {} cases: {} done, refused {}", tally.cases, tally.ended[0], counts.join(", ")));
         }
-        self.met.lines().iter().for_each(|line| print(line));
+        self.met.lines().iter().chain(&self.met_json.lines()).for_each(|line| print(line));
     }
 }
 
@@ -108,7 +111,8 @@ fn library_and_paper_answer_alike() {
     let wanted = setting("RMA_CASES").unwrap_or(CASES);
     print(&format!("seed {seed}"));
     let mut dice = Dice::new(seed);
-    let mut report = Report { seed, tallies: [Tally::default(); 9], met: Met::new(), cases: 0, differ: 0 };
+    let (met, met_json) = (Met::new(), MetJson::new());
+    let mut report = Report { seed, tallies: [Tally::default(); 10], met, met_json, cases: 0, differ: 0 };
     while report.cases < wanted {
         for case in cases::of_function(&mut dice, report.next_function()) {
             report.compare(&case);
@@ -117,7 +121,7 @@ fn library_and_paper_answer_alike() {
     report.print_tallies();
     print(&format!("differential: {} cases, {} differ, {} s", report.cases, report.differ, began.elapsed().as_secs()));
     assert_eq!(report.differ, 0, "cases that differ, of {}", report.cases);
-    let seldom = report.met.seldom(LEAST_MET);
+    let seldom = [report.met.seldom(LEAST_MET), report.met_json.seldom(LEAST_MET)].concat();
     assert!(report.cases < CASES || seldom.is_empty(), "met in fewer than {LEAST_MET} cases: {seldom:?}");
 }
 
@@ -139,6 +143,27 @@ fn the_paper_holds_together() {
     }
 }
 
+/// The report's words beside F and G: cells in row-major order, each change of an axis marked with brackets. So before a cell there
+/// are as many brackets as last axes that begin with it, and after it as many as end with it.
+#[test]
+fn the_paper_writes_in_row_major_order() {
+    let mut dice = Dice::new(setting("RMA_SEED").unwrap_or_else(clock));
+    for _ in 0..1_000 {
+        let case = cases::of_function(&mut dice, Function::WriteJson).swap_remove(0);
+        let Ok(arrays) = paper::bundle::read(&case.shared[0]) else { continue };
+        for declared in arrays.iter().filter(|declared| declared.array.of != paper::cell::Type::Float) {
+            let axes = &declared.array.extent.axes;
+            let in_order = declared.array.in_order().into_iter().map(|(_, at, cell)| {
+                let first = axes.iter().zip(&at).rev().take_while(|(axis, position)| axis.lower == **position).count();
+                let last = axes.iter().zip(&at).rev().take_while(|(axis, position)| axis.upper == **position).count();
+                format!("{}{}{}", "[".repeat(first), paper::json::value(cell), "]".repeat(last))
+            });
+            let row_major = format!("{{\"data\":{}}}", in_order.collect::<Vec<String>>().join(","));
+            assert_eq!(paper::json::text(&declared.array), row_major);
+        }
+    }
+}
+
 #[test]
 fn both_answer_as_the_paper_prints() {
     let library = |case: &Case| library_answers(case).expect("nothing changed that was not lent");
@@ -151,5 +176,7 @@ fn both_answer_as_the_paper_prints() {
         printed::ends(ask);
         printed::blank_turns(ask);
         printed::comparisons_with_empty(ask);
+        printed::json_texts(ask);
+        printed::json_refusals(ask);
     }
 }

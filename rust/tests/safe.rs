@@ -220,6 +220,60 @@ mod blank_turns {
     }
 }
 
+mod json {
+    use super::*;
+
+    fn text(kind: Kind, axes: &[(&str, i32, i32)], cells: &[Cell]) -> Result<String, Refusal> {
+        let head = Head { kind, axes: axes.iter().map(|&(name, lower, upper)| Axis::new(name, lower, upper)).collect() };
+        let bytes = packed(&[head], cells);
+        Bundle::read(&bytes).unwrap().array(1).unwrap().to_json()
+    }
+
+    #[test]
+    fn printed() {
+        let square = text(Kind::Int, &[("x", 1, 2), ("y", 1, 2)], &ints([1, 2, 5, 6])).unwrap();
+        assert_eq!(square, r#"{"data":[[1,2],[5,6]]}"#);
+        let solid = text(Kind::Int, &[("t", 0, 0), ("x", 0, 2), ("y", 0, 1)], &ints(1..=6)).unwrap();
+        assert_eq!(solid, r#"{"data":[[[1,2],[3,4],[5,6]]]}"#);
+        let truths = text(Kind::Boolean, &[("x", 7, 9)], &[Cell::Truth(true), Cell::Empty, Cell::Truth(false)]).unwrap();
+        assert_eq!(truths, r#"{"data":[true,null,false]}"#);
+    }
+
+    #[test]
+    fn every_number_of_digits() {
+        let powers = (0..19).flat_map(|k| [-1, 0, 1].map(|near| 10i64.pow(k) + near));
+        let numbers: Vec<i64> = powers.flat_map(|n| [n, -n]).chain([i64::MIN, i64::MAX]).collect();
+        let written = text(Kind::Int, &[("x", 1, numbers.len() as i32)], &ints(numbers.clone())).unwrap();
+        let texts: Vec<String> = numbers.iter().map(i64::to_string).collect();
+        assert_eq!(written, format!("{{\"data\":[{}]}}", texts.join(",")));
+    }
+
+    #[test]
+    fn the_longest() {
+        let axes = [("a", 1, 4096), ("b", 1, 1), ("c", 1, 1), ("d", 1, 1)];
+        let longest = text(Kind::Int, &axes, &vec![Cell::Int(i64::MIN); 4096]).unwrap();
+        assert_eq!(longest.len(), rovgrint::raw::JSON);
+    }
+
+    #[test]
+    fn refused_at_its_array() {
+        let heads = [int_head(&[("x", 1, 1)]), Head { kind: Kind::Float, axes: vec![Axis::new("x", 1, 1)] }];
+        let bytes = packed(&heads, &[Cell::Int(1), Cell::Empty]);
+        let bundle = Bundle::read(&bytes).unwrap();
+        assert_eq!(bundle.array(2).unwrap().to_json(), Err(refused(7, 2, 0)));
+        assert_eq!(bundle.array(1).unwrap().to_json().unwrap(), r#"{"data":[1]}"#);
+    }
+
+    /// Equal arrays are equal wherever they stand.
+    #[test]
+    fn equal_arrays() {
+        let head = int_head(&[("x", 1, 1)]);
+        let bytes = packed(&[head.clone(), head], &ints([5, 5]));
+        let bundle = Bundle::read(&bytes).unwrap();
+        assert_eq!(bundle.array(1), bundle.array(2));
+    }
+}
+
 mod iterators {
     use super::*;
 

@@ -1,5 +1,7 @@
 // Runs the bundle's functions on printed examples: three arrays packed, read, walked, referred to and totalled; the largest array
-// that is read, and one cell more, which is refused.
+// that is read, and one cell more, which is refused. Then arrays written as JSON.
+mod json;
+
 use cell::bytes::word_of;
 use cell::bytes::write_cell;
 use libc::STDOUT_FILENO;
@@ -344,4 +346,5 @@ fn main() {
     pack_three(Cell::Empty, &mut short);
     show_read(&short);
     show_largest();
+    json::show_all(&bundle);
 }

@@ -2,6 +2,7 @@
 // for none, and writes its answer's bytes, or the refusal's place and ordinality, to `said`: as many as there is room for.
 ghost use mathlib.Core.Path.{_≡_};
 ghost use Rattle.paper.specs.Cells.{encode};
+ghost use Rattle.paper.specs.Json.{writeJson};
 ghost use Rattle.paper.specs.Listing.{run as paperRun, page as paperPage};
 ghost use Rattle.paper.specs.Reference.{reference, walk as paperWalk};
 ghost use Rattle.paper.specs.Stretch.{stretch as paperStretch};
@@ -17,9 +18,11 @@ use asked::total_asked;
 use bundle::read;
 use extent::good_extent;
 use extent::rank_of;
+use json_write::write;
 use pack::pack;
 use paper::AxisIndex;
 use paper::Cell;
+use paper::JsonAnswer;
 use paper::Ordinality;
 use paper::PackAnswer;
 use paper::PageAnswer;
@@ -171,6 +174,21 @@ pub extern "C" fn rma_total(bundle: &[u8], array: u32, which: u32, said: &mut [u
             return 0;
         }
         TotalAnswer::Refused(refusal) => return say_refusal(said, refusal),
+    }
+}
+
+// The array as JSON, in `out`: the text's length.
+#[no_mangle]
+pub extern "C" fn rma_write_json(bundle: &[u8], array: u32, out: &mut [u8], said: &mut [u8]) -> u32
+    ensures { λ r. ⌜ (record { number = r; said = now (said .exit) } ≡ spoken numberBytes (writeJson (now (bundle .entry)) array (now (out .entry)) .answer) (now (said .entry)))
+        × (now (out .exit) ≡ writeJson (now (bundle .entry)) array (now (out .entry)) .out) ⌝ }
+{
+    match write(bundle, array, out) {
+        JsonAnswer::Got(long) => {
+            say_numbers(said, ONE, long, 0, 0, 0);
+            return 0;
+        }
+        JsonAnswer::Refused(refusal) => return say_refusal(said, refusal),
     }
 }
 

@@ -120,6 +120,11 @@ fn fresh(dice: &mut Dice) -> RawArray {
             (0..count).map(|_| dice.pick(&[1, 2, 2, 2, 3, 3, 4])).collect()
         }
     };
+    RawArray { of, count: widths.len() as u8, axes: axes_of_widths(dice, &widths), cells: vec![] }
+}
+
+/// Axes of these widths, with different names; mostly about zero, now and then at an end of the range. Their maximum is `*`.
+pub fn axes_of_widths(dice: &mut Dice, widths: &[i32]) -> Vec<RawAxis> {
     let mut axes: Vec<RawAxis> = vec![];
     for width in widths {
         let lower = match dice.below(40) {
@@ -130,7 +135,7 @@ fn fresh(dice: &mut Dice) -> RawArray {
         let name = new_name(dice, &axes);
         axes.push(RawAxis { name, lower, upper: lower + width - 1, lowest: -1_000_000, highest: 1_000_000 });
     }
-    RawArray { of, count: axes.len() as u8, axes, cells: vec![] }
+    axes
 }
 
 /// A name that none of the axes has.

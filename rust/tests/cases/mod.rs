@@ -6,7 +6,9 @@ pub mod bundles;
 pub mod cells;
 pub mod dice;
 pub mod faults;
+pub mod json;
 pub mod met;
+pub mod met_json;
 pub mod packs;
 pub mod printed;
 pub mod questions;
@@ -25,19 +27,21 @@ pub enum Function {
     Refer,
     Walk,
     Total,
+    WriteJson,
     Run,
     Page,
     Stretch,
 }
 
 /// Each function with its name and its weight among the cases.
-pub const FUNCTIONS: [(Function, &str, u64); 9] = [
+pub const FUNCTIONS: [(Function, &str, u64); 10] = [
     (Function::Read, "rma_read", 20),
     (Function::Array, "rma_array", 12),
     (Function::Pack, "rma_pack", 22),
     (Function::Refer, "rma_refer", 24),
     (Function::Walk, "rma_walk", 20),
     (Function::Total, "rma_total", 26),
+    (Function::WriteJson, "rma_write_json", 24),
     (Function::Run, "rma_run", 40),
     (Function::Page, "rma_page", 52),
     (Function::Stretch, "rma_stretch", 24),
@@ -74,6 +78,7 @@ pub fn of_function(dice: &mut Dice, function: Function) -> Vec<Case> {
         Function::Refer => questions::refers(dice),
         Function::Walk => questions::walks(dice),
         Function::Total => questions::totals(dice),
+        Function::WriteJson => json::writings(dice),
         Function::Run => vec![runs::run(dice)],
         Function::Page => runs::pages(dice),
         Function::Stretch => stretches::stretches(dice),

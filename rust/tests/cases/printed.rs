@@ -1,6 +1,6 @@
-//! The cases that the paper itself prints: the example of eleven hours, whole, and "Both sides of each line"; and what request [1]
-//! of paper 02 tells of blank turns. Each is put to whoever answers (paper or library) and held against the values printed, those
-//! of request [1] being worked out from its words by hand.
+//! The cases that the paper itself prints: the example of eleven hours, whole, and "Both sides of each line"; what request [1] of
+//! paper 02 tells of blank turns; and the JSON texts of request [2] and of the report's table 5. Each is put to whoever answers
+//! (paper or library) and held against the values printed; what the requests tell in words only is worked out by hand.
 
 use super::bundles::{bundle_bytes, eight, RawArray, RawAxis};
 use super::cells::filled;
@@ -208,5 +208,73 @@ pub fn comparisons_with_empty(ask: Ask) {
             let cells = [equal, [0; 9], [0; 9]].concat();
             assert_eq!((answer.number, &answer.lent[0]), (0, &cells), "operation {}, operator {operator}, type {of}", scalar[0]);
         }
+    }
+}
+
+fn json_of(arrays: &[RawArray], array: u32, room: usize) -> Case {
+    let lent = vec![vec![0x77; room], vec![0x77; 16]];
+    Case { function: Function::WriteJson, shared: vec![bundle_bytes(arrays)], numbers: vec![array], lent }
+}
+
+/// Refused so, with a buffer of that length, which is left as it was.
+fn refuses_json(ask: Ask, arrays: &[RawArray], array: u32, room: usize, refusal: [u32; 3]) {
+    let answer = ask(&json_of(arrays, array, room));
+    assert_eq!((refused(&answer), &answer.lent[0]), (refusal, &vec![0x77; room]), "array {array}, {room} bytes");
+}
+
+/// The array is that text: done with a buffer of its length and with longer ones, which stay after the text; refused with 14 in one
+/// that is a byte shorter.
+fn is_text(ask: Ask, array: &RawArray, text: &str) {
+    let arrays = std::slice::from_ref(array);
+    for more in [0, 1, 300] {
+        let answer = ask(&json_of(arrays, 1, text.len() + more));
+        assert_eq!((answer.number, said_number(&answer, 0)), (0, text.len() as u32), "{text}");
+        assert_eq!(String::from_utf8_lossy(&answer.lent[0][..text.len()]), text);
+        assert_eq!(answer.lent[0][text.len()..], vec![0x77; more], "bytes after {text} stay");
+        assert_eq!(answer.lent[1][4..], [0x77; 12], "bytes after the length stay");
+    }
+    refuses_json(ask, arrays, 1, text.len() - 1, [14, 0, 0]);
+}
+
+/// Request [2]: its own example, the report's table 5 without the spaces, and what its words tell of the values.
+pub fn json_texts(ask: Ask) {
+    is_text(ask, &ints(&[("x", 1, 2), ("y", 1, 2)], &[1, 2, 5, 6]), r#"{"data":[[1,2],[5,6]]}"#);
+    is_text(ask, &ints(&[("x", 1, 6)], &counting(6)), r#"{"data":[1,2,3,4,5,6]}"#);
+    let kernel = ints(&[("i", -1, 1), ("j", -1, 1)], &[-1, -1, -1, -1, 8, -1, -1, -1, -1]);
+    is_text(ask, &kernel, r#"{"data":[[-1,-1,-1],[-1,8,-1],[-1,-1,-1]]}"#);
+    is_text(ask, &ints(&[("t", 0, 0), ("x", 0, 2), ("y", 0, 1)], &counting(6)), r#"{"data":[[[1,2],[3,4],[5,6]]]}"#);
+    let four = [("a", 0, 1), ("b", 5, 5), ("c", -1, 0), ("d", 1, 3)];
+    is_text(ask, &ints(&four, &counting(12)), r#"{"data":[[[[1,2,3],[4,5,6]]],[[[7,8,9],[10,11,12]]]]}"#);
+    let (least, most) = (r#"{"data":[-9223372036854775808]}"#, r#"{"data":[9223372036854775807]}"#);
+    is_text(ask, &ints(&[("x", 1, 1)], &[i64::MIN]), least);
+    is_text(ask, &ints(&[("x", 1, 1)], &[i64::MAX]), most);
+    is_text(ask, &ints(&[("x", 1, 7)], &[0, -1, 9, 10, -99, -100, 101]), r#"{"data":[0,-1,9,10,-99,-100,101]}"#);
+    is_text(ask, &ints(&[("x", 1, 2), ("y", 1, 3)], &[EMPTY; 6]), r#"{"data":[[null,null,null],[null,null,null]]}"#);
+    is_text(ask, &ints(&[("x", 1, 3)], &[-5, EMPTY, 5]), r#"{"data":[-5,null,5]}"#);
+    let truths = RawArray { of: 3, ..ints(&[("x", 1, 1), ("y", 1, 3)], &[1, 0, EMPTY]) };
+    is_text(ask, &truths, r#"{"data":[[true,false,null]]}"#);
+    let longest = ints(&[("a", 1, 4_096), ("b", 1, 1), ("c", 1, 1), ("d", 1, 1)], &[i64::MIN; 4_096]);
+    let text = format!(r#"{{"data":[{}]}}"#, vec!["[[[-9223372036854775808]]]"; 4_096].join(","));
+    assert_eq!(text.len(), rovgrint::raw::JSON, "the longest text");
+    is_text(ask, &longest, &text);
+}
+
+/// Request [2]: 1 to 3 for any array of the bundle, then 4 and 7 at the array asked for, 7 before 14.
+pub fn json_refusals(ask: Ask) {
+    let line = ints(&[("x", 1, 2)], &[1, 2]);
+    let float = RawArray { of: 2, ..ints(&[("x", 1, 2)], &[EMPTY; 2]) };
+    let arrays = [line.clone(), float.clone()];
+    for room in [0, 14, 200] {
+        refuses_json(ask, &arrays, 2, room, [7, 2, 0]);
+        for none in [0, 3, 257, u32::MAX] {
+            refuses_json(ask, &arrays, none, room, [4, none, 0]);
+        }
+        let no_cell = RawArray { cells: vec![[0; 9], [2; 9]], ..float.clone() };
+        refuses_json(ask, &[line.clone(), no_cell], 1, room, [3, 2, 2]);
+        let crossed = ints(&[("x", 2, 1)], &[]);
+        refuses_json(ask, &[float.clone(), crossed], 1, room, [2, 2, 0]);
+        let no_type = RawArray { of: 4, ..line.clone() };
+        refuses_json(ask, &[line.clone(), no_type], 3, room, [1, 2, 0]);
+        refuses_json(ask, &[], 1, room, [1, 0, 0]);
     }
 }

@@ -1,4 +1,4 @@
-//! The nine callable parts of the C face, answered by the paper: the returned number, the bytes of `said`, and
+//! The ten callable parts of the C face, answered by the paper: the returned number, the bytes of `said`, and
 //! every lent buffer after. Each slice of the face is one slice here.
 
 use super::array::Declared;
@@ -6,7 +6,7 @@ use super::bundle::{array_of, read};
 use super::bytes::{signed_numbers, unsigned};
 use super::cell::Cell;
 use super::refusal::Refusal;
-use super::{listing, pack, question, stretch};
+use super::{json, listing, pack, question, stretch};
 
 /// The answer's bytes, or place and ordinality, as far as `said` has room; then the number.
 fn say(answer: Result<Vec<u8>, Refusal>, said: &mut [u8]) -> u32 {
@@ -64,6 +64,11 @@ pub fn rma_walk(bundle: &[u8], array: u32, place: &mut [u8], said: &mut [u8]) ->
 pub fn rma_total(bundle: &[u8], array: u32, which: u32, said: &mut [u8]) -> u32 {
     let answer = read(bundle).and_then(|arrays| question::total(array_of(&arrays, array)?, array, which));
     say(answer.map(|cell| cell.bytes().to_vec()), said)
+}
+
+pub fn rma_write_json(bundle: &[u8], array: u32, out: &mut [u8], said: &mut [u8]) -> u32 {
+    let answer = read(bundle).and_then(|arrays| json::write(&arrays, array, out));
+    say(answer.map(|length| numbers(&[length])), said)
 }
 
 pub fn rma_run(bundle: &[u8], recipe: &[u8], work: &mut [u8], said: &mut [u8]) -> u32 {

@@ -1,6 +1,6 @@
-//! Paper 01 and request [1] of paper 02 in plain Rust, written from their words alone and sharing nothing with the engine that
-//! is proved. An array is a map from coordinate to cell, and each operation is said over coordinates, as the paper says it.
-//! `face` answers the nine callable parts with it; bytes are met only in `bytes`, `bundle`, `recipe` and `face`.
+//! Paper 01 and requests [1] and [2] of paper 02 in plain Rust, written from their words alone and sharing nothing with the engine
+//! that is proved. An array is a map from coordinate to cell, and each operation is said over coordinates, as the paper says it.
+//! `face` answers the ten callable parts with it; bytes are met only in `bytes`, `bundle`, `recipe` and `face`.
 
 pub mod array;
 pub mod bundle;
@@ -8,6 +8,7 @@ pub mod bytes;
 pub mod cell;
 pub mod extent;
 pub mod face;
+pub mod json;
 pub mod judge;
 pub mod listing;
 pub mod moves;

@@ -1,0 +1,75 @@
+-- `json_write::marks_of` meets its contract: from the last axis to the first, n is the marks of the axes done.
+use Prim.Native.Nat.{ℕ, _+_, _-_, _*_, _≤_}
+use mathlib.Core.Path.{_≡_, ap, ap₂, subst, sym, _∙_}
+use native.Mathlib.Omega.{arith}
+use borrow.Author.Needs.{needs}
+use lib.ListN.{drop, take}
+use Rattle.coordinates.specs.Limits.{Sound}
+use Rattle.coordinates.specs.Loops.{drop-none, sound-first}
+use Rattle.paper.specs.Axes.{cells, noAxis}
+use Rattle.paper.specs.Limits.{mostAxes, mostCells}
+use Rattle.json_write.specs.Lengths.{marks, marks-end, marks-down, marks-bound}
+use Rattle.json_write.proofs.marks_of.Statement.{statement}
+use Rattle.json_write.proofs.marks_of.Tie as tie
+
+abbrev Inv-loop : tie.InvT-loop
+Inv-loop e rank n₀ i₀ n i = (i ≤ rank) × (n ≡ marks (drop i (take rank (e .axes))))
+
+abbrev μ-loop : tie.MeasureT-loop
+μ-loop e rank n₀ i₀ n i = i
+
+sound : (c : tie.After-rank-of Inv-loop μ-loop) → Sound (take (c .rank-of .result) (c .before .args .t1 .axes))
+sound c = subst Sound (sym (c .rank-of .ensures .first)) (c .before .pre .0)
+
+module _ (c : tie.After-width-of Inv-loop μ-loop) where
+  turn : 1 + c .width-of .result + c .width-of .result * c .before .before .before .loop .n ≡ marks (drop (c .before .before .before .loop .i - 1) (take (c .before .before .before .before .rank-of .result) (c .before .before .before .before .before .args .t1 .axes)))
+  turn =
+      ap₂ (λ (w n : ℕ). 1 + w + w * n) (c .width-of .ensures .0) (c .before .before .before .loop .inv .1)
+      ∙ sym (marks-down (c .before .before .before .before .before .args .t1 .axes) (c .before .before .before .before .rank-of .result) (c .before .before .before .before .rank-of .ensures .room) (c .before .before .before .loop .i) noAxis (omega arith) (omega arith))
+
+  few : marks (drop (c .before .before .before .loop .i - 1) (take (c .before .before .before .before .rank-of .result) (c .before .before .before .before .before .args .t1 .axes))) ≤ 2 * (mostAxes * mostCells)
+  few = marks-bound (c .before .before .before .before .before .args .t1 .axes) (c .before .before .before .before .rank-of .result) (c .before .before .before .before .rank-of .ensures .room) (c .before .before .before .loop .i - 1) (sound (c .before .before .before .before)) (c .before .before .before .before .rank-of .ensures .few) (omega (arith, ap cells (c .before .before .before .before .rank-of .ensures .first), c .before .before .before .before .before .pre .1))
+
+loop-holds : tie.Need-loop-holds Inv-loop μ-loop
+loop-holds c = (omega arith, marks-end (c .before .args .t1 .axes) (c .rank-of .result) (c .rank-of .ensures .room))
+
+width-of-requires : tie.Need-width-of-requires Inv-loop μ-loop
+width-of-requires c κs =
+    let s = c .before .before .before in
+    sound-first (s .before .args .t1 .axes) (s .rank-of .result) (s .rank-of .ensures .room) (c .before .before .loop .i - 1) noAxis (sound s) (omega arith)
+
+add-n : tie.Need-add-n Inv-loop μ-loop
+add-n c = omega (arith, turn c, few c)
+
+mul-n : tie.Need-mul-n Inv-loop μ-loop
+mul-n c = omega (arith, turn c, few c)
+
+add-n-2 : tie.Need-add-n-2 Inv-loop μ-loop
+add-n-2 c = omega (arith, turn c, few c)
+
+loop-again : tie.Need-loop-again Inv-loop μ-loop
+loop-again c = (omega arith, turn c)
+
+returns : tie.Need-returns Inv-loop μ-loop
+returns c =
+    let s = c .before .before in
+    c .before .loop .inv .1 ∙ ap marks (drop-none (take (s .rank-of .result) (s .before .args .t1 .axes)) (c .before .loop .i) (omega arith) ∙ s .rank-of .ensures .first)
+
+pub marks-of-spec : {M : Type 1} → statement M
+marks-of-spec =
+    tie.close
+    (tie.spec
+    Inv-loop
+    μ-loop
+    (λ c κs. search needs)
+    loop-holds
+    (λ c. search needs)
+    (λ c. search needs)
+    (λ c. search needs)
+    width-of-requires
+    add-n
+    mul-n
+    add-n-2
+    (λ c. omega arith)
+    loop-again
+    returns)

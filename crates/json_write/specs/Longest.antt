@@ -1,0 +1,139 @@
+-- The longest text: an array that was read is valid, so no cell takes over 20 bytes; on d axes n cells take at most 10 + n * (19 + 2d)
+-- bytes. So a buffer of 110,602 bytes holds every text, and one text needs all of them.
+use Prim.Native.String.{String}
+use Prim.Native.Nat.{ℕ, zero, suc, _+_, _*_, _^_, _≤_, _<_}
+use mathlib.Core.Path.{_≡_, refl, sym, ap, subst, _∙_}
+use mathlib.Core.Bool.{Bool, true, false, not}
+use mathlib.Core.List.{List, [], _∷_, map}
+use mathlib.Core.Option.{none, some}
+use native.Mathlib.Omega.{arith}
+use native.Mathlib.Nat.{suc-mul, mul-le-mul-left, mul-le-mul-right}
+use borrow.Author.Tests.{leb-true, le-leb}
+use lib.Dec.{eqb, leb}
+use lib.IntN.{ℤ, pos, negsuc}
+use lib.ListN.{length, getD}
+use mir.Syntax.{w64}
+use mir.Val.{SFits}
+use Rattle.paper.specs.declared.Axis.{Axis}
+use Rattle.paper.specs.declared.Cell.{Cell}
+use Rattle.paper.specs.declared.Cell.the-variants.{Empty, Int, Float, Truth}
+use Rattle.paper.specs.declared.Refusal.{Refusal}
+use Rattle.paper.specs.Limits.{FLOAT, mostAxes, mostCells, smallestInt}
+use Rattle.paper.specs.Refusals.{Res, got, refused, _>>=_, refusal, present, between, unknown4}
+use Rattle.paper.specs.Numbers.{nth, from}
+use Rattle.paper.specs.Axes.{cells, goodExtent, Array}
+use Rattle.paper.specs.Bundle.{readBundle}
+use Rattle.paper.specs.Reference.{chosen}
+use Rattle.paper.specs.Rests.{digits, decimal}
+use Rattle.paper.specs.Json.{cellText, jsonText, written}
+use Rattle.paper.specs.Opened.{opened}
+use Rattle.paper.specs.Written.{axis}
+use Rattle.laws.specs.Numbers.{Bytes}
+use Rattle.laws.specs.Cells.{OfKind}
+use Rattle.laws.specs.Parts.{fit-parts}
+use Rattle.laws.specs.Tests.{and-left, and-right, bind-got, present-got}
+use Rattle.coordinates.specs.Limits.{Sound, extent-true}
+use Rattle.decimal.specs.Digits.{digits-most, digits-fewer}
+use Rattle.roundtrip.specs.Valid.{EachOfKind, Valid, EachValid}
+use Rattle.roundtrip.specs.Reading.{bundle-read}
+use Rattle.json_write.specs.Lengths.{marks, marks-most, cellsLong, long-most, json-long}
+use Rattle.json_write.specs.Whole.{chosen-valid, has-axis, few-axes}
+
+-- ---- a cell
+
+int-most : (z : ℤ) → SFits w64 z → length (decimal z) ≤ 20
+unfolding decimal
+int-most (pos x) f = digits-most 19 x
+int-most (negsuc x) f = omega (arith, digits-fewer (suc x) (omega (arith, fit-parts f .1)))
+
+cell-most : (t : ℕ) (c : Cell) → OfKind t c → length (cellText c) ≤ 20
+unfolding cellText OfKind
+cell-most t Empty h = omega arith
+cell-most t (Int z) h = int-most z (h .1)
+cell-most t (Float x) h = omega arith
+cell-most t (Truth true) h = omega arith
+cell-most t (Truth false) h = omega arith
+
+each-most : (t : ℕ) (cs : List Cell) → EachOfKind t cs → (k : ℕ) → length (cellText (getD cs k Empty)) ≤ 20
+unfolding OfKind
+each-most t [] h k = cell-most t Empty tt
+each-most t (c ∷ cs) h zero = cell-most t c (h .0)
+each-most t (c ∷ cs) h (suc k) = each-most t cs (h .1) k
+
+-- ---- an array
+
+-- cells by their index
+from-suc : (g : ℕ → Cell) (i n : ℕ) → map g (from (suc i) n) ≡ map (λ k. g (suc k)) (from i n)
+unfolding from
+from-suc g i zero = refl
+from-suc g i (suc n) = ap (λ (l : List Cell). g (suc i) ∷ l) (from-suc g (suc i) n)
+
+by-index : (cs : List Cell) → cs ≡ map (λ k. getD cs k Empty) (from 0 (length cs))
+unfolding from
+by-index [] = refl
+by-index (c ∷ cs) = ap (λ (l : List Cell). c ∷ l) (by-index cs ∙ sym (from-suc (λ k. getD (c ∷ cs) k Empty) 0 (length cs)))
+
+-- how long a text of n cells on d axes is at most
+abbrev pub mostText : ℕ → ℕ → ℕ
+mostText n d = 10 + n * (19 + 2 * d)
+
+joined : (n d m l : ℕ) → m + n ≤ d * (2 * n) + 1 → l ≤ n * 20 → 9 + m + l ≤ mostText n d
+joined n d m l h k = omega arith
+
+pub text-most : (A : Array) → Valid A → length (jsonText (A .shape .axes) (A .cells)) ≤ mostText (cells (A .shape .axes)) (length (A .shape .axes))
+text-most A v =
+    let E : List Axis = A .shape .axes in
+    let f : ℕ → Cell = λ k. getD (A .cells) k Empty in
+    let s : Sound (A .shape .axes) = extent-true (A .shape .axes) (v .extent) .0 in
+    let e : A .cells ≡ map (λ k. getD (A .cells) k Empty) (from 0 (cells (A .shape .axes))) = by-index (A .cells) ∙ ap (λ (n : ℕ). map (λ k. getD (A .cells) k Empty) (from 0 n)) (v .full) in
+    let l = ap (λ (cs : List Cell). length (jsonText (A .shape .axes) cs)) e ∙ json-long (λ k. getD (A .cells) k Empty) (A .shape .axes) s (has-axis A v) in
+    omega (
+      arith,
+      l,
+      joined (cells (A .shape .axes)) (length (A .shape .axes)) (marks (A .shape .axes)) (cellsLong (λ k. getD (A .cells) k Empty) 0 (cells (A .shape .axes)))
+          (marks-most (A .shape .axes) s) (long-most (λ k. getD (A .cells) k Empty) 20 (each-most (A .shape .type) (A .cells) (v .kinds)) (cells (A .shape .axes)) 0),
+    )
+
+-- ---- every text
+
+-- the most cells, on the most axes
+abbrev pub longest : ℕ
+longest = mostText mostCells mostAxes
+
+pub longest-is : longest ≡ 110602
+longest-is = refl
+
+pub every-text : (bs : List ℕ) (k : ℕ) (A : Array) → Bytes bs → chosen bs k ≡ got A → length (jsonText (A .shape .axes) (A .cells)) ≤ longest
+every-text bs k A b e =
+    let v = chosen-valid bs k A b e in
+    let d : 19 + 2 * length (A .shape .axes) ≤ 19 + 2 * mostAxes = omega (arith, few-axes A v) in
+    omega (arith, text-most A v, mul-le-mul-left (cells (A .shape .axes)) d, mul-le-mul-right (19 + 2 * mostAxes) (extent-true (A .shape .axes) (v .extent) .1))
+
+-- a buffer of that length is never refused with 14
+pub never-14 : (bs : List ℕ) (k room : ℕ) (A : Array) → Bytes bs → chosen bs k ≡ got A → eqb (A .shape .type) FLOAT ≡ false → longest ≤ room
+    → written bs k room ≡ got (jsonText (A .shape .axes) (A .cells))
+unfolding written
+never-14 bs k room A b e t h = rw (e, t, le-leb (length (jsonText (A .shape .axes) (A .cells))) room (omega (arith, every-text bs k A b e)))
+
+-- and one text needs all of it: the smallest INT in each of 4,096 cells, on axes of 4,096 positions, one, one and one
+abbrev single : String → Axis
+single n = axis n (pos 1) (pos 1)
+
+abbrev pub longestAxes : List Axis
+longestAxes = axis "a" (pos 1) (pos 4096) ∷ single "b" ∷ single "c" ∷ single "d" ∷ []
+
+pub longest-good : goodExtent longestAxes ≡ true
+unfolding opened
+longest-good = refl
+
+twenty : (n i : ℕ) → cellsLong (λ k. Int smallestInt) i n ≡ n * 20
+unfolding cellsLong cellText decimal digits
+twenty zero i = refl
+twenty (suc n) i = omega (arith, twenty n (i + 1), suc-mul n 20)
+
+pub longest-met : length (jsonText longestAxes (map (λ k. Int smallestInt) (from 0 (cells longestAxes)))) ≡ longest
+unfolding opened marks
+longest-met =
+    let m : marks longestAxes ≡ 28673 = refl in
+    let c : cells longestAxes ≡ 4096 = refl in
+    omega (arith, json-long (λ k. Int smallestInt) longestAxes (extent-true longestAxes longest-good .0) (omega arith), twenty (cells longestAxes) 0)

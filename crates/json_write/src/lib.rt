@@ -1,0 +1,234 @@
+// An array of a bundle as JSON (request [2]). The writer of brackets calls itself for the next axis, as the report's F does; the number of
+// axes left falls to the cells. The text is measured first, so that nothing is written where it doesn't fit.
+ghost use mathlib.Core.List.{[], _∷_};
+ghost use mathlib.Core.Path.{_≡_};
+ghost use Prim.Native.Nat.{_+_, _*_, _^_, _<_, _≤_};
+ghost use lib.ListN.{length};
+ghost use Rattle.paper.specs.Limits.{mostCells, cellBytes};
+ghost use Rattle.paper.specs.Axes.{cells};
+ghost use Rattle.paper.specs.Answers.{axesOf, jsonSaid};
+ghost use Rattle.paper.specs.Json.{cellText, writeJson};
+ghost use Rattle.coordinates.specs.Limits.{Sound};
+ghost use Rattle.json_write.specs.Stores.{Stored};
+ghost use Rattle.json_write.specs.Texts.{comma, axisLeft};
+ghost use Rattle.json_write.specs.Lengths.{marks, cellsLong};
+ghost use Rattle.json_write.specs.Whole.{cellBy, jsonAt, RowReady, RowDrawn, Ready, Drawn, Whole};
+use decimal::int_length;
+use decimal::put_int;
+use decimal::put_text;
+use extent::axis_of;
+use extent::good_extent;
+use extent::rank_of;
+use extent::width_of;
+use paper::Axis;
+use paper::AxisIndex;
+use paper::Cell;
+use paper::Extent;
+use paper::JsonAnswer;
+use paper::Refusal;
+use refer::choose;
+use refer::held_cell;
+
+// ---- how long the text is
+
+// The bytes of brackets and commas, from the last axis to the first: two brackets, a comma between two positions, and at each position
+// those of the axes after it.
+fn marks_of(e: Extent) -> u64
+    requires { ⌜ Sound (axesOf e) × (cells (axesOf e) ≤ mostCells) ⌝ }
+    ensures { λ r. ⌜ r ≡ marks (axesOf e) ⌝ }
+{
+    let rank = rank_of(e);
+    let mut n: u64 = 0;
+    let mut i = rank;
+    while 0 < i {
+        i -= 1;
+        let w = width_of(e.axes[i]);
+        n = 1 + w + w * n;
+    }
+    n
+}
+
+// The bytes of a cell's text.
+fn cell_length(c: Cell) -> usize
+    ensures { λ r. ⌜ r ≡ length (cellText c) ⌝ }
+{
+    match c {
+        Cell::Empty => 4,
+        Cell::Int(z) => int_length(z),
+        Cell::Float(_) => 0,
+        Cell::Truth(b) => { if b { 4 } else { 5 } }
+    }
+}
+
+// The bytes of the texts of n cells.
+fn cells_length(s: &[u8], from: usize, kind: u8, n: usize) -> usize
+    requires { ⌜ (from + n * cellBytes ≤ length (now s)) × (n ≤ mostCells) ⌝ }
+    ensures { λ r. ⌜ r ≡ cellsLong (cellBy (now (s .entry)) from kind) 0 n ⌝ }
+{
+    let mut long = 0;
+    let mut i = 0;
+    while i < n {
+        long += cell_length(held_cell(s, from, kind, i));
+        i += 1;
+    }
+    long
+}
+
+// The bytes of the whole text: beside these, `{"data":` and the closing brace.
+fn json_length(s: &[u8], from: usize, kind: u8, extent: Extent) -> usize
+    requires { ⌜ Whole (now s) from (axesOf extent) ⌝ }
+    ensures { λ r. ⌜ (r ≡ length (jsonAt (now (s .entry)) from kind (axesOf extent))) × (r < 2 ^ 32) ⌝ }
+{
+    let n = good_extent(extent);
+    let marks = marks_of(extent) as usize;
+    let cells = cells_length(s, from, kind, n);
+    9 + marks + cells
+}
+
+// ---- the text
+
+fn put(out: &mut [u8], at: usize, b: u8) -> usize
+    requires { ⌜ at < length (now out) ⌝ }
+    ensures { λ r. ⌜ Stored (now (out .entry)) at (b ∷ []) r (now (out .exit)) ⌝ }
+{
+    out[at] = b;
+    at + 1
+}
+
+// What follows an item with so many more after it: a comma, but after the last.
+fn put_comma(out: &mut [u8], at: usize, more: u64) -> usize
+    requires { ⌜ at + length (comma more) ≤ length (now out) ⌝ }
+    ensures { λ r. ⌜ Stored (now (out .entry)) at (comma more) r (now (out .exit)) ⌝ }
+{
+    if more == 0 {
+        return at;
+    }
+    put(out, at, b',')
+}
+
+// A cell.
+fn put_cell(out: &mut [u8], at: usize, c: Cell) -> usize
+    requires { ⌜ at + length (cellText c) ≤ length (now out) ⌝ }
+    ensures { λ r. ⌜ Stored (now (out .entry)) at (cellText c) r (now (out .exit)) ⌝ }
+{
+    match c {
+        Cell::Empty => put_text(out, at, b"null"),
+        Cell::Int(z) => put_int(out, at, z),
+        Cell::Float(_) => at,
+        Cell::Truth(b) => {
+            if b {
+                put_text(out, at, b"true")
+            } else {
+                put_text(out, at, b"false")
+            }
+        }
+    }
+}
+
+// Where the next byte goes, and the index of the next cell.
+struct Pen {
+    at: usize,
+    cell: usize,
+}
+
+// The cells of the last axis.
+fn put_cells(out: &mut [u8], pen: Pen, s: &[u8], from: usize, kind: u8, width: u64) -> Pen
+    requires { ⌜ RowReady (now s) from kind width (pen .at) (pen .cell) (length (now out)) ⌝ }
+    ensures { λ r. ⌜ RowDrawn (now (s .entry)) from kind width (pen .at) (pen .cell) (now (out .entry)) (r .at) (r .cell) (now (out .exit)) ⌝ }
+{
+    let begin = pen.at;
+    let mut cell = pen.cell;
+    let mut at = put(out, begin, b'[');
+    let mut more = width;
+    while 0 < more {
+        more -= 1;
+        at = put_cell(out, at, held_cell(s, from, kind, cell));
+        at = put_comma(out, at, more);
+        cell += 1;
+    }
+    let end = put(out, at, b']');
+    Pen { at: end, cell }
+}
+
+// The first of the axes that are left.
+fn axis_left(e: Extent, left: usize) -> Axis
+    requires { ⌜ left ≤ length (axesOf e) ⌝ }
+    ensures { λ r. ⌜ r ≡ axisLeft (axesOf e) left ⌝ }
+{
+    let rank = rank_of(e);
+    axis_of(e, AxisIndex((rank - left + 1) as u32))
+}
+
+// The axes that are left, from a cell on: with one left its cells; with more the same again at each position of the first.
+fn put_axes(
+    out: &mut [u8],
+    pen: Pen,
+    s: &[u8],
+    from: usize,
+    kind: u8,
+    extent: Extent,
+    left: usize,
+) -> Pen
+    requires { ⌜ Ready (now s) from kind (axesOf extent) left (pen .at) (pen .cell) (length (now out)) ⌝ }
+    ensures { λ r. ⌜ Drawn (now (s .entry)) from kind (axesOf extent) left (pen .at) (pen .cell) (now (out .entry)) (r .at) (r .cell) (now (out .exit)) ⌝ }
+{
+    let width = width_of(axis_left(extent, left));
+    if left == 1 {
+        return put_cells(out, pen, s, from, kind, width);
+    }
+    let mut cell = pen.cell;
+    let mut at = put(out, pen.at, b'[');
+    let mut more = width;
+    while 0 < more {
+        more -= 1;
+        let next = put_axes(out, Pen { at, cell }, s, from, kind, extent, left - 1);
+        at = put_comma(out, next.at, more);
+        cell = next.cell;
+    }
+    at = put(out, at, b']');
+    Pen { at, cell }
+}
+
+// The whole object.
+fn put_json(out: &mut [u8], s: &[u8], from: usize, kind: u8, extent: Extent) -> usize
+    requires { ⌜ Whole (now s) from (axesOf extent) × (length (jsonAt (now s) from kind (axesOf extent)) ≤ length (now out)) ⌝ }
+    ensures { λ r. ⌜ Stored (now (out .entry)) 0 (jsonAt (now (s .entry)) from kind (axesOf extent)) r (now (out .exit)) ⌝ }
+{
+    let rank = rank_of(extent);
+    let first = put_text(out, 0, b"{\"data\":");
+    let pen = put_axes(out, Pen { at: first, cell: 0 }, s, from, kind, extent, rank);
+    put(out, pen.at, b'}')
+}
+
+// Array k of a bundle as JSON: the text's length, or the refusal; then `out` is as it was.
+pub fn write(s: &[u8], k: u32, out: &mut [u8]) -> JsonAnswer
+    ensures { λ r. ⌜ (jsonSaid r ≡ writeJson (now (s .entry)) k (now (out .entry)) .answer) × (now (out .exit) ≡ writeJson (now (s .entry)) k (now (out .entry)) .out) ⌝ }
+{
+    let array = choose(s, k);
+    let refusal = array.refusal;
+    if refusal.number != 0 {
+        return JsonAnswer::Refused(refusal);
+    }
+    let head = array.head;
+    let form = head.form;
+    let kind = form.kind;
+    if kind == 2 {
+        return JsonAnswer::Refused(Refusal {
+            number: 7,
+            place: k,
+            ordinality: 0,
+        });
+    }
+    let extent = form.extent;
+    let from = head.at;
+    let long = json_length(s, from, kind, extent);
+    if out.len() < long {
+        return JsonAnswer::Refused(Refusal {
+            number: 14,
+            place: 0,
+            ordinality: 0,
+        });
+    }
+    put_json(out, s, from, kind, extent);
+    JsonAnswer::Got(long as u32)
+}
