@@ -1,11 +1,16 @@
 #!/bin/sh
-# Proves and builds the engine's archive, links it with the driver, and times the page call beside the plain Rust programs.
-# ROUNDS (60), REPS (10), CASE, ONLY, OPS and BUILD_ONLY are explained in README.md.
+# Proves and builds the engine's archive, links it with the drivers, and times the page call and the writing of JSON beside plain Rust
+# programs. ROUNDS (60), REPS (10), CASE, ONLY, OPS, JSON_ONLY, BUILD_ONLY and RMA_LIB_DIR are explained in README.md.
 set -e
 here=$(cd "$(dirname "$0")" && pwd)
 root=$(dirname "$here")
 out=$root/target/bench
 mkdir -p "$out"
-(cd "$root" && rt staticlib rma >"$out/staticlib.log" 2>&1) || { tail -5 "$out/staticlib.log"; exit 1; }
-rustc --edition 2021 -O -C codegen-units=1 "$here/bench.rs" -o "$out/bench" -C link-arg="$root/target/staticlib/librma.a"
-[ -n "$BUILD_ONLY" ] || "$out/bench" "${ROUNDS:-60}" "${REPS:-10}"
+[ -n "$RMA_LIB_DIR" ] || (cd "$root" && rt staticlib rma >"$out/staticlib.log" 2>&1) || { tail -5 "$out/staticlib.log"; exit 1; }
+drivers="bench json"
+[ -z "$JSON_ONLY" ] || drivers=json
+for driver in $drivers; do
+    rustc --edition 2021 -O -C codegen-units=1 "$here/$driver.rs" -o "$out/$driver" \
+        -C link-arg="${RMA_LIB_DIR:-$root/target/staticlib}/librma.a"
+done
+[ -n "$BUILD_ONLY" ] || for driver in $drivers; do "$out/$driver" "${ROUNDS:-60}" "${REPS:-10}"; done
