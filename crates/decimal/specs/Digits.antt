@@ -1,17 +1,16 @@
--- Numbers and positions in decimal: a number below 2 ^ 64 is the number without its last digit, and that digit; how many bytes a
--- number takes at most; and the sign of a whole number.
+-- Numbers and positions in decimal: a number below 2 ^ 64 is the number without its last digit, and that digit; and how many bytes a
+-- number takes at most.
 use Prim.Native.Nat.{ℕ, zero, suc, _+_, _-_, _*_, _/_, _%_, _^_, _≤_, _<_}
 use Prim.Native.Char.{code}
-use mathlib.Core.Path.{_≡_, refl, sym, ap, _∙_}
+use mathlib.Core.Path.{_≡_, ap, _∙_}
 use mathlib.Core.Bool.{Bool, true, false}
 use mathlib.Core.List.{List, [], _∷_, _++_}
 use native.Mathlib.Nat.{pow-suc}
 use native.Mathlib.Omega.{arith}
-use borrow.Author.Tests.{lt-ltb, le-ltb, ltb-true}
+use borrow.Author.Tests.{lt-ltb, le-ltb}
 use lib.Dec.{ltb}
-use lib.IntN.{ℤ, pos, negsuc, natAbs}
+use lib.IntN.{ℤ, pos, negsuc}
 use lib.ListN.{length, length-append}
-use lib.Signed.{ltZ}
 use Rattle.paper.specs.Limits.{reach}
 use Rattle.paper.specs.Refusals.{if_then_else_}
 use Rattle.paper.specs.Numbers.{text, position}
@@ -32,7 +31,7 @@ mostSigned = 1 + mostDigits
 
 -- ---- one digit more
 
-tenth : (x p q : ℕ) → x < q → q ≡ p * 10 → x / 10 < p
+pub tenth : (x p q : ℕ) → x < q → q ≡ p * 10 → x / 10 < p
 tenth x p q h e = omega arith
 
 ten : (x q : ℕ) → x < q → q ≡ 1 * 10 → x < 10
@@ -71,6 +70,11 @@ unfolding digits
 digits-most zero x = omega arith
 digits-most (suc k) x = at-most (ltb x 10) (digits k (x / 10)) (digit x) k (digits-most k (x / 10))
 
+pub digits-some : (k x : ℕ) → 1 ≤ length (digits k x)
+unfolding digits
+digits-some zero x = omega arith
+digits-some (suc k) x = omega (arith, length-append (if ltb x 10 then [] else digits k (x / 10)) (digit x ∷ []))
+
 -- a number below 10 ^ 19 has a digit fewer
 pub digits-fewer : (x : ℕ) → x < 10 ^ 19 → length (digits 19 x) ≤ 19
 digits-fewer x h = omega (arith, ap length (enough 18 x h), digits-most 18 x)
@@ -91,31 +95,3 @@ pub decimal-most : (z : ℤ) → length (decimal z) ≤ mostSigned
 unfolding decimal
 decimal-most (pos x) = omega (arith, digits-most 19 x)
 decimal-most (negsuc x) = omega (arith, digits-most 19 (suc x))
-
--- ---- whole numbers
-
--- `-` where negative
-abbrev pub sign : ℤ → List ℕ
-sign (pos x) = []
-sign (negsuc x) = text "-"
-
-pub sign-below : (z : ℤ) → ltZ z (pos 0) ≡ true → sign z ≡ text "-"
-sign-below (pos x) e = absurd (omega (arith, ltb-true x 0 e))
-sign-below (negsuc x) e = refl
-
-pub sign-from : (z : ℤ) → ltZ z (pos 0) ≡ false → sign z ≡ []
-sign-from (pos x) e = refl
-sign-from (negsuc x) e = let n : _≡_ {A = ℕ} 0 1 = cc in absurd (omega arith)
-
-signed : (z : ℤ) → decimal z ≡ sign z ++ digits 19 (natAbs z)
-unfolding decimal
-signed (pos x) = refl
-signed (negsuc x) = refl
-
--- of a number whose magnitude is m
-module _ (z : ℤ) (m : ℕ) (e : m ≡ natAbs z) where
-  pub decimal-sign : decimal z ≡ sign z ++ digits 19 m
-  decimal-sign = signed z ∙ ap (λ (n : ℕ). sign z ++ digits 19 n) (sym e)
-
-  pub decimal-long : length (decimal z) ≡ length (sign z) + length (digits 19 m)
-  decimal-long = ap length decimal-sign ∙ length-append (sign z) (digits 19 m)

@@ -2,5 +2,7 @@
 pub mod Wrote
 pub mod Digits
 pub mod Pairs
+pub mod Bits
+pub mod Ints
 pub mod Lines
 pub mod Rows

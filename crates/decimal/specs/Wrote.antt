@@ -1,12 +1,12 @@
 -- What a writer says of its buffer: where it stopped, and what stands there now. One writer after the other writes both texts.
 use Prim.Native.Nat.{ℕ, _+_, _≤_}
-use mathlib.Core.Path.{_≡_, refl, sym, ap, _∙_, subst}
-use mathlib.Core.List.{List, [], _++_}
+use mathlib.Core.Path.{_≡_, refl, sym, ap, ap₂, _∙_, subst}
+use mathlib.Core.List.{List, _++_}
 use native.Mathlib.Omega.{arith}
-use lib.ListN.{length, length-append}
-use lib.Seq.{take-length}
+use lib.ListN.{length, set, length-append}
+use lib.Seq.{take-length, take-set-le, drop-set-lt}
 use Rattle.paper.specs.Numbers.{part}
-use Rattle.laws.specs.Put.{put, put-none, length-put, after}
+use Rattle.laws.specs.Put.{put, length-put, after}
 
 -- x was put into d from byte `at` on, which gave y, and r is the byte after x
 abbrev pub Wrote : List ℕ → ℕ → List ℕ → ℕ → List ℕ → Type 0
@@ -25,9 +25,16 @@ wrote-as d at x w r y e p = subst (λ (l : List ℕ). Wrote d at l r y) (sym e) 
 pub wrote-both : (d : List ℕ) (at : ℕ) (x w t : List ℕ) (m r : ℕ) (y z : List ℕ) → t ≡ x ++ w → at + length t ≤ length d → Wrote d at x m y → Wrote y m w r z → Wrote d at t r z
 wrote-both d at x w t m r y z e h p q = wrote-as d at (x ++ w) t r z e (wrote-then d at x m y w r z (omega (arith, ap length e, length-append x w)) p q)
 
--- nothing
-pub wrote-none : (d : List ℕ) (at : ℕ) → Wrote d at [] at d
-wrote-none d at = (omega arith, sym (put-none d at))
+-- in three
+pub wrote-three : (d : List ℕ) (at : ℕ) (x v w t : List ℕ) (m n r : ℕ) (y u z : List ℕ) → t ≡ x ++ v ++ w → at + length t ≤ length d → Wrote d at x m y → Wrote y m v n u
+    → Wrote u n w r z → Wrote d at t r z
+wrote-three d at x v w t m n r y u z e h p q s =
+    wrote-both d at (x ++ v) w t n r u z e h (wrote-then d at x m y v n u (omega (arith, ap length e, length-append (x ++ v) w, length-append x v)) p q) s
+
+-- over a byte that was stored where the text begins
+pub wrote-over : (d : List ℕ) (at b : ℕ) (x : List ℕ) (r : ℕ) (y : List ℕ) → 1 ≤ length x → Wrote (set d at b) at x r y → Wrote d at x r y
+wrote-over d at b x r y h p =
+    (p .0, p .1 ∙ ap₂ (λ (u v : List ℕ). u ++ x ++ v) (take-set-le at d at b (omega arith)) (drop-set-lt (at + length x) d at b (omega arith)))
 
 -- the buffer keeps its length
 pub wrote-long : (d : List ℕ) (at : ℕ) (x : List ℕ) (r : ℕ) (y : List ℕ) → at + length x ≤ length d → Wrote d at x r y → length y ≡ length d

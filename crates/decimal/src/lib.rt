@@ -9,8 +9,10 @@ ghost use Rattle.paper.specs.Limits.{limitBytes};
 ghost use Rattle.paper.specs.Numbers.{position};
 ghost use Rattle.paper.specs.Rests.{digits, decimal, refusedText};
 ghost use Rattle.decimal.specs.Wrote.{Wrote};
-ghost use Rattle.decimal.specs.Digits.{mostSigned, sign};
+ghost use Rattle.decimal.specs.Digits.{mostSigned};
 ghost use Rattle.decimal.specs.Pairs.{pair, four, eight};
+ghost use Rattle.decimal.specs.Bits.{smallest};
+ghost use Rattle.decimal.specs.Ints.{sign};
 ghost use Rattle.decimal.specs.Lines.{mostSpaced, mostRefused, mostFound, number, foundLine};
 ghost use Rattle.decimal.specs.Rows.{mostRow, lineAt};
 use cell::bytes::copy_bytes;
@@ -29,40 +31,46 @@ fn put_byte(out: &mut [u8], at: usize, b: u8) -> usize
     at + 1
 }
 
-// How many digits a number of at most four has.
-fn short_length(n: u64) -> usize
-    requires { ⌜ n < 10000 ⌝ }
-    ensures { λ r. ⌜ (r ≡ length (digits 19 n)) × (r ≤ 4) ⌝ }
+// The smallest number of k + 1 digits. (The compiler makes a table of it.)
+fn smallest(k: usize) -> u64
+    requires { ⌜ k < 20 ⌝ }
+    ensures { λ r. ⌜ r ≡ smallest k ⌝ }
 {
-    if n < 100 {
-        if n < 10 {
-            return 1;
-        }
-        return 2;
+    match k {
+        0 => 0,
+        1 => 10,
+        2 => 100,
+        3 => 1000,
+        4 => 10000,
+        5 => 100000,
+        6 => 1000000,
+        7 => 10000000,
+        8 => 100000000,
+        9 => 1000000000,
+        10 => 10000000000,
+        11 => 100000000000,
+        12 => 1000000000000,
+        13 => 10000000000000,
+        14 => 100000000000000,
+        15 => 1000000000000000,
+        16 => 10000000000000000,
+        17 => 100000000000000000,
+        18 => 1000000000000000000,
+        19 => 10000000000000000000,
+        _ => 0,
     }
-    if n < 1000 {
-        return 3;
-    }
-    4
 }
 
-// How many digits n has. (LLVM makes comparisons of the divisions.)
+// How many digits n has: by the number of its bits they are `least`, or one more. (There is no branch.)
 pub fn decimal_length(n: u64) -> usize
     ensures { λ r. ⌜ r ≡ length (digits 19 n) ⌝ }
 {
-    if n < 10000 {
-        return short_length(n);
+    let bits = (64 - u64::leading_zeros(n / 2 * 2 + 1)) as usize;
+    let least = bits * 1233 / 4096;
+    if n < smallest(least) {
+        return least;
     }
-    if n < 100000000 {
-        return 4 + short_length(n / 10000);
-    }
-    if n < 1000000000000 {
-        return 8 + short_length(n / 100000000);
-    }
-    if n < 10000000000000000 {
-        return 12 + short_length(n / 1000000000000);
-    }
-    16 + short_length(n / 10000000000000000)
+    least + 1
 }
 
 // The last two digits of n.
@@ -96,47 +104,49 @@ fn put_eight(out: &mut [u8], at: usize, n: u64) -> usize
     put_four(out, from, low)
 }
 
+// The digits of a number of at most two: the last is stored over the first where there is one.
+fn put_small(out: &mut [u8], at: usize, n: u64) -> usize
+    requires { ⌜ (n < 100) × (at + length (digits 19 n) ≤ length (now out)) ⌝ }
+    ensures { λ r. ⌜ Wrote (now (out .entry)) at (digits 19 n) r (now (out .exit)) ⌝ }
+{
+    let last = at + (n >= 10) as usize;
+    out[at] = b'0' + (n / 10) as u8;
+    out[last] = b'0' + (n % 10) as u8;
+    last + 1
+}
+
 // The digits of a number of at most four.
 fn put_short(out: &mut [u8], at: usize, n: u64) -> usize
     requires { ⌜ (n < 10000) × (at + length (digits 19 n) ≤ length (now out)) ⌝ }
     ensures { λ r. ⌜ Wrote (now (out .entry)) at (digits 19 n) r (now (out .exit)) ⌝ }
 {
-    if n < 10 {
-        return put_byte(out, at, b'0' + n as u8);
-    }
     if n < 100 {
-        return put_pair(out, at, n);
+        return put_small(out, at, n);
     }
-    if n < 1000 {
-        let from = put_byte(out, at, b'0' + (n / 100) as u8);
-        return put_pair(out, from, n);
-    }
-    put_four(out, at, n)
+    let from = put_small(out, at, n / 100);
+    put_pair(out, from, n)
 }
 
-// The digits of a number of at most eight.
-fn put_medium(out: &mut [u8], at: usize, n: u64) -> usize
-    requires { ⌜ (n < 100000000) × (at + length (digits 19 n) ≤ length (now out)) ⌝ }
+// The digits of n: at most four first, then four or eight at a time.
+pub fn put_decimal(out: &mut [u8], at: usize, n: u64) -> usize
+    requires { ⌜ at + length (digits 19 n) ≤ length (now out) ⌝ }
     ensures { λ r. ⌜ Wrote (now (out .entry)) at (digits 19 n) r (now (out .exit)) ⌝ }
 {
     if n < 10000 {
         return put_short(out, at, n);
     }
-    let from = put_short(out, at, n / 10000);
-    put_four(out, from, n)
-}
-
-// The digits of n.
-pub fn put_decimal(out: &mut [u8], at: usize, n: u64) -> usize
-    requires { ⌜ at + length (digits 19 n) ≤ length (now out) ⌝ }
-    ensures { λ r. ⌜ Wrote (now (out .entry)) at (digits 19 n) r (now (out .exit)) ⌝ }
-{
     if n < 100000000 {
-        return put_medium(out, at, n);
+        let from = put_short(out, at, n / 10000);
+        return put_four(out, from, n);
+    }
+    if n < 1000000000000 {
+        let from = put_short(out, at, n / 100000000);
+        return put_eight(out, from, n);
     }
     if n < 10000000000000000 {
-        let from = put_medium(out, at, n / 100000000);
-        return put_eight(out, from, n);
+        let from = put_short(out, at, n / 1000000000000);
+        let last = put_four(out, from, n / 100000000);
+        return put_eight(out, last, n);
     }
     let from = put_short(out, at, n / 10000000000000000);
     let last = put_eight(out, from, n / 100000000);
@@ -157,24 +167,13 @@ pub fn int_length(z: i64) -> usize
     sign_length(z) + decimal_length(magnitude(z))
 }
 
-// `-` for a number below 0, else nothing.
-fn put_sign(out: &mut [u8], at: usize, z: i64) -> usize
-    requires { ⌜ at + length (sign z) ≤ length (now out) ⌝ }
-    ensures { λ r. ⌜ Wrote (now (out .entry)) at (sign z) r (now (out .exit)) ⌝ }
-{
-    if z < 0 {
-        return put_byte(out, at, b'-');
-    }
-    at
-}
-
-// A whole number, with `-` where negative.
+// A whole number, with `-` where negative: else the first digit is stored over it.
 pub fn put_int(out: &mut [u8], at: usize, z: i64) -> usize
     requires { ⌜ at + length (decimal z) ≤ length (now out) ⌝ }
     ensures { λ r. ⌜ Wrote (now (out .entry)) at (decimal z) r (now (out .exit)) ⌝ }
 {
-    let from = put_sign(out, at, z);
-    put_decimal(out, from, magnitude(z))
+    out[at] = b'-';
+    put_decimal(out, at + sign_length(z), magnitude(z))
 }
 
 // The position at distance d.

@@ -1,15 +1,14 @@
 -- The longest text: an array that was read is valid, so no cell takes over 20 bytes; on d axes n cells take at most 10 + n * (19 + 2d)
 -- bytes. So a buffer of 110,602 bytes holds every text, and one text needs all of them.
 use Prim.Native.String.{String}
-use Prim.Native.Nat.{ℕ, zero, suc, _+_, _*_, _^_, _≤_, _<_}
-use mathlib.Core.Path.{_≡_, refl, sym, ap, subst, _∙_}
-use mathlib.Core.Bool.{Bool, true, false, not}
+use Prim.Native.Nat.{ℕ, zero, suc, _+_, _*_, _≤_}
+use mathlib.Core.Path.{_≡_, refl, sym, ap, _∙_}
+use mathlib.Core.Bool.{true, false}
 use mathlib.Core.List.{List, [], _∷_, map}
-use mathlib.Core.Option.{none, some}
 use native.Mathlib.Omega.{arith}
 use native.Mathlib.Nat.{suc-mul, mul-le-mul-left, mul-le-mul-right}
-use borrow.Author.Tests.{leb-true, le-leb}
-use lib.Dec.{eqb, leb}
+use borrow.Author.Tests.{le-leb}
+use lib.Dec.{eqb}
 use lib.IntN.{ℤ, pos, negsuc}
 use lib.ListN.{length, getD}
 use mir.Syntax.{w64}
@@ -17,12 +16,10 @@ use mir.Val.{SFits}
 use Rattle.paper.specs.declared.Axis.{Axis}
 use Rattle.paper.specs.declared.Cell.{Cell}
 use Rattle.paper.specs.declared.Cell.the-variants.{Empty, Int, Float, Truth}
-use Rattle.paper.specs.declared.Refusal.{Refusal}
 use Rattle.paper.specs.Limits.{FLOAT, mostAxes, mostCells, smallestInt}
-use Rattle.paper.specs.Refusals.{Res, got, refused, _>>=_, refusal, present, between, unknown4}
-use Rattle.paper.specs.Numbers.{nth, from}
+use Rattle.paper.specs.Refusals.{got, refused, _>>=_}
+use Rattle.paper.specs.Numbers.{from}
 use Rattle.paper.specs.Axes.{cells, goodExtent, Array}
-use Rattle.paper.specs.Bundle.{readBundle}
 use Rattle.paper.specs.Reference.{chosen}
 use Rattle.paper.specs.Rests.{digits, decimal}
 use Rattle.paper.specs.Json.{cellText, jsonText, written}
@@ -31,11 +28,9 @@ use Rattle.paper.specs.Written.{axis}
 use Rattle.laws.specs.Numbers.{Bytes}
 use Rattle.laws.specs.Cells.{OfKind}
 use Rattle.laws.specs.Parts.{fit-parts}
-use Rattle.laws.specs.Tests.{and-left, and-right, bind-got, present-got}
 use Rattle.coordinates.specs.Limits.{Sound, extent-true}
 use Rattle.decimal.specs.Digits.{digits-most, digits-fewer}
-use Rattle.roundtrip.specs.Valid.{EachOfKind, Valid, EachValid}
-use Rattle.roundtrip.specs.Reading.{bundle-read}
+use Rattle.roundtrip.specs.Valid.{EachOfKind, Valid}
 use Rattle.json_write.specs.Lengths.{marks, marks-most, cellsLong, long-most, json-long}
 use Rattle.json_write.specs.Whole.{chosen-valid, has-axis, few-axes}
 
@@ -82,8 +77,6 @@ joined n d m l h k = omega arith
 
 pub text-most : (A : Array) → Valid A → length (jsonText (A .shape .axes) (A .cells)) ≤ mostText (cells (A .shape .axes)) (length (A .shape .axes))
 text-most A v =
-    let E : List Axis = A .shape .axes in
-    let f : ℕ → Cell = λ k. getD (A .cells) k Empty in
     let s : Sound (A .shape .axes) = extent-true (A .shape .axes) (v .extent) .0 in
     let e : A .cells ≡ map (λ k. getD (A .cells) k Empty) (from 0 (cells (A .shape .axes))) = by-index (A .cells) ∙ ap (λ (n : ℕ). map (λ k. getD (A .cells) k Empty) (from 0 n)) (v .full) in
     let l = ap (λ (cs : List Cell). length (jsonText (A .shape .axes) cs)) e ∙ json-long (λ k. getD (A .cells) k Empty) (A .shape .axes) s (has-axis A v) in

@@ -1,6 +1,6 @@
 -- A text stored in a buffer: where it ends, and what the buffer then holds. One text after the other is both. Then the texts of cells,
 -- by what a cell is.
-use Prim.Native.Nat.{ℕ, zero, suc, _+_, _≤_}
+use Prim.Native.Nat.{ℕ, suc, _+_, _≤_}
 use mathlib.Core.Path.{_≡_, sym, ap, _∙_, subst}
 use mathlib.Core.Bool.{Bool, true, false}
 use mathlib.Core.List.{List, [], _∷_, _++_}

@@ -9,7 +9,7 @@ use native.Mathlib.Omega.{arith}
 use borrow.Author.Tests.{eq-eqb, ne-eqb, le-leb, lt-leb, leb-true}
 use lib.Dec.{eqb, leb}
 use lib.ListN.{length, drop, length-append}
-use lib.Seq.{drop-drop, sets-eq, sets}
+use lib.Seq.{drop-drop, sets-eq}
 use Rattle.paper.specs.declared.Axis.{Axis}
 use Rattle.paper.specs.declared.Cell.{Cell}
 use Rattle.paper.specs.declared.Refusal.{Refusal}
@@ -33,7 +33,7 @@ use Rattle.bundle.specs.Read.{arrayAt}
 use Rattle.refer.specs.declared.Chosen.{Chosen}
 use Rattle.refer.specs.Chosen.{ChosenHead}
 use Rattle.json_write.specs.Stores.{Stored, stored-then, stored-as}
-use Rattle.json_write.specs.Texts.{comma, items, rowOf, row-length, cellOn, axesOn, axesLeft, sizeLeft, axisLeft, textLeft, text-one, text-more, size-one, size-more, text-all, size-all}
+use Rattle.json_write.specs.Texts.{comma, items, rowOf, row-length, cellOn, axesOn, sizeLeft, axisLeft, textLeft, text-one, text-more, size-one, size-more, text-all, size-all}
 use Rattle.json_write.specs.Lengths.{marks, cellsLong, json-long, json-short}
 use Rattle.json_write.specs.Rows.{Rowing, row-at, row-cell, row-end, shut-cell, shut-row}
 

@@ -5,12 +5,12 @@ use Prim.Native.String.{String}
 use mathlib.Core.Path.{_≡_, refl}
 use mathlib.Core.Bool.{Bool, true, false}
 use mathlib.Core.List.{List, [], _∷_, _++_}
-use lib.IntN.{ℤ, pos, negsuc}
+use lib.IntN.{pos, negsuc}
 use lib.ListN.{replicate}
 use Rattle.paper.specs.declared.Axis.{Axis}
 use Rattle.paper.specs.declared.Cell.{Cell}
 use Rattle.paper.specs.declared.Cell.the-variants.{Empty, Int, Truth}
-use Rattle.paper.specs.Limits.{INT, FLOAT, BOOLEAN, smallestInt, largestInt}
+use Rattle.paper.specs.Limits.{INT, FLOAT, smallestInt, largestInt}
 use Rattle.paper.specs.Numbers.{text, same}
 use Rattle.paper.specs.Bundle.{Packed, bundleBytes}
 use Rattle.paper.specs.Json.{jsonText, writeJson}

@@ -2,7 +2,8 @@
 use borrow.Author.Needs.{needs}
 use native.Mathlib.Omega.{arith}
 use mir.Facts.{toZ-ofZ}
-use Rattle.decimal.specs.Digits.{digits-most, decimal-long}
+use Rattle.decimal.specs.Digits.{digits-most}
+use Rattle.decimal.specs.Ints.{decimal-long}
 use Rattle.decimal.proofs.int_length.Statement.{statement}
 use Rattle.decimal.proofs.int_length.Tie as tie
 

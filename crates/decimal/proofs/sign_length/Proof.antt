@@ -3,7 +3,7 @@ use mathlib.Core.Path.{ap}
 use native.Mathlib.Omega.{arith}
 use lib.ListN.{length}
 use mir.Facts.{toZ-ofZ}
-use Rattle.decimal.specs.Digits.{sign-below, sign-from}
+use Rattle.decimal.specs.Ints.{sign-below, sign-from}
 use Rattle.decimal.proofs.sign_length.Statement.{statement}
 use Rattle.decimal.proofs.sign_length.Tie as tie
 

@@ -8,7 +8,6 @@ use mir.Syntax.{w64}
 use mir.Val.{SFits, toZ, ofZ}
 use mir.Facts.{toZ-ofZ}
 use borrow.Author.Needs.{needs, sfits-of}
-use Rattle.paper.specs.Numbers.{text}
 use Rattle.paper.specs.Rests.{decimal}
 use Rattle.paper.specs.Json.{cellText}
 use Rattle.json_write.specs.Stores.{stored-as, wrote-stored, cell-null, cell-int, cell-float, cell-true, cell-false}

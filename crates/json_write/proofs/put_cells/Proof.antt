@@ -1,12 +1,11 @@
 -- `json_write::put_cells` meets its contract: what is stored and what is left are the whole row (`Rowing`).
-use Prim.Native.Nat.{ℕ, _+_, _-_, _≤_}
+use Prim.Native.Nat.{_+_, _-_, _≤_}
 use mathlib.Core.Path.{_≡_, refl, sym, ap, _∙_}
 use mathlib.Core.List.{[], _∷_}
 use native.Mathlib.Omega.{arith}
 use lib.ListN.{length}
 use denote.Ref.{now}
 use borrow.Author.Needs.{needs}
-use Rattle.paper.specs.declared.Cell.{Cell}
 use Rattle.paper.specs.Json.{cellText}
 use Rattle.json_write.specs.Stores.{stored-as, stored-long}
 use Rattle.json_write.specs.Texts.{comma, cellOn}

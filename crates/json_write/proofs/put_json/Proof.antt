@@ -1,12 +1,10 @@
 -- `json_write::put_json` meets its contract: the object's beginning, the brackets, the closing brace.
 use mathlib.Core.Path.{_≡_, _∙_}
-use mathlib.Core.List.{[], _∷_}
 use native.Mathlib.Omega.{arith}
 use lib.ListN.{length}
 use denote.Ref.{now}
 use borrow.Author.Needs.{needs}
 use Rattle.paper.specs.Numbers.{text}
-use Rattle.paper.specs.Answers.{axesOf}
 use Rattle.json_write.specs.Stores.{Stored, stored-long, wrote-stored}
 use Rattle.json_write.specs.Whole.{name-fits, whole-ready, end-fits, whole-drawn}
 use Rattle.json_write.proofs.put_json.Statement.{statement}

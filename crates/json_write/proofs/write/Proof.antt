@@ -1,6 +1,5 @@
 -- `json_write::write` meets its contract: judged, measured, then written.
 use Prim.Native.Nat.{_≤_}
-use mathlib.Core.Path.{sym}
 use native.Mathlib.Omega.{arith}
 use lib.ListN.{length}
 use denote.Ref.{now}

@@ -1,0 +1,33 @@
+-- `decimal::smallest` meets its contract: an arm for each number of digits.
+use Prim.Native.Nat.{ℕ, zero, suc, _≤_}
+use mathlib.Core.Path.{_≡_, sym, ap}
+use native.Mathlib.Omega.{arith}
+use Rattle.decimal.specs.Bits.{smallest}
+use Rattle.decimal.proofs.smallest.Statement.{statement}
+use Rattle.decimal.proofs.smallest.Tie as tie
+
+arm : {k i : ℕ} → k ≡ i → smallest i ≡ smallest k
+arm e = ap smallest (sym e)
+
+-- k is none of the first n numbers
+abbrev None : ℕ → ℕ → Type 0
+None zero k = Unit
+None (suc n) k = None n k × (k ≡ n → ⊥)
+
+none-from : (n k : ℕ) → None n k → n ≤ k
+none-from zero k v = omega arith
+none-from (suc n) k v = let h = none-from n k (v .0) in omega (arith, v .1)
+
+never : (k : ℕ) → suc k ≤ 20 → None 20 k → ⊥
+never k h v = let g = none-from 20 k v in omega arith
+
+pub smallest-spec : {M : Type 1} → statement M
+smallest-spec =
+    tie.close
+    (tie.spec
+    (λ c. arm (c .match .keys1)) (λ c. arm (c .match .keys2)) (λ c. arm (c .match .keys3)) (λ c. arm (c .match .keys4))
+    (λ c. arm (c .match .keys5)) (λ c. arm (c .match .keys6)) (λ c. arm (c .match .keys7)) (λ c. arm (c .match .keys8))
+    (λ c. arm (c .match .keys9)) (λ c. arm (c .match .keys10)) (λ c. arm (c .match .keys11)) (λ c. arm (c .match .keys12))
+    (λ c. arm (c .match .keys13)) (λ c. arm (c .match .keys14)) (λ c. arm (c .match .keys15)) (λ c. arm (c .match .keys16))
+    (λ c. arm (c .match .keys17)) (λ c. arm (c .match .keys18)) (λ c. arm (c .match .keys19)) (λ c. arm (c .match .keys20))
+    (λ c. absurd (never (c .before .args .k) (c .before .pre) (c .match .rest))))
