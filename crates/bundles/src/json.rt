@@ -1,5 +1,5 @@
-// Arrays written as JSON: the request's printed array in a buffer of its text's length, in a longer one and in one a byte short; the ends of
-// INT and an empty cell; truth values; the kernel; and the refusals. Dots are bytes not written to.
+// Arrays written as JSON: the request's printed array in a buffer a byte short, in one of its text's length and in a longer one; the ends
+// of INT and an empty cell; truth values; the kernel; and the refusals. Dots are bytes not written to.
 use crate::one_axis;
 use crate::put;
 use crate::say;

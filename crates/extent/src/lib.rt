@@ -169,7 +169,7 @@ pub fn width_of(a: Axis) -> u64
 }
 
 // The number of cells, or 0 where there are more than an array may have. From the last axis to the first.
-fn cells_of(e: Extent) -> usize
+pub fn cells_of(e: Extent) -> usize
     requires { ⌜ Sound (axesOf e) ⌝ }
     ensures { λ r. ⌜ (r ≡ fewCells (axesOf e)) × (r ≤ mostCells) ⌝ }
 {

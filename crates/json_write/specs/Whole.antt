@@ -26,7 +26,7 @@ use Rattle.laws.specs.Numbers.{Bytes}
 use Rattle.laws.specs.Tests.{and-left, and-right, bind-got, present-got}
 use Rattle.laws.specs.Judged.{orEmpty, cellsFrom}
 use Rattle.coordinates.specs.Limits.{Sound, extent-true}
-use Rattle.extent.specs.Judged.{goodCells}
+use Rattle.extent.specs.Judged.{fewCells}
 use Rattle.roundtrip.specs.Valid.{Valid, EachValid}
 use Rattle.roundtrip.specs.Reading.{bundle-read}
 use Rattle.bundle.specs.Read.{arrayAt}
@@ -183,8 +183,8 @@ module _ {bs : List ℕ} {at : ℕ} {E : List Axis} (t : ℕ) (v : Whole bs at E
   pub whole-few : cells E ≤ mostCells
   whole-few = extent-true E (v .good) .1
 
-  pub whole-count : (n : ℕ) → n ≡ goodCells E → n ≡ cells E
-  whole-count n e = e ∙ rw (v .good)
+  pub whole-count : (n : ℕ) → n ≡ fewCells E → n ≡ cells E
+  whole-count n e = e ∙ rw (le-leb (cells E) mostCells whole-few)
 
   json-is : jsonAt bs at t E ≡ jsonText E (map (cellBy bs at t) (from 0 (cells E)))
   json-is = ap (jsonText E) (cells-all bs at t (cells E))

@@ -17,7 +17,7 @@ use decimal::int_length;
 use decimal::put_int;
 use decimal::put_text;
 use extent::axis_of;
-use extent::good_extent;
+use extent::cells_of;
 use extent::rank_of;
 use extent::width_of;
 use paper::Axis;
@@ -79,7 +79,7 @@ fn json_length(s: &[u8], from: usize, kind: u8, extent: Extent) -> usize
     requires { ⌜ Whole (now s) from (axesOf extent) ⌝ }
     ensures { λ r. ⌜ (r ≡ length (jsonAt (now (s .entry)) from kind (axesOf extent))) × (r < 2 ^ 32) ⌝ }
 {
-    let n = good_extent(extent);
+    let n = cells_of(extent);
     let marks = marks_of(extent) as usize;
     let cells = cells_length(s, from, kind, n);
     9 + marks + cells
@@ -134,7 +134,8 @@ struct Pen {
 // The cells of the last axis.
 fn put_cells(out: &mut [u8], pen: Pen, s: &[u8], from: usize, kind: u8, width: u64) -> Pen
     requires { ⌜ RowReady (now s) from kind width (pen .at) (pen .cell) (length (now out)) ⌝ }
-    ensures { λ r. ⌜ RowDrawn (now (s .entry)) from kind width (pen .at) (pen .cell) (now (out .entry)) (r .at) (r .cell) (now (out .exit)) ⌝ }
+    ensures { λ r. ⌜ RowDrawn (now (s .entry)) from kind width (pen .at) (pen .cell) (now (out .entry))
+        (r .at) (r .cell) (now (out .exit)) ⌝ }
 {
     let begin = pen.at;
     let mut cell = pen.cell;
@@ -170,7 +171,8 @@ fn put_axes(
     left: usize,
 ) -> Pen
     requires { ⌜ Ready (now s) from kind (axesOf extent) left (pen .at) (pen .cell) (length (now out)) ⌝ }
-    ensures { λ r. ⌜ Drawn (now (s .entry)) from kind (axesOf extent) left (pen .at) (pen .cell) (now (out .entry)) (r .at) (r .cell) (now (out .exit)) ⌝ }
+    ensures { λ r. ⌜ Drawn (now (s .entry)) from kind (axesOf extent) left (pen .at) (pen .cell) (now (out .entry))
+        (r .at) (r .cell) (now (out .exit)) ⌝ }
 {
     let width = width_of(axis_left(extent, left));
     if left == 1 {
@@ -202,7 +204,8 @@ fn put_json(out: &mut [u8], s: &[u8], from: usize, kind: u8, extent: Extent) -> 
 
 // Array k of a bundle as JSON: the text's length, or the refusal; then `out` is as it was.
 pub fn write(s: &[u8], k: u32, out: &mut [u8]) -> JsonAnswer
-    ensures { λ r. ⌜ (jsonSaid r ≡ writeJson (now (s .entry)) k (now (out .entry)) .answer) × (now (out .exit) ≡ writeJson (now (s .entry)) k (now (out .entry)) .out) ⌝ }
+    ensures { λ r. ⌜ (jsonSaid r ≡ writeJson (now (s .entry)) k (now (out .entry)) .answer)
+        × (now (out .exit) ≡ writeJson (now (s .entry)) k (now (out .entry)) .out) ⌝ }
 {
     let array = choose(s, k);
     let refusal = array.refusal;
