@@ -6,6 +6,7 @@ pub mod Fit
 pub mod Number
 pub mod Onward
 pub mod Runs
+pub mod Signs
 pub mod Top
 pub mod Twos
 pub mod Wrap

@@ -1,5 +1,5 @@
--- A sum or a difference s by its bits n, which wrap: read back, they are s where s fits, and where it does not they stand on the wrong
--- side of x, from which s is at most 2 ^ 63 away. So one test tells whether s fits. Assumes nothing.
+-- A sum or a difference s by its bits n, which wrap: read back, they are s where s fits; and whether it fits is told by the signs. Assumes
+-- nothing.
 use mathlib.Core.Path.{_≡_, refl, sym, ap, _∙_}
 use mathlib.Core.Bool.{Bool, true, false, Bool·beq}
 use Prim.Native.Nat.{ℕ, suc, _+_, _-_, _*_, _/_, _%_, _^_, _<_, _≤_}
@@ -9,7 +9,7 @@ use lib.IntN.{ℤ, pos, negsuc, _+ℤ_, _-ℤ_}
 use lib.Signed.{ltZ}
 use mir.Syntax.{w64}
 use mir.Val.{SFits, toZ, ofZ}
-use mir.Facts.{toZ-ofZ}
+use mir.Facts.{toZ-ofZ, fits-ofZ}
 use borrow.Author.Tests.{ltb-true, ltb-false}
 use Rattle.laws.specs.Parts.{up, dn, One, one-part, sub-parts, add-parts, minus-parts, lt-yes, lt-no, fit-parts, parts-fit, parts-eq, toZ-low, toZ-high}
 use Rattle.paper.specs.Operators.{fitInt}
@@ -17,7 +17,9 @@ use Rattle.paper.specs.Refusals.{if_then_else_, noFit12}
 use Rattle.paper.specs.declared.Answer.{Answer}
 use Rattle.paper.specs.declared.Answer.the-variants.{Is, Refused}
 use Rattle.paper.specs.declared.Cell.the-variants.{Int}
+use Rattle.cell.specs.Signs.{signsApart}
 use Rattle.cell.proofs.Fit.{fit-yes, fit-high, fit-low}
+use Rattle.cell.proofs.Signs.{signs-yes, signs-no}
 
 -- the bits n read as a number, in parts
 pub toZ-parts : (n : ℕ) → n < 2 ^ 64 → (up (toZ w64 n) + n / 2 ^ 63 * 2 ^ 64 ≡ n + dn (toZ w64 n)) × One (toZ w64 n)
@@ -75,41 +77,48 @@ module _ (x s z : ℤ) (n : ℕ) (f : SFits w64 x) (c : Near x s n) (e : z ≡ t
       let i : z ≡ s = parts-eq z s (omega (arith, one-part s, parts, c .bits)) in
       ap (λ (y : ℤ). Is (Int (toZ w64 (ofZ w64 y)))) i ∙ ap (λ (y : ℤ). Is (Int y)) (toZ-ofZ g) ∙ sym (fit-yes s g)
 
-  -- s is below x: it fits if z is below x too
-  below : up s + dn x < up x + dn s → (q : Bool) → ltZ z x ≡ q → wrapped q z ≡ fitInt s
-  below l true t = same (omega (arith, one-part s, one-part x, parts, c .bits, c .under, fit-parts f, lt-yes z x t))
-  below l false t = sym (fit-low s (omega (arith, one-part s, one-part x, parts, c .bits, c .under, fit-parts f, lt-no z x t)))
+-- a number's bits, in parts
+ofZ-parts : (x : ℤ) → SFits w64 x → up x + ofZ w64 x / 2 ^ 63 * 2 ^ 64 ≡ ofZ w64 x + dn x
+ofZ-parts x f =
+    let e : toZ w64 (ofZ w64 x) ≡ x = toZ-ofZ f in
+    let l : ofZ w64 x < 2 ^ 64 = omega (arith, fits-ofZ f) in
+    rw e at (toZ-parts (ofZ w64 x) l .0)
 
-  -- s is not below x
-  from : up x + dn s ≤ up s + dn x → (q : Bool) → ltZ z x ≡ q → wrapped (Bool·beq false q) z ≡ fitInt s
-  from l false t = same (omega (arith, one-part s, one-part x, parts, c .bits, c .over, fit-parts f, lt-no z x t))
-  from l true t = sym (fit-high s (omega (arith, one-part s, one-part x, parts, c .bits, c .over, fit-parts f, lt-yes z x t)))
+module _ (x y : ℤ) (f : SFits w64 x) (g : SFits w64 y) where
+  -- the sum that wraps: it fits exactly if it has the sign of x or of y
+  module _ (z : ℤ) (e : z ≡ toZ w64 ((ofZ w64 x + ofZ w64 y) % 2 ^ 64)) where
+    abbrev n : ℕ
+    n = (ofZ w64 x + ofZ w64 y) % 2 ^ 64
 
-  -- s is above x
-  above : up x + dn s < up s + dn x → (q : Bool) → ltZ x z ≡ q → wrapped q z ≡ fitInt s
-  above l true t = same (omega (arith, one-part s, one-part x, parts, c .bits, c .over, fit-parts f, lt-yes x z t))
-  above l false t = sym (fit-high s (omega (arith, one-part s, one-part x, parts, c .bits, c .over, fit-parts f, lt-no x z t)))
+    pub add-fits : signsApart (ofZ w64 x) (ofZ w64 y) n ≡ false → Is (Int (toZ w64 (ofZ w64 z))) ≡ fitInt (x +ℤ y)
+    add-fits h =
+        same x (x +ℤ y) z n f (near-add x y f g) e
+        (signs-no (ofZ w64 x) (ofZ w64 y) n ((up (x +ℤ y) < 2 ^ 63) × (dn (x +ℤ y) ≤ 2 ^ 63)) h
+        (λ s. omega (arith, add-parts x y, one-part x, one-part y, ofZ-parts x f, ofZ-parts y g, fit-parts f, fit-parts g, s))
+        (λ s. omega (arith, add-parts x y, one-part x, one-part y, ofZ-parts x f, ofZ-parts y g, fit-parts f, fit-parts g, s)))
 
-  -- s is not above x
-  to : up s + dn x ≤ up x + dn s → (q : Bool) → ltZ x z ≡ q → wrapped (Bool·beq false q) z ≡ fitInt s
-  to l false t = same (omega (arith, one-part s, one-part x, parts, c .bits, c .under, fit-parts f, lt-no x z t))
-  to l true t = sym (fit-low s (omega (arith, one-part s, one-part x, parts, c .bits, c .under, fit-parts f, lt-yes x z t)))
+  pub add-over : signsApart (ofZ w64 x) (ofZ w64 y) ((ofZ w64 x + ofZ w64 y) % 2 ^ 64) ≡ true → Refused noFit12 ≡ fitInt (x +ℤ y)
+  add-over h =
+      go (ltb (ofZ w64 x) (2 ^ 63)) refl
+      (signs-yes (ofZ w64 x) (ofZ w64 y) ((ofZ w64 x + ofZ w64 y) % 2 ^ 64) (omega (arith, fits-ofZ f)) (omega (arith, fits-ofZ g)) (omega arith) h)
+    where
+      go : (b : Bool) → ltb (ofZ w64 x) (2 ^ 63) ≡ b → (ofZ w64 x / 2 ^ 63 + (ofZ w64 x + ofZ w64 y) % 2 ^ 64 / 2 ^ 63 ≡ 1) × (ofZ w64 y / 2 ^ 63 + (ofZ w64 x + ofZ w64 y) % 2 ^ 64 / 2 ^ 63 ≡ 1) → Refused noFit12 ≡ fitInt (x +ℤ y)
+      go true k s = sym (fit-high (x +ℤ y) (omega (arith, add-parts x y, one-part x, one-part y, ofZ-parts x f, ofZ-parts y g, fit-parts f, fit-parts g, ltb-true (ofZ w64 x) (2 ^ 63) k)))
+      go false k s = sym (fit-low (x +ℤ y) (omega (arith, add-parts x y, one-part x, one-part y, ofZ-parts x f, ofZ-parts y g, fit-parts f, fit-parts g, ltb-false (ofZ w64 x) (2 ^ 63) k)))
 
-module _ (x y z : ℤ) (n : ℕ) (f : SFits w64 x) (e : z ≡ toZ w64 n) where
-  add-by : (p q : Bool) → Near x (x +ℤ y) n → ltZ y (pos 0) ≡ p → ltZ z x ≡ q → wrapped (Bool·beq p q) z ≡ fitInt (x +ℤ y)
-  add-by true true c l t = below x (x +ℤ y) z n f c e (omega (arith, add-parts x y, one-part y, lt-yes y (pos 0) l)) true t
-  add-by true false c l t = below x (x +ℤ y) z n f c e (omega (arith, add-parts x y, one-part y, lt-yes y (pos 0) l)) false t
-  add-by false q c l t = from x (x +ℤ y) z n f c e (omega (arith, add-parts x y, one-part y, lt-no y (pos 0) l)) q t
+  -- the difference n: it fits exactly if x has its sign or y's
+  module _ (n : ℕ) (l : n < 2 ^ 64) (d : (n + ofZ w64 y) % 2 ^ 64 ≡ ofZ w64 x) where
+    pub sub-fits : (z : ℤ) → z ≡ toZ w64 n → signsApart (ofZ w64 y) n (ofZ w64 x) ≡ false → Is (Int (toZ w64 (ofZ w64 z))) ≡ fitInt (x -ℤ y)
+    sub-fits z e h =
+        same x (x -ℤ y) z n f (near-sub x y n f g l d) e
+        (signs-no (ofZ w64 y) n (ofZ w64 x) ((up (x -ℤ y) < 2 ^ 63) × (dn (x -ℤ y) ≤ 2 ^ 63)) h
+        (λ s. omega (arith, minus-parts x y, one-part x, one-part y, ofZ-parts x f, ofZ-parts y g, fit-parts f, fit-parts g, s))
+        (λ s. omega (arith, minus-parts x y, one-part x, one-part y, ofZ-parts x f, ofZ-parts y g, fit-parts f, fit-parts g, s)))
 
-  -- the sum that wraps, z: it fits exactly if z is below x where y is below 0
-  pub add-wraps : Near x (x +ℤ y) n → wrapped (Bool·beq (ltZ y (pos 0)) (ltZ z x)) z ≡ fitInt (x +ℤ y)
-  add-wraps c = add-by (ltZ y (pos 0)) (ltZ z x) c refl refl
-
-  sub-by : (p q : Bool) → Near x (x -ℤ y) n → ltZ y (pos 0) ≡ p → ltZ x z ≡ q → wrapped (Bool·beq p q) z ≡ fitInt (x -ℤ y)
-  sub-by true true c l t = above x (x -ℤ y) z n f c e (omega (arith, minus-parts x y, one-part y, lt-yes y (pos 0) l)) true t
-  sub-by true false c l t = above x (x -ℤ y) z n f c e (omega (arith, minus-parts x y, one-part y, lt-yes y (pos 0) l)) false t
-  sub-by false q c l t = to x (x -ℤ y) z n f c e (omega (arith, minus-parts x y, one-part y, lt-no y (pos 0) l)) q t
-
-  -- and the difference
-  pub sub-wraps : Near x (x -ℤ y) n → wrapped (Bool·beq (ltZ y (pos 0)) (ltZ x z)) z ≡ fitInt (x -ℤ y)
-  sub-wraps c = sub-by (ltZ y (pos 0)) (ltZ x z) c refl refl
+    pub sub-over : signsApart (ofZ w64 y) n (ofZ w64 x) ≡ true → Refused noFit12 ≡ fitInt (x -ℤ y)
+    sub-over h =
+        go (ltb (ofZ w64 x) (2 ^ 63)) refl (signs-yes (ofZ w64 y) n (ofZ w64 x) (omega (arith, fits-ofZ g)) l (omega (arith, fits-ofZ f)) h)
+      where
+        go : (b : Bool) → ltb (ofZ w64 x) (2 ^ 63) ≡ b → (ofZ w64 y / 2 ^ 63 + ofZ w64 x / 2 ^ 63 ≡ 1) × (n / 2 ^ 63 + ofZ w64 x / 2 ^ 63 ≡ 1) → Refused noFit12 ≡ fitInt (x -ℤ y)
+        go true k s = sym (fit-high (x -ℤ y) (omega (arith, minus-parts x y, one-part x, one-part y, ofZ-parts x f, ofZ-parts y g, fit-parts f, fit-parts g, ltb-true (ofZ w64 x) (2 ^ 63) k)))
+        go false k s = sym (fit-low (x -ℤ y) (omega (arith, minus-parts x y, one-part x, one-part y, ofZ-parts x f, ofZ-parts y g, fit-parts f, fit-parts g, ltb-false (ofZ w64 x) (2 ^ 63) k)))

@@ -7,10 +7,13 @@ use paper::Answer;
 use paper::Cell;
 ghost use mathlib.Core.Path.{_≡_};
 ghost use Prim.Native.Nat.{_*_, _^_};
-ghost use lib.Dec.{leb};
+ghost use mathlib.Core.Bool.{_&&_};
+ghost use lib.Dec.{leb, ltb};
 ghost use lib.IntN.{pos, negℤ, natAbs, _+ℤ_, _-ℤ_, _*ℤ_};
 ghost use lib.Signed.{quotZ, remZ};
 ghost use Rattle.paper.specs.Operators.{fitInt, intBy, eqZ};
+ghost use Rattle.laws.specs.Parts.{up, dn};
+ghost use Rattle.cell.specs.Signs.{signsApart};
 
 const SMALLEST: i64 = -9223372036854775808;
 
@@ -36,26 +39,37 @@ pub fn product_over(m: u64, n: u64) -> bool
     }
 }
 
-// The sum that wraps is below a exactly where b is below 0, unless the sum does not fit: one test, and no branch on a sign.
+// Whether neither x nor y has the top bit of z.
+fn signs_apart(x: u64, y: u64, z: u64) -> bool
+    ensures { λ r. ⌜ r ≡ signsApart x y z ⌝ }
+{
+    9223372036854775808 <= (x ^ z) & (y ^ z)
+}
+
+// A sum does not fit exactly where, wrapped, it has the sign of neither number; the compiler makes the machine's own test of it.
 pub fn int_add(a: i64, b: i64) -> Answer
     ensures { λ r. ⌜ r ≡ fitInt (a +ℤ b) ⌝ }
 {
-    let z = signed(std::num::wrapping_add_u64(unsigned(a), unsigned(b)));
-    if (b < 0) == (z < a) {
-        Answer::Is(Cell::Int(z))
-    } else {
+    let x = unsigned(a);
+    let y = unsigned(b);
+    let n = std::num::wrapping_add_u64(x, y);
+    if signs_apart(x, y, n) {
         Answer::Refused(NO_FIT)
+    } else {
+        Answer::Is(Cell::Int(signed(n)))
     }
 }
 
 pub fn int_sub(a: i64, b: i64) -> Answer
     ensures { λ r. ⌜ r ≡ fitInt (a -ℤ b) ⌝ }
 {
-    let z = signed(std::num::wrapping_sub_u64(unsigned(a), unsigned(b)));
-    if (b < 0) == (a < z) {
-        Answer::Is(Cell::Int(z))
-    } else {
+    let x = unsigned(a);
+    let y = unsigned(b);
+    let n = std::num::wrapping_sub_u64(x, y);
+    if signs_apart(y, n, x) {
         Answer::Refused(NO_FIT)
+    } else {
+        Answer::Is(Cell::Int(signed(n)))
     }
 }
 
@@ -79,11 +93,24 @@ pub fn int_abs(a: i64) -> Answer
     }
 }
 
-// By the magnitudes: below 2 ^ 63 the product fits whatever its sign, above it never does, and at
+// A number of 32 bits: the product of two such always fits.
+fn small(a: i64) -> bool
+    ensures { λ r. ⌜ r ≡ (leb (dn a) (2 ^ 31) && ltb (up a) (2 ^ 31)) ⌝ }
+{
+    if a < -2147483648 {
+        return false;
+    }
+    a <= 2147483647
+}
+
+// Two numbers of 32 bits at once. Others by the magnitudes: below 2 ^ 63 the product fits whatever its sign, above it never does, and at
 // 2 ^ 63 it is the smallest number if the signs differ.
 pub fn int_mul(a: i64, b: i64) -> Answer
     ensures { λ r. ⌜ r ≡ fitInt (a *ℤ b) ⌝ }
 {
+    if small(a) && small(b) {
+        return Answer::Is(Cell::Int(a * b));
+    }
     let m = magnitude(a);
     let n = magnitude(b);
     if product_over(m, n) {

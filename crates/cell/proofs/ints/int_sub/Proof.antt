@@ -1,46 +1,52 @@
--- `cell::ints::int_sub` meets its contract: what `signed` gave is the difference that wraps, and the test is that of Wrap.antt. Assumes nothing.
+-- `cell::ints::int_sub` meets its contract: whether the difference that wraps fits is told by the signs (Wrap.antt). Assumes nothing.
 use borrow.Author.Needs.{needs, sfits-of}
-use mathlib.Core.Path.{_≡_, _∙_, sym, ap}
-use mathlib.Core.Bool.{Bool, true, false, Bool·beq}
-use Prim.Native.Nat.{ℕ, _+_, _%_, _^_}
-use lib.IntN.{ℤ, pos, _-ℤ_}
-use lib.Signed.{ltZ}
+use mathlib.Core.Path.{_≡_, _∙_, sym, ap, ap₂}
+use mathlib.Core.Bool.{Bool, true, false}
+use Prim.Native.Nat.{ℕ, _+_, _%_, _^_, _<_}
+use lib.IntN.{ℤ}
 use mir.Syntax.{w64}
 use mir.Val.{SFits, ofZ, toZ}
 use mir.Facts.{toZ-ofZ}
-use Rattle.paper.specs.Operators.{fitInt}
-use Rattle.cell.proofs.Wrap.{near-sub, wrapped, sub-wraps}
+use Rattle.cell.specs.Signs.{signsApart}
+use Rattle.cell.proofs.Wrap.{sub-fits, sub-over}
 use Rattle.cell.proofs.ints.int_sub.Statement.{statement}
 use Rattle.cell.proofs.ints.int_sub.Tie as tie
 
-module _ (s : tie.After-signed) where
+module _ (s : tie.After-signs-apart) where
+  abbrev o : tie.Start
+  o = s .before .before .before .before
+
   abbrev a : ℤ
-  a = s .before .before .before .before .args .a
+  a = o .args .a
 
   abbrev b : ℤ
-  b = s .before .before .before .before .args .b
+  b = o .args .b
 
-  abbrev z : ℤ
-  z = s .signed .result
+  first : s .before .before .before .unsigned .result ≡ ofZ w64 a
+  first = s .before .before .before .unsigned .ensures ∙ ap (ofZ w64) (toZ-ofZ (o .fits .a))
 
-  law : (t : Bool) → Bool·beq (ltZ (toZ w64 (ofZ w64 b)) (pos 0)) (ltZ (toZ w64 (ofZ w64 a)) (toZ w64 (ofZ w64 z))) ≡ t → wrapped t z ≡ fitInt (a -ℤ b)
-  law t h =
-      let fits = s .before .before .before .before .fits in
-      let fa = fits .a in let fb = fits .b in let fz : SFits w64 z = sfits-of (s .signed .ok) in
-      let d : ℕ = s .before .wrapping-sub-u64 .result in
-      let e : (d + ofZ w64 b) % 2 ^ 64 ≡ ofZ w64 a =
-      ap (λ (q : ℕ). (d + q) % 2 ^ 64) (sym (s .before .before .unsigned2 .ensures ∙ ap (ofZ w64) (toZ-ofZ fb)))
-      ∙ s .before .wrapping-sub-u64 .ensures
-      ∙ s .before .before .before .unsigned .ensures ∙ ap (ofZ w64) (toZ-ofZ fa) in
-      rw (simp toZ-ofZ at h) at (sub-wraps a b z d fa (s .signed .ensures) (near-sub a b d fa fb (search needs) e))
+  second : s .before .before .unsigned2 .result ≡ ofZ w64 b
+  second = s .before .before .unsigned2 .ensures ∙ ap (ofZ w64) (toZ-ofZ (o .fits .b))
+
+  abbrev n : ℕ
+  n = s .before .wrapping-sub-u64 .result
+
+  bits : (n + ofZ w64 b) % 2 ^ 64 ≡ ofZ w64 a
+  bits = ap (λ (q : ℕ). (n + q) % 2 ^ 64) (sym second) ∙ s .before .wrapping-sub-u64 .ensures ∙ first
+
+  small : n < 2 ^ 64
+  small = search needs
+
+  told : (t : Bool) → s .signs-apart .result ≡ t → signsApart (ofZ w64 b) n (ofZ w64 a) ≡ t
+  told t h = sym (ap₂ (λ (p q : ℕ). signsApart p n q) second first) ∙ sym (s .signs-apart .ensures) ∙ h
 
 returns : tie.Need-returns
-returns c = law (c .before) true (c .if1 .taken)
+returns c = let s = c .before in sub-over (a s) (b s) (o s .fits .a) (o s .fits .b) (n s) (small s) (bits s) (told s true (c .if1 .taken))
 
 returns-2 : tie.Need-returns-2
-returns-2 c = law (c .before) false (c .if1 .left)
+returns-2 c = let s = c .before .before in sub-fits (a s) (b s) (o s .fits .a) (o s .fits .b) (n s) (small s) (bits s) (c .signed .result) (c .signed .ensures) (told s false (c .before .if1 .left))
 
 pub int-sub-spec : {M : Type 1} → statement M
 int-sub-spec =
     tie.close
-    (tie.spec (λ c κs. search needs) (λ c κs. search needs) (λ c κs. search needs) (λ c κs. search needs) returns returns-2)
+    (tie.spec (λ c κs. search needs) (λ c κs. search needs) (λ c κs. search needs) (λ c κs. search needs) (λ c κs. search needs) returns returns-2)
