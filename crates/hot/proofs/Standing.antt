@@ -1,5 +1,5 @@
 -- The cases of `standing`, and of a number that is no code. Assumes nothing.
-use Prim.Native.Nat.{ℕ}
+use Prim.Native.Nat.{ℕ, _%_}
 use mathlib.Core.Path.{_≡_, refl}
 use mathlib.Core.Bool.{false}
 use mathlib.Core.List.{List, [], _∷_}
@@ -15,22 +15,22 @@ use Rattle.paper.specs.declared.Cell.the-variants.{Empty, Int, Float, Truth}
 use Rattle.operators.proofs.Beyond.{Differs}
 use Rattle.hot.specs.Codes.{standing, among, codes, known, codeCell}
 
-pub standing-empty : (kind mark n : ℕ) → mark ≡ 0 → standing kind mark n ≡ Empty
+pub standing-empty : (kind mark n : ℕ) → mark % 2 ≡ 0 → standing kind mark n ≡ Empty
 unfolding standing
-standing-empty kind mark n e = simp (eq-eqb mark 0 e)
+standing-empty kind mark n e = simp (eq-eqb (mark % 2) 0 e)
 
-module _ (mark n : ℕ) (h : mark ≡ 0 → ⊥) where
+module _ (mark n : ℕ) (h : mark % 2 ≡ 0 → ⊥) where
   pub standing-int : standing INT mark n ≡ Int (toZ w64 n)
   unfolding standing
-  standing-int = simp (ne-eqb mark 0 h)
+  standing-int = simp (ne-eqb (mark % 2) 0 h)
 
   pub standing-float : standing FLOAT mark n ≡ Float (ofBits binary64 n)
   unfolding standing
-  standing-float = simp (ne-eqb mark 0 h)
+  standing-float = simp (ne-eqb (mark % 2) 0 h)
 
   pub standing-truth : standing BOOLEAN mark n ≡ Truth (eqb n 1)
   unfolding standing
-  standing-truth = simp (ne-eqb mark 0 h)
+  standing-truth = simp (ne-eqb (mark % 2) 0 h)
 
 none-among : (k : ℕ) (ks : List ℕ) → Differs k ks → among k ks ≡ false
 none-among k [] d = refl

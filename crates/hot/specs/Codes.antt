@@ -18,10 +18,10 @@ use Rattle.paper.specs.declared.Answer.the-variants.{Is}
 use Rattle.paper.specs.declared.PairOp.{PairOp}
 use Rattle.paper.specs.declared.SingleOp.{SingleOp}
 
--- the cell of a type that a mark and a word stand for
+-- the cell of a type that a mark and a word stand for: empty if the mark is even, so that the loop can join two marks by their lowest bits
 unfoldable pub standing : ℕ → ℕ → ℕ → Cell
 standing kind mark n =
-    if eqb mark 0 then Empty else
+    if eqb (mark % 2) 0 then Empty else
     (if eqb kind INT then Int (toZ w64 n) else (if eqb kind FLOAT then Float (ofBits binary64 n) else Truth (eqb n 1)))
 
 -- the word is no NaN's: so it is of every FLOAT cell, an empty one too

@@ -35,7 +35,7 @@ ghost use Rattle.hot.specs.Codes.{standing, NoNan, kindOf, codeCell, pai
 pub fn int_cell(mark: u8, n: u64) -> Cell
     ensures { λ r. ⌜ r ≡ standing INT mark n ⌝ }
 {
-    if mark == 0 {
+    if mark % 2 == 0 {
         Cell::Empty
     } else {
         Cell::Int(cell::bytes::signed(n))
@@ -46,7 +46,7 @@ pub fn float_cell(mark: u8, n: u64) -> Cell
     requires { ⌜ NoNan n ⌝ }
     ensures { λ r. ⌜ r ≡ standing FLOAT mark n ⌝ }
 {
-    if mark == 0 {
+    if mark % 2 == 0 {
         Cell::Empty
     } else {
         Cell::Float(f64::from_bits(n))
@@ -56,7 +56,7 @@ pub fn float_cell(mark: u8, n: u64) -> Cell
 pub fn truth_cell(mark: u8, n: u64) -> Cell
     ensures { λ r. ⌜ r ≡ standing BOOLEAN mark n ⌝ }
 {
-    if mark == 0 {
+    if mark % 2 == 0 {
         Cell::Empty
     } else {
         Cell::Truth(n == 1)

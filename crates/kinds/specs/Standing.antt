@@ -1,7 +1,7 @@
 -- What a mark and a word stand for where they are a cell's: that cell, whose bytes they are. A FLOAT cell's word, an empty one's too,
 -- is no NaN's; so the loop over cells need not judge again.
-use Prim.Native.Nat.{ℕ, _^_, _<_}
-use mathlib.Core.Path.{_≡_, sym, ap, ap₂, _∙_, subst}
+use Prim.Native.Nat.{ℕ, _%_, _^_, _<_}
+use mathlib.Core.Path.{_≡_, refl, sym, ap, ap₂, _∙_, subst}
 use mathlib.Core.Bool.{Bool, true, not, _&&_}
 use mathlib.Core.List.{List, _∷_}
 use mathlib.Core.Option.{some}
@@ -25,20 +25,23 @@ use Rattle.hot.proofs.Standing.{standing-empty}
 
 -- ---- what they stand for
 
-one : (mark : ℕ) → mark ≡ 1 → mark ≡ 0 → ⊥
-one mark e z = omega arith
+odd : (mark : ℕ) → mark ≡ 1 → mark % 2 ≡ 0 → ⊥
+odd mark e z = omega arith
 
-filled-is : (kind mark n : ℕ) (c : Cell) → (mark ≡ 0 → ⊥) → filled kind n ≡ some c → standing kind mark n ≡ c
+even : (mark : ℕ) → mark ≡ 0 → mark % 2 ≡ 0
+even mark e = omega arith
+
+filled-is : (kind mark n : ℕ) (c : Cell) → (mark % 2 ≡ 0 → ⊥) → filled kind n ≡ some c → standing kind mark n ≡ c
 unfolding filled standing
 filled-is kind mark n c h =
     either (eqb kind INT) _ _ (some c) (standing kind mark n ≡ c)
-    (λ k e. let s : standing kind mark n ≡ Int (toZ w64 n) = simp (ne-eqb mark 0 h, k) in s ∙ inj (Int (toZ w64 n)) c e)
+    (λ k e. let s : standing kind mark n ≡ Int (toZ w64 n) = simp (ne-eqb (mark % 2) 0 h, k) in s ∙ inj (Int (toZ w64 n)) c e)
     (λ a. either (eqb kind FLOAT) _ _ (some c) (standing kind mark n ≡ c)
     (λ k. either (finite (ofBits binary64 n)) _ _ (some c) (standing kind mark n ≡ c)
-    (λ f e. let s : standing kind mark n ≡ Float (ofBits binary64 n) = simp (ne-eqb mark 0 h, a, k) in s ∙ inj (Float (ofBits binary64 n)) c e)
+    (λ f e. let s : standing kind mark n ≡ Float (ofBits binary64 n) = simp (ne-eqb (mark % 2) 0 h, a, k) in s ∙ inj (Float (ofBits binary64 n)) c e)
     (λ f e. absurd (bad c e)))
     (λ b. either (leb n 1) _ _ (some c) (standing kind mark n ≡ c)
-    (λ f e. let s : standing kind mark n ≡ Truth (eqb n 1) = simp (ne-eqb mark 0 h, a, b) in s ∙ inj (Truth (eqb n 1)) c e)
+    (λ f e. let s : standing kind mark n ≡ Truth (eqb n 1) = simp (ne-eqb (mark % 2) 0 h, a, b) in s ∙ inj (Truth (eqb n 1)) c e)
     (λ f e. absurd (bad c e))))
 
 -- a mark and a word that are a cell's stand for it
@@ -46,9 +49,9 @@ pub standing-is : (kind mark n : ℕ) (c : Cell) → cellFrom kind mark n ≡ so
 unfolding cellFrom
 standing-is kind mark n c =
     either (eqb mark 1) _ _ (some c) (standing kind mark n ≡ c)
-    (λ m. filled-is kind mark n c (one mark (eqb-true mark 1 m)))
+    (λ m. filled-is kind mark n c (odd mark (eqb-true mark 1 m)))
     (λ _. either (eqb mark 0 && eqb n 0) _ _ (some c) (standing kind mark n ≡ c)
-    (λ z e. standing-empty kind mark n (eqb-true mark 0 (and-left (eqb mark 0) _ z)) ∙ inj Empty c e)
+    (λ z e. standing-empty kind mark n (even mark (eqb-true mark 0 (and-left (eqb mark 0) _ z))) ∙ inj Empty c e)
     (λ _ e. absurd (bad c e)))
 
 -- nine bytes that are a cell: their mark and word stand for it
@@ -57,7 +60,7 @@ stands kind bs c = standing-is kind (getD bs 0 0) (leOf (drop 1 bs)) c
 
 -- a scalar: its word stands, with mark 1, for the scalar
 pub scalar-stands : (kind n : ℕ) (c : Cell) → filled kind n ≡ some c → standing kind 1 n ≡ c
-scalar-stands kind n c = filled-is kind 1 n c (λ z. omega arith)
+scalar-stands kind n c = filled-is kind 1 n c (odd 1 refl)
 
 -- ---- no NaN
 
