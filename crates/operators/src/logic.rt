@@ -17,22 +17,17 @@ pub fn is_truth(v: bool, c: Cell) -> bool
     }
 }
 
-// v where one is v, its opposite where both are that, else unknown.
+// v where one is v, its opposite where both are that, else unknown. No test waits for another, so a loop over cells has no branch here.
 pub fn decided_by(v: bool, a: Cell, b: Cell) -> Cell
     ensures { λ r. ⌜ r ≡ decidedBy v a b ⌝ }
 {
-    if is_truth(v, a) {
-        return Cell::Truth(v);
+    let one = is_truth(v, a) | is_truth(v, b);
+    let none = is_truth(!v, a) & is_truth(!v, b);
+    if one | none {
+        Cell::Truth(one == v)
+    } else {
+        Cell::Empty
     }
-    if is_truth(v, b) {
-        return Cell::Truth(v);
-    }
-    if is_truth(!v, a) {
-        if is_truth(!v, b) {
-            return Cell::Truth(!v);
-        }
-    }
-    Cell::Empty
 }
 
 pub fn not_cell(c: Cell) -> Cell
