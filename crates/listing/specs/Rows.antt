@@ -2,13 +2,13 @@
 use Prim.Native.Nat.{ℕ, _+_, _*_, _≤_, _<_}
 use mathlib.Core.Path.{_≡_, refl, sym, ap, ap₂, _∙_}
 use mathlib.Core.Bool.{Bool, true, false, _&&_}
-use mathlib.Core.List.{List, _∷_, _++_, map}
+use mathlib.Core.List.{List, [], _∷_, _++_, map, append-assoc}
 use mathlib.Core.Option.{none, some}
 use native.Mathlib.Omega.{arith}
 use borrow.Author.Tests.{ne-eqb, leb-false}
 use lib.Dec.{eqb, leb}
 use lib.ListN.{length, take, drop, getD, length-append}
-use lib.Seq.{paste, paste-zero, length-paste, take-at, drop-at}
+use lib.Seq.{paste, paste-zero, length-paste, take-at, drop-at, take-all}
 use mir.Syntax.{w32}
 use mir.Val.{ofZ}
 use Rattle.paper.specs.declared.Axis.{Axis}
@@ -18,13 +18,11 @@ use Rattle.paper.specs.Refusals.{if_then_else_}
 use Rattle.paper.specs.Numbers.{leOf, leBytes, part, position, positionBytes, concat}
 use Rattle.paper.specs.Axes.{coordinate, result}
 use Rattle.paper.specs.Cells.{filled, cellFrom, cellOf, isTruth, isTrue}
-use Rattle.paper.specs.Listing.{rowBytes, row}
+use Rattle.paper.specs.Listing.{row}
 use Rattle.laws.specs.Judged.{orEmpty}
 use Rattle.coordinates.specs.Fill.{paste-paste}
 use Rattle.cell.proofs.Runs.{run-cons}
-use Rattle.extent.specs.Judged.{Small}
-use Rattle.pages.specs.Rows.{concat-length, concat-at}
-use Rattle.place.specs.Positions.{Counted}
+use Rattle.pages.specs.Rows.{concat-length, concat-at, concat-map}
 
 -- ---- TRUE
 
@@ -113,23 +111,41 @@ module _ (p d₀ : List ℕ) (at : ℕ) (h : at + length p * limitBytes ≤ leng
 
 -- ---- a row
 
--- the ordinality is a cell's, and a row has room at a byte
-pub record RowRoom (E : List Axis) (o at : ℕ) (rows : List ℕ) : Type 0 where
-  pub small : Small E
-  pub counted : Counted E o
-  pub room : at + rowBytes (result BOOLEAN E) ≤ length rows
+-- the bytes of a row with r positions
+abbrev pub rowSize : ℕ → ℕ
+rowSize r = limitBytes + limitBytes * r
 
--- the ordinality put, and the positions after it
-pub row-put : (E : List Axis) (o at : ℕ) (d y z p : List ℕ) → RowRoom E o at d → p ≡ coordinate E o → FourPut d at o y → z ≡ paste y (at + limitBytes) (positionsBytes p) (length E * limitBytes)
-    → z ≡ paste d at (row (result BOOLEAN E) o) (rowBytes (result BOOLEAN E))
-unfolding row leBytes
-row-put E o at d y z p h e q r =
-    let x = leBytes limitBytes o in
-    let s = x ++ positionsBytes p in
-    let a : x ≡ take limitBytes s = sym (take-at x (positionsBytes p) limitBytes refl) in
-    let b : positionsBytes p ≡ drop limitBytes s = sym (drop-at x (positionsBytes p) limitBytes refl) in
-    let w : y ≡ paste d at s limitBytes = q ∙ ap (λ (u : List ℕ). take at d ++ u ++ drop (at + limitBytes) d) a in
-    let g : limitBytes + length E * limitBytes ≡ rowBytes (result BOOLEAN E) = omega arith in
-    r ∙ ap₂ (λ (u v : List ℕ). paste u (at + limitBytes) v (length E * limitBytes)) w b
-    ∙ paste-paste d at s limitBytes (length E * limitBytes) (omega (arith, h .room)) (omega (arith, length-append x (positionsBytes p)))
-    ∙ ap₂ (λ (u : List ℕ) (m : ℕ). paste d at (x ++ positionsBytes u) m) e g
+-- an ordinality and a coordinate's positions
+unfoldable pub rowOf : ℕ → List ℕ → List ℕ
+rowOf o p = leBytes limitBytes o ++ positionsBytes p
+
+-- what the paper writes for a cell
+pub row-at : (E : List Axis) (o : ℕ) (p : List ℕ) → p ≡ coordinate E o → rowOf o p ≡ row (result BOOLEAN E) o
+unfolding row rowOf
+row-at E o p e = ap (λ (u : List ℕ). leBytes limitBytes o ++ positionsBytes u) e
+
+-- bytes put, and more after them
+paste-more : (d s t : List ℕ) (at n m : ℕ) → n ≡ length s → at ≤ length d → paste (paste d at s n) (at + n) t m ≡ paste d at (s ++ t) (n + m)
+paste-more d s t at n m e h =
+    let a : take n s ≡ take n (s ++ t) = take-all n s (omega arith) ∙ sym (take-at s t n (sym e)) in
+    let b : t ≡ drop n (s ++ t) = sym (drop-at s t n (sym e)) in
+    ap₂ (λ (u v : List ℕ). paste (take at d ++ u ++ drop (at + n) d) (at + n) v m) a b
+    ∙ paste-paste d at (s ++ t) n m h (omega (arith, length-append s t))
+
+-- the ordinality put, and positions after it; and one more
+module _ (d : List ℕ) (at o : ℕ) (y : List ℕ) (q : FourPut d at o y) (h : at ≤ length d) (p : List ℕ) (n : ℕ) (l : n ≡ length p) (z : List ℕ) (r : z ≡ paste y (at + limitBytes) (positionsBytes p) (n * limitBytes)) where
+  pub row-put : z ≡ paste d at (rowOf o p) (limitBytes + n * limitBytes)
+  unfolding rowOf leBytes
+  row-put = r ∙ ap (λ (u : List ℕ). paste u (at + limitBytes) (positionsBytes p) (n * limitBytes)) q ∙ paste-more d (leBytes limitBytes o) (positionsBytes p) at limitBytes (n * limitBytes) refl h
+
+  pub row-last : (x w : ℕ) → w ≡ ofZ w32 (position x) → (u : List ℕ) → FourPut z (at + limitBytes + n * limitBytes) w u → u ≡ paste d at (rowOf o (p ++ (x ∷ []))) (limitBytes + n * limitBytes + limitBytes)
+  unfolding rowOf leBytes concat
+  row-last x w e u f =
+      let b : leBytes limitBytes w ≡ positionBytes x = ap (leBytes limitBytes) e in
+      let c : rowOf o p ++ positionBytes x ≡ rowOf o (p ++ (x ∷ [])) = append-assoc (leBytes limitBytes o) (positionsBytes p) (positionBytes x) ∙ ap (λ (v : List ℕ). leBytes limitBytes o ++ v) (concat-map positionBytes p (x ∷ [])) in
+      let i : limitBytes + n * limitBytes ≡ length (rowOf o p) = omega (arith, length-append (leBytes limitBytes o) (positionsBytes p), length-positions p) in
+      let j : at + limitBytes + n * limitBytes ≡ at + (limitBytes + n * limitBytes) = omega arith in
+      f ∙ ap (λ (v : List ℕ). paste z (at + limitBytes + n * limitBytes) v limitBytes) b
+      ∙ ap₂ (λ (v : List ℕ) (k : ℕ). paste v k (positionBytes x) limitBytes) row-put j
+      ∙ paste-more d (rowOf o p) (positionBytes x) at (limitBytes + n * limitBytes) limitBytes i h
+      ∙ ap (λ (v : List ℕ). paste d at v (limitBytes + n * limitBytes + limitBytes)) c

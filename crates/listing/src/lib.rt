@@ -1,18 +1,18 @@
 // The rows of a page. A row is written for each TRUE cell from a start ordinality on, until the row buffer has no room for another; the
 // answer tells how many were written and where to go on.
 ghost use mathlib.Core.Path.{_≡_};
-ghost use Prim.Native.Nat.{_+_, _*_, _≤_};
-ghost use lib.ListN.{length};
+ghost use Prim.Native.Nat.{_+_, _-_, _*_, _≤_};
+ghost use lib.ListN.{length, take};
 ghost use lib.Seq.{paste};
-ghost use Rattle.paper.specs.Limits.{BOOLEAN, limitBytes, cellBytes};
+ghost use Rattle.paper.specs.Limits.{BOOLEAN, mostAxes, limitBytes, cellBytes};
 ghost use Rattle.paper.specs.Numbers.{part};
-ghost use Rattle.paper.specs.Axes.{result};
 ghost use Rattle.paper.specs.Cells.{isTrue, cellOf};
-ghost use Rattle.paper.specs.Listing.{rowBytes, row};
 ghost use Rattle.paper.specs.Answers.{axesOf};
 ghost use Rattle.laws.specs.Judged.{orEmpty};
-ghost use Rattle.place.specs.Positions.{positionsOf};
-ghost use Rattle.listing.specs.Rows.{positionsBytes, RowRoom};
+ghost use Rattle.extent.specs.Judged.{Small};
+ghost use Rattle.extent.specs.Rank.{Rank};
+ghost use Rattle.listing.specs.Rows.{positionsBytes, rowOf, rowSize};
+ghost use Rattle.listing.specs.Lines.{withLast, LineTop, Below, Left};
 ghost use Rattle.listing.specs.Lists.{Listable, ListedAs};
 use cell::bytes::put4;
 use cell::bytes::word;
@@ -39,29 +39,67 @@ fn is_true(s: &[u8], at: usize) -> bool
     word(s, at + 1) == 1
 }
 
-// The positions of a coordinate, four bytes each, from `at` on.
-fn put_positions(d: &mut [u8], at: usize, e: Extent, p: Coordinate)
-    requires { ⌜ at + length (axesOf e) * limitBytes ≤ length (now d) ⌝ }
-    ensures { λ _. ⌜ now (d .exit) ≡ paste (now (d .entry)) at (positionsBytes (positionsOf (axesOf e) p)) (length (axesOf e) * limitBytes) ⌝ }
+// The first n positions of a coordinate, four bytes each, from `at` on.
+fn put_positions(d: &mut [u8], at: usize, n: usize, p: Coordinate)
+    requires { ⌜ (n ≤ mostAxes) × (at + n * limitBytes ≤ length (now d)) ⌝ }
+    ensures { λ _. ⌜ now (d .exit) ≡ paste (now (d .entry)) at (positionsBytes (take n (p .at))) (n * limitBytes) ⌝ }
 {
-    let rank = rank_of(e);
     let mut i = 0;
-    while i < rank {
+    while i < n {
         put4(d, at + i * LIMIT, bits_of(p.at[i]));
         i += 1;
     }
 }
 
-// The row of an ordinality, from `at` on: the ordinality and its coordinate.
-fn write_row(rows: &mut [u8], at: usize, e: Extent, o: Ordinality)
-    requires { ⌜ RowRoom (axesOf e) (o .0) at (now rows) ⌝ }
-    ensures { λ _. ⌜ now (rows .exit) ≡ paste (now (rows .entry)) at (row (result BOOLEAN (axesOf e)) (o .0)) (rowBytes (result BOOLEAN (axesOf e))) ⌝ }
+// The index, from 0, of the last of `rank` axes.
+fn last_axis(rank: usize) -> usize
+    ensures { λ r. ⌜ r ≡ rank - 1 ⌝ }
 {
-    put4(rows, at, o.0);
-    put_positions(rows, at + LIMIT, e, coordinate_of(e, o));
+    if rank == 0 {
+        return 0;
+    }
+    rank - 1
 }
 
-// The rows of the TRUE cells from `start` on, of an array of n cells that begin at `at`.
+// The row of an ordinality, from `at` on: the ordinality, the positions of p on the axes before the last, and x on the last.
+fn write_row(rows: &mut [u8], at: usize, rank: usize, p: Coordinate, x: u32, o: Ordinality)
+    requires { ⌜ (rank ≤ mostAxes) × (at + rowSize rank ≤ length (now rows)) ⌝ }
+    ensures { λ _. ⌜ now (rows .exit) ≡ paste (now (rows .entry)) at (rowOf (o .0) (withLast rank (p .at) x)) (rowSize rank) ⌝ }
+{
+    put4(rows, at, o.0);
+    let axis = last_axis(rank);
+    put_positions(rows, at + LIMIT, axis, p);
+    if rank <= axis {
+        return;
+    }
+    put4(rows, at + LIMIT + axis * LIMIT, bits_of(x));
+}
+
+// One past the upper limit of the last axis, on which a line of cells runs; 1 where there is no axis.
+fn line_top(e: Extent, rank: usize) -> u32
+    requires { ⌜ Small (axesOf e) × Rank e rank ⌝ }
+    ensures { λ r. ⌜ LineTop (axesOf e) rank r ⌝ }
+{
+    if rank == 0 {
+        return 1;
+    }
+    let a = e.axes[rank - 1];
+    a.hi + 1
+}
+
+// How many cells a line has from the coordinate p on.
+fn left_on(p: Coordinate, rank: usize, top: u32) -> usize
+    requires { ⌜ Below (p .at) rank top ⌝ }
+    ensures { λ r. ⌜ Left (p .at) rank top r ⌝ }
+{
+    if rank == 0 {
+        return 1;
+    }
+    (top - p.at[rank - 1]) as usize
+}
+
+// The rows of the TRUE cells from `start` on, of an array of n cells that begin at `at`. The cells of a line follow one another on the
+// last axis, so a coordinate is found anew only where no line is known or it has ended: p is of a cell on the line up to `end`.
 pub fn list(
     work: &[u8],
     at: usize,
@@ -73,13 +111,24 @@ pub fn list(
     requires { ⌜ Listable (axesOf e) at n (start .0) (now work) (now rows) ⌝ }
     ensures { λ r. ⌜ ListedAs (now (work .entry)) at (axesOf e) (start .0) (now (rows .entry)) r (now (rows .exit)) ⌝ }
 {
-    let size = LIMIT + LIMIT * rank_of(e);
+    let rank = rank_of(e);
+    let top = line_top(e, rank);
+    let size = LIMIT + LIMIT * rank;
     let room = rows.len() / size;
+    let mut p = Coordinate {
+        at: [0u32; paper::AXES],
+    };
+    let mut end: usize = 0;
     let mut written: usize = 0;
     let mut k = start.0 as usize - 1;
     while k < n && written < room {
         if is_true(work, at + k * CELL) {
-            write_row(rows, written * size, e, Ordinality(k as u32 + 1));
+            let o = Ordinality(k as u32 + 1);
+            if end <= k {
+                p = coordinate_of(e, o);
+                end = k + left_on(p, rank, top);
+            }
+            write_row(rows, written * size, rank, p, top - (end - k) as u32, o);
             written += 1;
         }
         k += 1;
