@@ -31,10 +31,11 @@ use Rattle.kinds.specs.Standing.{standing-is, no-nan-from}
 use Rattle.kinds.specs.Coding.{pair-code-kind, pair-code-cell, single-code-kind, single-code-cell}
 use Rattle.origin.specs.Origins.{moves}
 use Rattle.origin.specs.Cases.{own-cell}
-use Rattle.values.specs.declared.Source.{Source}
-use Rattle.values.specs.declared.Pairing.{Pairing}
+use Rattle.quick.specs.declared.operands.Source.{Source}
+use Rattle.quick.specs.declared.operands.Pairing.{Pairing}
 use Rattle.values.specs.declared.Job.{Job}
-use Rattle.values.specs.Jobs.{source, scalarSide, pairing, pairingOf, markAt, wordAt, Reaches}
+use Rattle.quick.specs.Operands.{source, scalarSide, pairing, markAt, wordAt, Reaches}
+use Rattle.values.specs.Jobs.{pairingOf}
 use Rattle.values.specs.Worked.{CellHere, cell-here, Ready}
 
 -- both operands are there, no word of a FLOAT is a NaN's, and the code gives the answer

@@ -28,8 +28,9 @@ use Rattle.recipe.specs.Plans.{GoodArrays, GoodResults}
 use Rattle.recipe.specs.Answered.{plannedOf}
 use Rattle.recipe.specs.Whole.{stepsOf, cellsBefore, Laid}
 use Rattle.recipe.specs.Passed.{Passed}
-use Rattle.values.specs.declared.Source.{Source}
-use Rattle.values.specs.Jobs.{scalarSide, SourceOf, bytesIn}
+use Rattle.quick.specs.declared.operands.Source.{Source}
+use Rattle.quick.specs.Operands.{scalarSide, bytesIn}
+use Rattle.values.specs.Jobs.{SourceOf}
 use Rattle.values.specs.Lying.{Lies, Whole, bundle-lies, work-lies}
 
 -- the bundle's arrays

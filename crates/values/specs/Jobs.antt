@@ -10,7 +10,7 @@ use Rattle.paper.specs.declared.Head.{Head}
 use Rattle.paper.specs.declared.Reading.{Reading}
 use Rattle.paper.specs.declared.Operation.{Operation}
 use Rattle.paper.specs.declared.Operation.the-variants.{Trim, Slice, Reshape, Shift, Rename, Update, Put, Glue, Pair, RightScalar, LeftScalar, Single}
-use Rattle.paper.specs.Limits.{stepsFrom, cellBytes, wordBytes}
+use Rattle.paper.specs.Limits.{stepsFrom, scalarAt, wordBytes}
 use Rattle.paper.specs.Refusals.{if_then_else_}
 use Rattle.paper.specs.Numbers.{leOf, part}
 use Rattle.paper.specs.Recipe.{operand}
@@ -21,24 +21,12 @@ use Rattle.recipe.specs.Plans.{arraysOf, resultsOf, operandB, Stands}
 use Rattle.origin.specs.Origins.{moves}
 use Rattle.origin.specs.declared.Origin.{Origin}
 use Rattle.origin.specs.declared.Origin.the-variants.{Nowhere, FromA, FromB}
-use Rattle.values.specs.declared.Source.{Source}
+use Rattle.quick.specs.declared.operands.Source.{Source}
+use Rattle.quick.specs.declared.operands.Pairing.{Pairing}
+use Rattle.quick.specs.Operands.{source, bundleSide, workSide, scalarSide, pairing, markAt, wordAt, Reaches}
 use Rattle.values.specs.declared.Job.{Job}
-use Rattle.values.specs.declared.Pairing.{Pairing}
 
 -- ---- where operands lie
-
-abbrev pub source : ℕ → ℕ → Source
-source w i = record { which = w; at = i }
-
--- in the bundle, in the work area, or a scalar for all
-abbrev pub bundleSide : ℕ
-bundleSide = 0
-
-abbrev pub workSide : ℕ
-workSide = 1
-
-abbrev pub scalarSide : ℕ
-scalarSide = 2
 
 pub record InBundle (R : Reading) (n : ℕ) (r : Source) : Type 0 where
   pub is : (d : Head) → 1 ≤ n → n ≤ R .count → r ≡ source bundleSide (getD (R .heads) (n - 1) d .at)
@@ -63,9 +51,6 @@ pub record JobFor (R : Reading) (P : Plan) (s : ℕ) (j : Job) : Type 0 where
 abbrev pub movedCount : Job → ℕ
 movedCount j = if moves (j .planned .step .operation) then j .planned .cells else 0
 
-abbrev pub pairing : ℕ → ℕ → Source → Source → Pairing
-pairing c w a b = record { code = c; scalar = w; first = a; second = b }
-
 -- 9 to 12: the code of A's type t and the operator, and the operands, of which a scalar is one
 abbrev pub pairingOf : Operation → ℕ → ℕ → Source → Source → Pairing
 pairingOf Trim t w a b = pairing 0 w a b
@@ -81,28 +66,10 @@ pairingOf (RightScalar o) t w a b = pairing (pairCodeOf t o) w a (source scalarS
 pairingOf (LeftScalar o) t w a b = pairing (pairCodeOf t o) w (source scalarSide 0) a
 pairingOf (Single o) t w a b = pairing (singleCodeOf t o) w a a
 
--- ---- a cell as it lies
-
--- the bundle, or the results so far
-abbrev pub bytesIn : ℕ → List ℕ → List ℕ → List ℕ
-bytesIn w bundle done = if eqb w workSide then done else bundle
-
-abbrev pub markAt : List ℕ → List ℕ → Source → ℕ → ℕ
-markAt bundle done f k = if eqb (f .which) scalarSide then 1 else getD (bytesIn (f .which) bundle done) (f .at + k * cellBytes) 0
-
-abbrev pub wordAt : List ℕ → List ℕ → ℕ → Source → ℕ → ℕ
-wordAt bundle done w f k =
-    if eqb (f .which) scalarSide then w else leOf (part (f .at + k * cellBytes + 1) wordBytes (bytesIn (f .which) bundle done))
-
--- cell k is there
-pub record Reaches (bundle done : List ℕ) (f : Source) (k : ℕ) : Type 0 where
-  pub room : eqb (f .which) scalarSide ≡ false → f .at + k * cellBytes + cellBytes ≤ length (bytesIn (f .which) bundle done)
-
--- read where it lies
-pub raw-there : (bundle done side : List ℕ) (f : Source) (w x k : ℕ) → eqb (f .which) scalarSide ≡ false → side ≡ bytesIn (f .which) bundle done
-    → x ≡ leOf (part (f .at + k * cellBytes + 1) wordBytes side) → (getD side (f .at + k * cellBytes) 0 ≡ markAt bundle done f k) × (x ≡ wordAt bundle done w f k)
-raw-there bundle done side f w x k e q h =
-    (rw e (ap (λ (l : List ℕ). getD l (f .at + k * cellBytes) 0) q), rw e (h ∙ ap (λ (l : List ℕ). leOf (part (f .at + k * cellBytes + 1) wordBytes l)) q))
+-- of a job, its detail read from the recipe
+abbrev pub pairingFor : List ℕ → Job → Pairing
+pairingFor bs j =
+    pairingOf (j .planned .step .operation) (j .a .array .kind) (leOf (part (j .planned .step .at + scalarAt) wordBytes bs)) (j .left) (j .right)
 
 -- ---- a moved cell as it lies
 

@@ -8,3 +8,4 @@ pub mod Computing
 pub mod Moving
 pub mod Runs
 pub mod Turns
+pub mod Begun

@@ -31,9 +31,9 @@ use Rattle.recipe.specs.Testing.{bare}
 use Rattle.origin.specs.declared.Origin.{Origin}
 use Rattle.origin.specs.declared.Origin.the-variants.{Nowhere, FromA, FromB}
 use Rattle.origin.specs.Origins.{moves, Moving, originCell, inArray, cellsOfB, Comes}
-use Rattle.values.specs.declared.Source.{Source}
+use Rattle.quick.specs.declared.operands.Source.{Source}
 use Rattle.values.specs.declared.Job.{Job}
-use Rattle.values.specs.Jobs.{markAt, wordAt}
+use Rattle.quick.specs.Operands.{markAt, wordAt}
 use Rattle.values.specs.Worked.{CellHere, Ready}
 use Rattle.values.specs.Computing.{first-is, second-is, first-here, second-here}
 

@@ -35,8 +35,9 @@ use Rattle.origin.specs.declared.Origin.{Origin}
 use Rattle.origin.specs.declared.Origin.the-variants.{Nowhere, FromA, FromB}
 use Rattle.origin.specs.Origins.{moves, Moving, originCell, Comes}
 use Rattle.values.specs.declared.Job.{Job}
-use Rattle.values.specs.declared.Pairing.{Pairing}
-use Rattle.values.specs.Jobs.{JobFor, pairingOf, markAt, wordAt, Fetches, originMark, originWord}
+use Rattle.quick.specs.declared.operands.Pairing.{Pairing}
+use Rattle.quick.specs.Operands.{markAt, wordAt}
+use Rattle.values.specs.Jobs.{JobFor, pairingOf, pairingFor, Fetches, originMark, originWord}
 use Rattle.values.specs.Found.{arraysIn, Setting}
 use Rattle.values.specs.Doing.{stepAt, Doing, Filling, step-room, filled-long, earlier-there, rest-there, cell-stored, cell-refuses, step-ends}
 use Rattle.values.specs.Worked.{Ready, ready}
@@ -148,8 +149,7 @@ module _ (B bs : List ℕ) (R : Reading) (P : Plan) (v : Setting B bs R P) (W : 
 
   -- ---- cells worked out
 
-  module _ (m : moves (j .planned .step .operation) ≡ false) (q : Pairing)
-      (e : q ≡ pairingOf (j .planned .step .operation) (j .a .array .kind) (leOf (part (j .planned .step .at + scalarAt) wordBytes bs)) (j .left) (j .right)) (h : k < n) where
+  module _ (m : moves (j .planned .step .operation) ≡ false) (q : Pairing) (e : q ≡ pairingFor bs j) where
     abbrev w : ℕ
     w = leOf (part (j .planned .step .at + scalarAt) wordBytes bs)
 
@@ -159,34 +159,40 @@ module _ (B bs : List ℕ) (R : Reading) (P : Plan) (v : Setting B bs R P) (W : 
     op-is : p .step .operation ≡ j .planned .step .operation
     op-is = ap (λ (x : Step). x .operation) (y .step)
 
-    pub worked : Computes B (take base work) q k (cellAt (p .step .operation) (p .step) (operandArray As Rs (p .step .a)) (operandArray As Rs (p .step .b)) (atOffset (p .shape .axes) k))
-    worked =
-        rw earlier (computes B bs As Rs p j y w k scalar-is (omega (arith, count-is)) (ap moves op-is ∙ m) q
+    -- any cell of the step
+    pub worked-at : (i : ℕ) → i < n
+        → Computes B (take base work) q i (cellAt (p .step .operation) (p .step) (operandArray As Rs (p .step .a)) (operandArray As Rs (p .step .b)) (atOffset (p .shape .axes) i))
+    worked-at i l =
+        rw earlier (computes B bs As Rs p j y w i scalar-is (omega (arith, count-is)) (ap moves op-is ∙ m) q
         (e ∙ ap (λ (x : Operation). pairingOf x (j .a .array .kind) w (j .left) (j .right)) (sym op-is)))
 
-    -- what the loop's call gives: r, of marks and words that it read
-    module _ (a x b z : ℕ) (ma : a ≡ markAt B (take base work) (q .first) k) (na : x ≡ wordAt B (take base work) (q .scalar) (q .first) k)
-        (mb : b ≡ markAt B (take base work) (q .second) k) (nb : z ≡ wordAt B (take base work) (q .scalar) (q .second) k)
-        (r : Answer) (t : r ≡ codeCell (q .code) (standing (kindOf (q .code)) a x) (standing (kindOf (q .code)) b z)) where
-      told : cellIs r
-      told =
-          sym (t ∙ (λ i. codeCell (q .code) (standing (kindOf (q .code)) (ma i) (na i)) (standing (kindOf (q .code)) (mb i) (nb i))) ∙ worked .is)
+    module _ (h : k < n) where
+      pub worked : Computes B (take base work) q k (cellAt (p .step .operation) (p .step) (operandArray As Rs (p .step .a)) (operandArray As Rs (p .step .b)) (atOffset (p .shape .axes) k))
+      worked = worked-at k h
 
-      pub worked-on : (c : Cell) → r ≡ Is c → (after : List ℕ) → after ≡ take (base + k * cellBytes) work ++ encode c ++ drop (base + k * cellBytes + cellBytes) work → Filling B bs R P W s base (k + 1) after
-      worked-on c u after d = stored h c (told ∙ u) after d
+      -- what the loop's call gives: r, of marks and words that it read
+      module _ (a x b z : ℕ) (ma : a ≡ markAt B (take base work) (q .first) k) (na : x ≡ wordAt B (take base work) (q .scalar) (q .first) k)
+          (mb : b ≡ markAt B (take base work) (q .second) k) (nb : z ≡ wordAt B (take base work) (q .scalar) (q .second) k)
+          (r : Answer) (t : r ≡ codeCell (q .code) (standing (kindOf (q .code)) a x) (standing (kindOf (q .code)) b z)) where
+        told : cellIs r
+        told =
+            sym (t ∙ (λ i. codeCell (q .code) (standing (kindOf (q .code)) (ma i) (na i)) (standing (kindOf (q .code)) (mb i) (nb i))) ∙ worked .is)
 
-      pub stops : (i : ℕ) → r ≡ Refused i → (R' : Refusal) → R' ≡ refusal i (s + 1) (k + 1) → (R' .number ≡ 0 → ⊥) × Stopped B bs R P W R' work
-      stops i u R' d =
-          let x = cell-refuses B bs R P W s base k work f (omega (arith, count-is)) i (told ∙ u) in
-          let z : values As (stepsOf bs P) ≡ refused R' = sym x ∙ ap refused (sym d) in (
-            late (R' .number) (values-late (stepsOf bs P) 1 As [] R' z),
-            record {
-              is = z;
-              long = long (omega arith);
-              rest = rest-there B bs R P W s base k work f (omega (arith, count-is));
-            },
-          )
-        where
-          late : (i : ℕ) → Either i → i ≡ 0 → ⊥
-          late i (inl a) e = omega arith
-          late i (inr b) e = omega arith
+        pub worked-on : (c : Cell) → r ≡ Is c → (after : List ℕ) → after ≡ take (base + k * cellBytes) work ++ encode c ++ drop (base + k * cellBytes + cellBytes) work → Filling B bs R P W s base (k + 1) after
+        worked-on c u after d = stored h c (told ∙ u) after d
+
+        pub stops : (i : ℕ) → r ≡ Refused i → (R' : Refusal) → R' ≡ refusal i (s + 1) (k + 1) → (R' .number ≡ 0 → ⊥) × Stopped B bs R P W R' work
+        stops i u R' d =
+            let x = cell-refuses B bs R P W s base k work f (omega (arith, count-is)) i (told ∙ u) in
+            let z : values As (stepsOf bs P) ≡ refused R' = sym x ∙ ap refused (sym d) in (
+              late (R' .number) (values-late (stepsOf bs P) 1 As [] R' z),
+              record {
+                is = z;
+                long = long (omega arith);
+                rest = rest-there B bs R P W s base k work f (omega (arith, count-is));
+              },
+            )
+          where
+            late : (i : ℕ) → Either i → i ≡ 0 → ⊥
+            late i (inl a) e = omega arith
+            late i (inr b) e = omega arith

@@ -34,9 +34,10 @@ use Rattle.recipe.specs.Plans.{arraysOf, resultsOf, operandB, Stands}
 use Rattle.recipe.specs.Answered.{plannedOf}
 use Rattle.recipe.specs.Whole.{stepsOf}
 use Rattle.recipe.specs.Passed.{Passed}
-use Rattle.values.specs.declared.Source.{Source}
+use Rattle.quick.specs.declared.operands.Source.{Source}
 use Rattle.values.specs.declared.Job.{Job}
-use Rattle.values.specs.Jobs.{scalarSide, SourceOf, JobFor, bytesIn, markAt, wordAt, Reaches}
+use Rattle.quick.specs.Operands.{scalarSide, bytesIn, markAt, wordAt, Reaches}
+use Rattle.values.specs.Jobs.{SourceOf, JobFor}
 use Rattle.values.specs.Lying.{Lies}
 use Rattle.values.specs.Found.{arraysIn, shapesIn, Setting, Found, found, map-take, getD-mapped}
 use Rattle.values.specs.Doing.{stepAt, noStep, Done}

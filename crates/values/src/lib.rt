@@ -1,13 +1,14 @@
 // The values of a recipe's steps, one after the other in the work area, nine bytes a cell. Operations 1 to 8 move cells in a loop of
-// their own; 9 to 12 work them out in the loop over steps and cells that a label leaves at the first cell that refuses.
+// their own; 9 to 12 work them out, first in a quick loop that ends at a cell that refuses, then in the loop over steps and cells, which
+// begins where that ended and which a label leaves at the first cell that refuses.
 ghost use mathlib.Core.Path.{_≡_};
-ghost use Prim.Native.Nat.{_+_, _<_};
-ghost use Rattle.paper.specs.Limits.{detailBytes, scalarAt, wordBytes, mostSteps, mostCells};
+ghost use Prim.Native.Nat.{_+_, _<_, _≤_};
+ghost use Rattle.paper.specs.Limits.{detailBytes, mostSteps, mostCells};
 ghost use Rattle.paper.specs.Refusals.{refusal};
-ghost use Rattle.paper.specs.Numbers.{leOf, part};
 ghost use Rattle.positions.specs.Runs.{Holds};
 ghost use Rattle.recipe.specs.Plans.{GoodArrays, GoodResults};
-ghost use Rattle.values.specs.Jobs.{InBundle, InWork, SourceOf, JobFor, movedCount, pairing as pairedAs, pairingOf, bytesIn, markAt, wordAt, Reaches, originMark, originWord, Fetches};
+ghost use Rattle.quick.specs.Operands.{pairing as pairedAs};
+ghost use Rattle.values.specs.Jobs.{InBundle, InWork, SourceOf, JobFor, movedCount, pairingFor, originMark, originWord, Fetches};
 ghost use Rattle.values.specs.Runs.{Asked, Moved, Running, Valued};
 use cell::bytes::put9;
 use cell::bytes::word;
@@ -23,6 +24,14 @@ use paper::Ordinality;
 use paper::Reading;
 use paper::Refusal;
 use paper::StepNumber;
+use quick::ahead;
+use quick::operands::IN_BUNDLE;
+use quick::operands::IN_WORK;
+use quick::operands::Pairing;
+use quick::operands::Raw;
+use quick::operands::SCALAR;
+use quick::operands::Source;
+use quick::operands::raw_of;
 use recipe::Operand;
 use recipe::Plan;
 use recipe::Planned;
@@ -35,18 +44,6 @@ const CELL: usize = 9;
 
 const SCALAR_AT: usize = 4;
 
-// Where an operand's cells lie: in the bundle or in the work area, from a byte on; or one scalar stands for all.
-pub struct Source {
-    pub which: u8,
-    pub at: usize,
-}
-
-const IN_BUNDLE: u8 = 0;
-
-const IN_WORK: u8 = 1;
-
-const SCALAR: u8 = 2;
-
 // A step as planned, its operands, and where their cells lie.
 pub struct Job {
     pub planned: Planned,
@@ -54,20 +51,6 @@ pub struct Job {
     pub b: Operand,
     pub left: Source,
     pub right: Source,
-}
-
-// Operations 9 to 12 as the loop over cells wants them: one code for type and operator, and two operands.
-pub struct Pairing {
-    pub code: u8,
-    pub scalar: u64,
-    pub first: Source,
-    pub second: Source,
-}
-
-// A cell as it lies: its mark and its word.
-pub struct Raw {
-    pub mark: u8,
-    pub bits: u64,
 }
 
 // ---- where operands lie
@@ -172,7 +155,7 @@ fn paired(code: u8, scalar: u64, first: Source, second: Source) -> Pairing
 // What the loop over cells wants to know of a step.
 fn pairing_of(job: Job, s: &[u8]) -> Pairing
     requires { ⌜ Holds (job .planned .step .at) detailBytes (now s) ⌝ }
-    ensures { λ r. ⌜ r ≡ pairingOf (job .planned .step .operation) (job .a .array .kind) (leOf (part (job .planned .step .at + scalarAt) wordBytes (now (s .entry)))) (job .left) (job .right) ⌝ }
+    ensures { λ r. ⌜ r ≡ pairingFor (now (s .entry)) job ⌝ }
 {
     let step = job.planned.step;
     let op = step.operation;
@@ -197,34 +180,6 @@ fn pairing_of(job: Job, s: &[u8]) -> Pairing
         Operation::Update => return paired(0, w, a, b),
         Operation::Put => return paired(0, w, a, b),
         Operation::Glue => return paired(0, w, a, b),
-    }
-}
-
-// ---- a cell as it lies
-
-// The bundle, or the results so far.
-fn side_of<'a>(bundle: &'a [u8], done: &'a [u8], which: u8) -> &'a [u8]
-    ensures { λ r. ⌜ now r ≡ bytesIn which (now (bundle .entry)) (now (done .entry)) ⌝ }
-{
-    if which == IN_WORK { done } else { bundle }
-}
-
-// Cell k of an operand.
-fn raw_of<'a>(bundle: &'a [u8], done: &'a [u8], from: Source, scalar: u64, k: usize) -> Raw
-    requires { ⌜ Reaches (now bundle) (now done) from k ⌝ }
-    ensures { λ r. ⌜ (r .mark ≡ markAt (now (bundle .entry)) (now (done .entry)) from k) × (r .bits ≡ wordAt (now (bundle .entry)) (now (done .entry)) scalar from k) ⌝ }
-{
-    if from.which == SCALAR {
-        return Raw {
-            mark: 1,
-            bits: scalar,
-        };
-    }
-    let side = side_of(bundle, done, from.which);
-    let at = from.at + k * CELL;
-    Raw {
-        mark: side[at],
-        bits: word(side, at + 1),
     }
 }
 
@@ -289,6 +244,29 @@ fn move_cells(bundle: &[u8], recipe: &[u8], work: &mut [u8], base: usize, job: J
     k
 }
 
+// ---- the first cells of a step
+
+// The cells of a step that are moved, or worked out ahead by the quick loop; and how many they are. No cell of them refuses.
+fn begin_cells(
+    bundle: &[u8],
+    recipe: &[u8],
+    work: &mut [u8],
+    base: usize,
+    job: Job,
+    q: Pairing,
+) -> usize
+    requires { ⌜ Asked (now bundle) (now recipe) (now work) base job ⌝ }
+    requires { ⌜ q ≡ pairingFor (now recipe) job ⌝ }
+    ensures { λ r. ⌜ (movedCount job ≤ r) × (r ≤ job .planned .cells) × Moved (now (bundle .entry)) (now (recipe .entry)) (now (work .entry)) base job r (now (work .exit)) ⌝ }
+{
+    let planned = job.planned;
+    let moved = move_cells(bundle, recipe, work, base, job);
+    if moved != 0 {
+        return moved;
+    }
+    ahead(bundle, work, base, q, planned.cells)
+}
+
 // ---- all steps
 
 // The refusal of cell k, from 0, of step s, from 0.
@@ -315,7 +293,8 @@ fn no_refusal() -> Refusal
     }
 }
 
-// Each step's values in turn: those moved, then those worked out. The first cell in row-major order that refuses leaves both loops.
+// Each step's values in turn: those moved or worked out ahead, then those worked out one by one. The first cell in row-major order that
+// refuses leaves both loops.
 pub fn run_steps(
     bundle: &[u8],
     recipe: &[u8],
@@ -334,7 +313,7 @@ pub fn run_steps(
         let job = job_of(reading, plan, s);
         let n = job.planned.cells;
         let q = pairing_of(job, recipe);
-        let mut k = move_cells(bundle, recipe, work, base, job);
+        let mut k = begin_cells(bundle, recipe, work, base, job, q);
         'cells: while k < n {
             let done = &work[..base];
             let a = raw_of(bundle, done, q.first, q.scalar, k);

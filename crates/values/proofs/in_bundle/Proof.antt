@@ -1,6 +1,6 @@
 -- `values::in_bundle` meets its contract: the head of the array, where there is one.
 use Rattle.paper.specs.declared.Head.{Head}
-use Rattle.values.specs.Jobs.{source, bundleSide}
+use Rattle.quick.specs.Operands.{source, bundleSide}
 use Rattle.recipe.specs.Given.{getD-any}
 use Rattle.paper.specs.Limits.{mostArrays}
 use Rattle.coordinates.specs.Loops.{length-mapped}

@@ -1,6 +1,6 @@
 -- `values::in_work` meets its contract: the step's result, where there is one.
 use Rattle.recipe.specs.declared.Planned.{Planned}
-use Rattle.values.specs.Jobs.{source, workSide}
+use Rattle.quick.specs.Operands.{source, workSide}
 use Rattle.recipe.specs.Given.{getD-any}
 use native.Mathlib.Omega.{arith}
 use mathlib.Core.Path.{ap}

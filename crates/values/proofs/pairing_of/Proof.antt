@@ -5,9 +5,10 @@ use denote.Ref.{now}
 use Rattle.paper.specs.declared.Operation.{Operation}
 use Rattle.paper.specs.Limits.{scalarAt, wordBytes}
 use Rattle.paper.specs.Numbers.{leOf, part}
-use Rattle.values.specs.declared.Source.{Source}
-use Rattle.values.specs.declared.Pairing.{Pairing}
-use Rattle.values.specs.Jobs.{pairing, pairingOf}
+use Rattle.quick.specs.declared.operands.Source.{Source}
+use Rattle.quick.specs.declared.operands.Pairing.{Pairing}
+use Rattle.quick.specs.Operands.{pairing}
+use Rattle.values.specs.Jobs.{pairingOf}
 use borrow.Author.Needs.{needs}
 use Rattle.values.proofs.pairing_of.Statement.{statement}
 use Rattle.values.proofs.pairing_of.Tie as tie

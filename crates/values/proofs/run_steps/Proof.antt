@@ -2,7 +2,7 @@
 use Rattle.paper.specs.Values.{cellAt, operandArray}
 use Rattle.paper.specs.Axes.{atOffset}
 use Rattle.values.specs.Computing.{Computes}
-use Rattle.values.specs.declared.Pairing.{Pairing}
+use Rattle.quick.specs.declared.operands.Pairing.{Pairing}
 use Prim.Native.Nat.{ℕ, _+_, _-_, _*_, _≤_, _<_}
 use mathlib.Core.Path.{_≡_, refl, sym, ap, subst, _∙_}
 use mathlib.Core.Bool.{false}
@@ -19,7 +19,7 @@ use Rattle.hot.specs.Codes.{NoNan}
 use Rattle.recipe.specs.Whole.{stepsOf}
 use Rattle.origin.specs.Origins.{moves}
 use Rattle.values.specs.declared.Job.{Job}
-use Rattle.values.specs.Jobs.{moved-most, moved-none}
+use Rattle.values.specs.Jobs.{moved-none}
 use Rattle.values.specs.Found.{arraysIn, steps-count}
 use Rattle.values.specs.Doing.{stepAt, Doing, Filling, run-begins, step-begins, run-ends, doing-long}
 use Rattle.values.specs.Turns.{detail-there, few-cells, few-steps, long, room-all, room, ended, worked, worked-on, stops}
@@ -75,10 +75,10 @@ module _ (c : tie.At-cells Inv-cells μ-cells Inv-steps μ-steps) where
 
   -- the work area as the moves left it, X being the one that was lent
   abbrev Moved : List ℕ → Type 0
-  Moved X = Filling (now (a b .args .bundle)) (now (a b .args .recipe)) (a b .args .reading) (a b .args .plan) X s base (c .before .before .before .move-cells .result) (c .before .before .before .move-cells .last .1 .1 .0)
+  Moved X = Filling (now (a b .args .bundle)) (now (a b .args .recipe)) (a b .args .reading) (a b .args .plan) X s base (c .before .before .before .begin-cells .result) (c .before .before .before .begin-cells .last .1 .1 .0)
 
   moved : Moved (W b)
-  moved = c .before .before .before .move-cells .ensures .1 (record { reading = a b .args .reading; plan = a b .args .plan; area = W b; step = s; setting = a b .pre .setting; job = c .before .before .before .before .before .before .job-of .ensures; none = begun b })
+  moved = c .before .before .before .begin-cells .ensures .2 (record { reading = a b .args .reading; plan = a b .args .plan; area = W b; step = s; setting = a b .pre .setting; job = c .before .before .before .before .before .before .job-of .ensures; none = begun b })
 
   module _ (X : List ℕ) (f : Moved X) where
     abbrev fill : Filling (now (a b .args .bundle)) (now (a b .args .recipe)) (a b .args .reading) (a b .args .plan) X s base k work
@@ -102,7 +102,7 @@ module _ (c : tie.In-cells Inv-cells μ-cells Inv-steps μ-steps) where
   q = c .before .before .before .before .before .before .pairing-of .result
 
   none : moves (j (c .before) .planned .step .operation) ≡ false
-  none = moved-none (j (c .before)) (k (c .before)) (omega (arith, c .before .cells .inv .0, c .before .before .before .before .move-cells .ensures .0)) (c .cells-test .taken)
+  none = moved-none (j (c .before)) (k (c .before)) (omega (arith, c .before .cells .inv .0, c .before .before .before .before .begin-cells .ensures .0)) (c .cells-test .taken)
 
   here : base (c .before) + k (c .before) * cellBytes + cellBytes ≤ length (work (c .before))
   here = room (now (a (b (c .before)) .args .bundle)) (now (a (b (c .before)) .args .recipe)) (a (b (c .before)) .args .reading) (a (b (c .before)) .args .plan) (a (b (c .before)) .pre .setting) (W (b (c .before))) (s (c .before)) (base (c .before)) (k (c .before)) (work (c .before)) (fill (c .before) (W (b (c .before))) (moved (c .before))) (j (c .before)) (c .before .before .before .before .before .before .before .job-of .ensures) (c .cells-test .taken)
@@ -119,11 +119,11 @@ job-of-requires c κs = (c .before .before .before .before .before .before .pre 
 pairing-of-requires : tie.Need-pairing-of-requires Inv-cells μ-cells Inv-steps μ-steps
 pairing-of-requires c κs = detail-there (now (a (c .before) .args .bundle)) (now (a (c .before) .args .recipe)) (a (c .before) .args .reading) (a (c .before) .args .plan) (a (c .before) .pre .setting) (W (c .before)) (c .before .before .steps .s) (c .before .before .steps .base) 0 (c .before .before .steps .work) (begun (c .before)) (c .job-of .result) (c .job-of .ensures)
 
-move-cells-requires : tie.Need-move-cells-requires Inv-cells μ-cells Inv-steps μ-steps
-move-cells-requires c κs = record { reading = a (c .before .before .before) .args .reading; plan = a (c .before .before .before) .args .plan; area = W (c .before .before .before); step = c .before .before .before .before .steps .s; setting = a (c .before .before .before) .pre .setting; job = c .before .before .job-of .ensures; none = begun (c .before .before .before) }
+begin-cells-requires : tie.Need-begin-cells-requires Inv-cells μ-cells Inv-steps μ-steps
+begin-cells-requires c κs = (record { reading = a (c .before .before .before) .args .reading; plan = a (c .before .before .before) .args .plan; area = W (c .before .before .before); step = c .before .before .before .before .steps .s; setting = a (c .before .before .before) .pre .setting; job = c .before .before .job-of .ensures; none = begun (c .before .before .before) }, c .before .pairing-of .ensures)
 
 cells-holds : tie.Need-cells-holds Inv-cells μ-cells Inv-steps μ-steps
-cells-holds c = (omega arith, omega (arith, c .before .before .move-cells .ensures .0, moved-most (c .before .before .before .before .before .job-of .result)), (λ X f. f), refl)
+cells-holds c = (omega arith, c .before .before .begin-cells .ensures .1, (λ X f. f), refl)
 
 slice-reshare-prefix-done : tie.Need-slice-reshare-prefix-done Inv-cells μ-cells Inv-steps μ-steps
 slice-reshare-prefix-done c = omega (arith, here c)
@@ -205,7 +205,7 @@ run-steps-spec =
     steps-holds
     job-of-requires
     pairing-of-requires
-    move-cells-requires
+    begin-cells-requires
     cells-holds
     slice-reshare-prefix-done
     slice-aggregate-done

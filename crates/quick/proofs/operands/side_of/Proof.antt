@@ -1,11 +1,11 @@
--- `values::side_of` meets its contract: by the side asked for.
-use Rattle.values.specs.Jobs.{workSide}
+-- `quick::operands::side_of` meets its contract: by the side asked for. Assumes nothing.
 use borrow.Author.Tests.{eq-eqb, ne-eqb}
 use lib.Dec.{eqb}
 use mathlib.Core.Path.{_≡_}
 use mathlib.Core.Bool.{true, false}
-use Rattle.values.proofs.side_of.Statement.{statement}
-use Rattle.values.proofs.side_of.Tie as tie
+use Rattle.quick.specs.Operands.{workSide}
+use Rattle.quick.proofs.operands.side_of.Statement.{statement}
+use Rattle.quick.proofs.operands.side_of.Tie as tie
 
 returns : tie.Need-returns
 returns c = let e : eqb (c .before .args .which) workSide ≡ true = eq-eqb (c .before .args .which) workSide (c .if1 .taken) in rw e
