@@ -95,6 +95,8 @@ impl Contest {
 
     /// All five give one answer and the same rows, and the engine's work area has (a)'s results. The page fills, or has room for all.
     pub fn compare(&mut self, input: &Input) {
+        self.rows.fill(7);
+        self.work.fill(7);
         let answer = self.call(A, &input.bundle, &input.recipe);
         let (count, room, fills) = ((answer >> 32) as usize, self.rows.len() / 12, self.rows.len() / 12 < CELLS);
         assert!(count > 2000 || fills && count == room, "{}: no full page, {count} rows ({answer:x})", input.label);
