@@ -28,7 +28,7 @@ module _ (mark n : ℕ) (h : mark % 2 ≡ 0 → ⊥) where
   unfolding standing
   standing-float = simp (ne-eqb (mark % 2) 0 h)
 
-  pub standing-truth : standing BOOLEAN mark n ≡ Truth (eqb n 1)
+  pub standing-truth : standing BOOLEAN mark n ≡ Truth (eqb (n % 2) 1)
   unfolding standing
   standing-truth = simp (ne-eqb (mark % 2) 0 h)
 

@@ -18,11 +18,11 @@ use Rattle.paper.specs.declared.Answer.the-variants.{Is}
 use Rattle.paper.specs.declared.PairOp.{PairOp}
 use Rattle.paper.specs.declared.SingleOp.{SingleOp}
 
--- the cell of a type that a mark and a word stand for: empty if the mark is even, so that the loop can join two marks by their lowest bits
+-- the cell of a type that a mark and a word stand for. Of a mark, and of a truth value, the lowest bit counts: the loop joins them bit by bit
 unfoldable pub standing : ℕ → ℕ → ℕ → Cell
 standing kind mark n =
     if eqb (mark % 2) 0 then Empty else
-    (if eqb kind INT then Int (toZ w64 n) else (if eqb kind FLOAT then Float (ofBits binary64 n) else Truth (eqb n 1)))
+    (if eqb kind INT then Int (toZ w64 n) else (if eqb kind FLOAT then Float (ofBits binary64 n) else Truth (eqb (n % 2) 1)))
 
 -- the word is no NaN's: so it is of every FLOAT cell, an empty one too
 abbrev pub NoNan : ℕ → Type 0

@@ -59,7 +59,7 @@ pub fn truth_cell(mark: u8, n: u64) -> Cell
     if mark % 2 == 0 {
         Cell::Empty
     } else {
-        Cell::Truth(n == 1)
+        Cell::Truth(n % 2 == 1)
     }
 }
 

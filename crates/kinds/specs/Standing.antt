@@ -12,7 +12,7 @@ use lib.Ieee.{binary64, ofBits, nanBits}
 use lib.Ieee.Bits.{nanBits-is}
 use mir.Syntax.{w64}
 use mir.Val.{toZ}
-use borrow.Author.Tests.{eqb-true, ne-eqb}
+use borrow.Author.Tests.{eqb-true, leb-true, ne-eqb}
 use Rattle.paper.specs.Limits.{INT, FLOAT, wordBytes}
 use Rattle.paper.specs.Numbers.{leOf, leBytes}
 use Rattle.paper.specs.Cells.{finite, filled, cellFrom, cellOf, encode}
@@ -31,6 +31,10 @@ odd mark e z = omega arith
 even : (mark : ℕ) → mark ≡ 0 → mark % 2 ≡ 0
 even mark e = omega arith
 
+-- a truth value's word is 0 or 1
+low-bit : (n : ℕ) → leb n 1 ≡ true → eqb (n % 2) 1 ≡ eqb n 1
+low-bit n e = let l = leb-true n 1 e in let m : n % 2 ≡ n = omega arith in ap (λ (x : ℕ). eqb x 1) m
+
 filled-is : (kind mark n : ℕ) (c : Cell) → (mark % 2 ≡ 0 → ⊥) → filled kind n ≡ some c → standing kind mark n ≡ c
 unfolding filled standing
 filled-is kind mark n c h =
@@ -41,7 +45,7 @@ filled-is kind mark n c h =
     (λ f e. let s : standing kind mark n ≡ Float (ofBits binary64 n) = simp (ne-eqb (mark % 2) 0 h, a, k) in s ∙ inj (Float (ofBits binary64 n)) c e)
     (λ f e. absurd (bad c e)))
     (λ b. either (leb n 1) _ _ (some c) (standing kind mark n ≡ c)
-    (λ f e. let s : standing kind mark n ≡ Truth (eqb n 1) = simp (ne-eqb (mark % 2) 0 h, a, b) in s ∙ inj (Truth (eqb n 1)) c e)
+    (λ f e. let s : standing kind mark n ≡ Truth (eqb (n % 2) 1) = simp (ne-eqb (mark % 2) 0 h, a, b) in s ∙ ap Truth (low-bit n f) ∙ inj (Truth (eqb n 1)) c e)
     (λ f e. absurd (bad c e))))
 
 -- a mark and a word that are a cell's stand for it

@@ -1,5 +1,5 @@
 // An array and a scalar (operation 10): the quick loop entered once for each code, by type.
-ghost use mathlib.Core.Bool.{Bool, true, false};
+ghost use mathlib.Core.Bool.{true, false};
 ghost use Rattle.quick.specs.Operands.{Sides};
 ghost use Rattle.quick.specs.Cells.{Workable, Ahead};
 use crate::FLOAT_CODES;

@@ -1,5 +1,5 @@
 // One array (operation 12): the quick loop entered once for each code.
-ghost use mathlib.Core.Bool.{Bool, true, false};
+ghost use mathlib.Core.Bool.{false};
 ghost use Rattle.quick.specs.Operands.{Sides};
 ghost use Rattle.quick.specs.Cells.{Workable, Ahead};
 use crate::cells::quick_cells;

@@ -8,13 +8,13 @@ returns : tie.Need-returns
 returns c =
     let t = c .before in
     let a = t .before .before .before .before .args in
-    decided (a .v) (a .a) (a .b) _ _ _ _ (t .before .before .before .is-truth .ensures) (t .before .before .is-truth2 .ensures) (t .before .is-truth3 .ensures) (t .is-truth4 .ensures) (c .if1 .taken)
+    decided (a .v) (a .a) (a .b) _ _ _ _ (t .before .before .before .is-truth .ensures) (t .before .before .is-truth2 .ensures) (t .before .is-known .ensures) (t .is-known2 .ensures) (c .if1 .taken)
 
 returns-2 : tie.Need-returns-2
 returns-2 c =
     let t = c .before in
     let a = t .before .before .before .before .args in
-    undecided (a .v) (a .a) (a .b) _ _ _ _ (t .before .before .before .is-truth .ensures) (t .before .before .is-truth2 .ensures) (t .before .is-truth3 .ensures) (t .is-truth4 .ensures) (c .if1 .left)
+    undecided (a .v) (a .a) (a .b) _ _ _ _ (t .before .before .before .is-truth .ensures) (t .before .before .is-truth2 .ensures) (t .before .is-known .ensures) (t .is-known2 .ensures) (c .if1 .left)
 
 pub decided-by-spec : {M : Type 1} → statement M
 decided-by-spec = tie.close (tie.spec (λ c κs. search needs) (λ c κs. search needs) (λ c κs. search needs) (λ c κs. search needs) returns returns-2)
