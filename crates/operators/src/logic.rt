@@ -22,12 +22,7 @@ pub fn is_truth(v: bool, c: Cell) -> bool
 fn is_known(c: Cell) -> bool
     ensures { λ r. ⌜ r ≡ (isTruth true c || isTruth false c) ⌝ }
 {
-    match c {
-        Cell::Empty => false,
-        Cell::Int(_) => false,
-        Cell::Float(_) => false,
-        Cell::Truth(_) => true,
-    }
+    is_truth(true, c) | is_truth(false, c)
 }
 
 // v where one is v, its opposite where both are that, else unknown: where both are known and none is v, both are its opposite. No test waits for
