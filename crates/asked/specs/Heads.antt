@@ -8,10 +8,9 @@ use borrow.Author.Tests.{eq-eqb, ne-eqb, le-leb, lt-leb, leb-true}
 use lib.Dec.{eqb, leb}
 use lib.ListN.{take, drop, length, getD, length-map, length-take}
 use lib.Seq.{drop-drop, getD-drop}
-use Rattle.paper.specs.declared.Axis.{Axis}
 use Rattle.paper.specs.declared.Extent.{Extent}
 use Rattle.paper.specs.declared.Form.{Form}
-use Rattle.paper.specs.Limits.{mostArrays, mostAxes, axisBytes, typeBytes}
+use Rattle.paper.specs.Limits.{mostArrays, mostAxes, typeBytes}
 use Rattle.paper.specs.Refusals.{if_then_else_}
 use Rattle.paper.specs.Axes.{Shape, shaped}
 use Rattle.paper.specs.Bundle.{axisOf, maximumOf, eachAxis}

@@ -3,7 +3,7 @@ ghost use mathlib.Core.Path.{_≡_};
 ghost use Prim.Native.Nat.{_+_, _*_, _≤_, _<_};
 ghost use lib.ListN.{length, drop};
 ghost use Rattle.paper.specs.Limits.{limitBytes};
-ghost use Rattle.paper.specs.Refusals.{refused, refusal};
+ghost use Rattle.paper.specs.Refusals.{refusal};
 ghost use Rattle.paper.specs.Numbers.{signedAt};
 ghost use Rattle.paper.specs.Reference.{reference};
 ghost use Rattle.paper.specs.Answers.{referenceSaid, totalSaid};

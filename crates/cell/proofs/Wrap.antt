@@ -1,17 +1,16 @@
 -- A sum or a difference s by its bits n, which wrap: read back, they are s where s fits; and whether it fits is told by the signs. Assumes
 -- nothing.
 use mathlib.Core.Path.{_≡_, refl, sym, ap, _∙_}
-use mathlib.Core.Bool.{Bool, true, false, Bool·beq}
+use mathlib.Core.Bool.{Bool, true, false}
 use Prim.Native.Nat.{ℕ, suc, _+_, _-_, _*_, _/_, _%_, _^_, _<_, _≤_}
 use native.Mathlib.Omega.{arith}
 use lib.Dec.{ltb}
 use lib.IntN.{ℤ, pos, negsuc, _+ℤ_, _-ℤ_}
-use lib.Signed.{ltZ}
 use mir.Syntax.{w64}
 use mir.Val.{SFits, toZ, ofZ}
 use mir.Facts.{toZ-ofZ, fits-ofZ}
 use borrow.Author.Tests.{ltb-true, ltb-false}
-use Rattle.laws.specs.Parts.{up, dn, One, one-part, sub-parts, add-parts, minus-parts, lt-yes, lt-no, fit-parts, parts-fit, parts-eq, toZ-low, toZ-high}
+use Rattle.laws.specs.Parts.{up, dn, One, one-part, sub-parts, add-parts, minus-parts, fit-parts, parts-fit, parts-eq, toZ-low, toZ-high}
 use Rattle.paper.specs.Operators.{fitInt}
 use Rattle.paper.specs.Refusals.{if_then_else_, noFit12}
 use Rattle.paper.specs.declared.Answer.{Answer}

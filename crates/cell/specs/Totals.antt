@@ -1,6 +1,6 @@
 -- What the running totals stand for: an exact total its cells' sum, a mean what is left to do with the cells to come.
 use mathlib.Core.Path.{_≡_}
-use mathlib.Core.List.{List, [], _∷_}
+use mathlib.Core.List.{List}
 use Prim.Native.Nat.{ℕ, _+_, _*_, _^_, _≤_}
 use lib.Dec.{eqb}
 use lib.ListN.{length}

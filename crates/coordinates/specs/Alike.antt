@@ -2,19 +2,17 @@
 use Prim.Native.Nat.{ℕ, suc, _+_, _/_, _%_}
 use mathlib.Core.Path.{_≡_, refl, sym, ap, ap₂, _∙_}
 use mathlib.Core.Bool.{Bool, true}
-use mathlib.Core.List.{List, [], _∷_, _++_, map}
+use mathlib.Core.List.{List, [], _∷_, _++_}
 use native.Mathlib.Omega.{arith}
-use borrow.Author.Tests.{eqb-true, eq-eqb}
+use borrow.Author.Tests.{eqb-true}
 use lib.Dec.{eqb}
 use lib.ListN.{length, drop}
-use Rattle.paper.specs.Numbers.{from}
 use Rattle.paper.specs.declared.Axis.{Axis}
 use Rattle.paper.specs.Limits.{nameBytes}
-use Rattle.paper.specs.Axes.{cells, inside, offset, atOffset, build}
+use Rattle.paper.specs.Axes.{cells, inside, offset, atOffset}
 use Rattle.paper.specs.Recipe.{alike, sameLimits, renamed, eachAnew}
-use Rattle.laws.specs.Tests.{and-left, and-right, and-both}
+use Rattle.laws.specs.Tests.{and-left, and-right}
 use Rattle.coordinates.specs.Places.{Inside, inside-true, true-inside}
-use Rattle.coordinates.specs.Limits.{Sound}
 
 abbrev pub SameLimits : List Axis → List Axis → Type 0
 SameLimits [] [] = Unit {0}
@@ -38,17 +36,6 @@ alike-length f [] [] e = refl
 alike-length f [] (b ∷ F) e = let z : _≡_ {A = ℕ} 0 1 = cc in absurd (omega arith)
 alike-length f (a ∷ E) [] e = let z : _≡_ {A = ℕ} 0 1 = cc in absurd (omega arith)
 alike-length f (a ∷ E) (b ∷ F) e = ap suc (alike-length f E F (and-right (f a b) (alike f E F) e))
-
-pub true-alike : (E F : List Axis) → SameLimits E F → alike sameLimits E F ≡ true
-unfolding alike
-true-alike [] [] s = refl
-true-alike [] (b ∷ F) s = absurd s
-true-alike (a ∷ E) [] s = absurd s
-true-alike (a ∷ E) (b ∷ F) s = and-both (and-both (eq-eqb _ _ (s .0)) (eq-eqb _ _ (s .1))) (true-alike E F (s .2))
-
-pub alike-self : (E : List Axis) → SameLimits E E
-alike-self [] = tt
-alike-self (a ∷ E) = (refl, refl, alike-self E)
 
 pub alike-back : (E F : List Axis) → SameLimits E F → SameLimits F E
 alike-back [] [] s = tt
@@ -75,12 +62,6 @@ alike-renamed [] d = tt
 alike-renamed (a ∷ E) d = (refl, refl, alike-renamed E (drop nameBytes d))
 
 -- ---- the same places
-
-pub length-alike : (E F : List Axis) → SameLimits E F → length E ≡ length F
-length-alike [] [] s = refl
-length-alike [] (b ∷ F) s = absurd s
-length-alike (a ∷ E) [] s = absurd s
-length-alike (a ∷ E) (b ∷ F) s = ap suc (length-alike E F (s .2))
 
 pub cells-alike : (E F : List Axis) → SameLimits E F → cells E ≡ cells F
 unfolding cells
@@ -115,17 +96,3 @@ atOffset-alike [] (b ∷ F) k s = absurd s
 atOffset-alike (a ∷ E) [] k s = absurd s
 atOffset-alike (a ∷ E) (b ∷ F) k s =
     ap₂ (λ (x n : ℕ). (x + k / n) ∷ atOffset E (k % n)) (s .0) (cells-alike E F (s .2)) ∙ ap (λ (q : List ℕ). (b .lo + k / cells F) ∷ q) (atOffset-alike E F (k % cells F) (s .2))
-
-pub build-alike : {C : Type 0} (E F : List Axis) (f : List ℕ → C) → SameLimits E F → build E f ≡ build F f
-unfolding build
-build-alike {C} E F f s = ap (λ (n : ℕ). map (λ k. f (atOffset E k)) (from 0 n)) (cells-alike E F s) ∙ each (from 0 (cells F))
-  where
-    each : (l : List ℕ) → map (λ k. f (atOffset E k)) l ≡ map (λ k. f (atOffset F k)) l
-    each [] = refl
-    each (k ∷ l) = ap₂ (λ (c : C) (r : List C). c ∷ r) (ap f (atOffset-alike E F k s)) (each l)
-
-pub sound-alike : (E F : List Axis) → SameLimits E F → Sound E → Sound F
-sound-alike [] [] s h = tt
-sound-alike [] (b ∷ F) s h = absurd s
-sound-alike (a ∷ E) [] s h = absurd s
-sound-alike (a ∷ E) (b ∷ F) s h = (omega arith, omega arith, sound-alike E F (s .2) (h .2))

@@ -6,8 +6,8 @@ use mathlib.Core.List.{List, [], _∷_, _++_, append-assoc}
 use native.Mathlib.Nat.{not-suc-le-zero, le-of-suc-le-suc, zero-mul, suc-mul, add-assoc, add-comm, mul-le-mul-right, le-of-lt}
 use native.Mathlib.Omega.{arith}
 use native.Mathlib.Numerals.{add-one}
-use lib.ListN.{length, getD, take, drop, set, length-append, length-take, length-drop}
-use lib.Seq.{length-take-le, take-at, drop-at, take-add, drop-drop, paste, take-paste, drop-paste, take-take, take-all, paste-suc, length-paste, getD-drop}
+use lib.ListN.{length, getD, take, drop, set, length-append, length-drop}
+use lib.Seq.{take-at, drop-at, take-add, drop-drop, paste, take-paste, drop-paste, take-take, paste-suc, getD-drop}
 use Rattle.paper.specs.declared.Axis.{Axis}
 use Rattle.paper.specs.Numbers.{concat}
 use Rattle.paper.specs.Axes.{cells, atOffset, build}
@@ -53,19 +53,6 @@ paste-paste d at s n m hd hs =
     (sym (drop-drop m (at + n) (paste d at s n)) ∙ ap (drop m) (drop-paste d at s n hd hs) ∙ drop-drop m (at + n) d)
     ∙ ap₂ (λ a b. a ++ b) (append-assoc (take at d) (take n s) (take m (drop n s)) ∙ ap (λ r. take at d ++ r) (sym (take-add n m s))) (ap (λ k. drop k d) (add-assoc at n m))
 
--- what lies before a copy, and what lies after it, stays
-pub take-before : {A : Type 0} (d : List A) (at : ℕ) (s : List A) (n : ℕ) → at ≤ length d → take at (paste d at s n) ≡ take at d
-take-before d at s n h = ap (take at) (append-assoc (take at d) (take n s) (drop (at + n) d)) ∙ take-at (take at d) (take n s ++ drop (at + n) d) at (length-take-le at d h)
-
-pub drop-after : {A : Type 0} (d : List A) (at : ℕ) (s : List A) (n t : ℕ) → at ≤ length d → n ≤ length s → at + n ≤ t → drop t (paste d at s n) ≡ drop t d
-drop-after d at s n t hd hs h =
-    let e : t ≡ at + n + (t - (at + n)) = omega arith in
-    rw e (sym (drop-drop (t - (at + n)) (at + n) (paste d at s n)) ∙ ap (drop (t - (at + n))) (drop-paste d at s n hd hs) ∙ drop-drop (t - (at + n)) (at + n) d)
-
--- what is pasted is cut to length anyway
-pub paste-take : {A : Type 0} (d : List A) (at : ℕ) (s : List A) (n : ℕ) → paste d at s n ≡ paste d at (take n s) n
-paste-take d at s n = ap (λ r. take at d ++ r ++ drop (at + n) d) (sym (take-take n n s (omega arith)))
-
 -- ---- a loop that writes an array cell by cell: after k cells, `paste d at (bytesOf E f) (k * w)`
 
 module _ (w : ℕ) (E : List Axis) (f : List ℕ → List ℕ) (h : (p : List ℕ) → Inside E p → length (f p) ≡ w) where
@@ -91,19 +78,7 @@ module _ (w : ℕ) (E : List Axis) (f : List ℕ → List ℕ) (h : (p : List �
       ∙ paste-paste d at (bytesOf E f) (k * w) w hd l
       ∙ ap (paste d at (bytesOf E f)) g
 
-  -- the whole
-  pub fill-all : (d : List ℕ) (at : ℕ) → paste d at (bytesOf E f) (cells E * w) ≡ take at d ++ bytesOf E f ++ drop (at + cells E * w) d
-  fill-all d at = ap (λ r. take at d ++ r ++ drop (at + cells E * w) d) (take-all (cells E * w) (bytesOf E f) (omega (arith, length-bytes)))
-
-  -- the buffer keeps its length
-  pub length-fill : (d : List ℕ) (at k : ℕ) → at + cells E * w ≤ length d → k ≤ cells E → length (paste d at (bytesOf E f) (k * w)) ≡ length d
-  length-fill d at k hd c = let m = mul-le-mul-right w c in length-paste d at (bytesOf E f) (k * w) (omega arith) (omega (arith, length-bytes))
-
 -- ---- a turn of a loop that copies byte by byte, as the code has it
 pub paste-more : (d : List ℕ) (at : ℕ) (s : List ℕ) (i k : ℕ) → at + k < length d → i + k < length s
     → set (paste d at (drop i s) k) (at + k) (getD s (i + k) 0) ≡ paste d at (drop i s) (k + 1)
 paste-more d at s i k hd hs = rw (← getD-drop i s k 0, add-one) (paste-suc d at (drop i s) k 0 hd (simp length-drop (omega arith)))
-
--- a cell of a buffer that has n of them is w bytes
-pub length-piece : (w : ℕ) (bs : List ℕ) (k n : ℕ) → k < n → n * w ≤ length bs → length (pieceAt w bs k) ≡ w
-length-piece w bs k n h l = simp (length-take, length-drop) (omega (arith, suc-mul k w, mul-le-mul-right w h))

@@ -232,26 +232,6 @@ module _ (k : ℕ) (E F : List Axis) (g : Gluable k E F) where
         let r = position in
         inside-putIn k F (g .one) (g .second) (getD p (k - 1) 0 - (a .hi + 1) + b .lo) (without k p) (alike-inside (without k E) (without k F) (without k p) (g .same) rest) (omega arith) (omega arith)
 
-  -- and each coordinate of the two is one of it
-  into-glued : (x : ℕ) (q : List ℕ) → Inside (without k E) q → a .lo ≤ x → x ≤ a .hi + width b → Inside (glued k E F) (putIn k x q)
-  into-glued x q h l u =
-      inside-putIn k (glued k E F) (g .one) in-glued x q (subst (λ (G : List Axis). Inside G q) (sym without-glued) h)
-      (subst (λ (c : Axis). c .lo ≤ x) (sym axisAt-glued) l) (subst (λ (c : Axis). x ≤ c .hi) (sym axisAt-glued) u)
-
-  pub first-glued : (p : List ℕ) → Inside E p → Inside (glued k E F) p
-  first-glued p h =
-      let r = inside-axis k E (g .one) (g .first) p h in
-      subst (λ (q : List ℕ). Inside (glued k E F) q) (inside-again k E (g .one) (g .first) p h)
-      (into-glued (getD p (k - 1) 0) (without k p) (inside-without k E (g .one) (g .first) p h) (r .0) (omega arith))
-
-  pub second-glued : (p : List ℕ) → Inside F p → Inside (glued k E F) (putIn k (a .hi + 1 + (getD p (k - 1) 0 - b .lo)) (without k p))
-  second-glued p h =
-      let r = inside-axis k F (g .one) (g .second) p h in
-      let f = full in
-      into-glued (a .hi + 1 + (getD p (k - 1) 0 - b .lo)) (without k p)
-      (alike-inside (without k F) (without k E) (without k p) (alike-back (without k E) (without k F) (g .same)) (inside-without k F (g .one) (g .second) p h))
-      (omega arith) (omega arith)
-
   -- ---- which cell of which array cell j is, by the cells of a block of each
 
   module _ (j : ℕ) (h : j < cells (glued k E F)) where

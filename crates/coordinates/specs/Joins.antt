@@ -6,8 +6,8 @@ use mathlib.Core.List.{List, [], _∷_, _++_}
 use native.Mathlib.Nat.{mul-assoc, one-mul, zero-add, add-mul, add-assoc, div-div-eq-div-mul, mul-comm, mod-lt, zero-mul, mod-eq-of-lt}
 use native.Mathlib.Omega.{arith}
 use lib.Arith.{digits-div, digits-mod, mod-mul}
-use lib.ListN.{length, getD, take, drop, length-append, length-drop, take-append-drop}
-use lib.Seq.{split-at, drop-cons, length-take-le, take-at, drop-at, getD-at, drop-append-add}
+use lib.ListN.{length, getD, take, drop}
+use lib.Seq.{split-at, drop-cons, length-take-le, take-at, drop-at, drop-append-add}
 use Rattle.paper.specs.declared.Axis.{Axis}
 use Rattle.paper.specs.Axes.{width, cells, offset, atOffset, axisAt, without, putIn}
 use Rattle.coordinates.specs.Places.{Inside, left-pos, right-pos, inside-length}
@@ -101,23 +101,9 @@ module _ {X : Type 0} (k : ℕ) (l : List X) (d : X) (one : 1 ≤ k) (last : k �
       let e : suc (k - 1) ≡ k = omega arith in
       drop-cons l (k - 1) d (omega arith) ∙ ap (λ (n : ℕ). getD l (k - 1) d ∷ drop n l) e
 
-  pub length-without : length (without k l) ≡ length l - 1
-  length-without = length-append (take (k - 1) l) (drop k l) ∙ omega (arith, length-before k l (omega arith), length-drop k l)
-
   -- what was taken out and put in again
   pub putIn-without : putIn k (getD l (k - 1) d) (without k l) ≡ l
   putIn-without = putIn-at k (take (k - 1) l) (getD l (k - 1) d) (drop k l) one (length-before k l (omega arith)) ∙ sym at-index
-
-module _ {X : Type 0} (k : ℕ) (x : X) (l : List X) (one : 1 ≤ k) (last : k ≤ length l + 1) where
-  pub length-putIn : length (putIn k x l) ≡ length l + 1
-  length-putIn = length-append (take (k - 1) l) (x ∷ drop (k - 1) l) ∙ omega (arith, length-before k l last, length-drop (k - 1) l)
-
-  pub getD-putIn : (d : X) → getD (putIn k x l) (k - 1) d ≡ x
-  getD-putIn d = getD-at (take (k - 1) l) x (drop (k - 1) l) d (k - 1) (length-before k l last)
-
-  -- what was put in and taken out again
-  pub without-putIn : without k (putIn k x l) ≡ l
-  without-putIn = without-at k (take (k - 1) l) x (drop (k - 1) l) one (length-before k l last) ∙ take-append-drop (k - 1) l
 
 -- ---- an axis taken out
 

@@ -2,7 +2,6 @@
 pub mod Places
 pub mod Limits
 pub mod Alike
-pub mod Layers
 pub mod Loops
 pub mod Fill
 pub mod Joins

@@ -4,16 +4,16 @@ use Prim.Native.Nat.{ℕ, zero, suc, _+_, _-_, _*_, _/_, _%_, _≤_, _<_}
 use mathlib.Core.Path.{_≡_, refl, sym, ap, ap₂, _∙_}
 use mathlib.Core.Bool.{true, _&&_}
 use mathlib.Core.List.{List, [], _∷_, map}
-use native.Mathlib.Nat.{mul-le-mul, le-trans, le-of-eq, mod-lt, mul-comm, mod-eq-of-lt, div-div-eq-div-mul, div-one, mul-one, mul-le-mul-left}
+use native.Mathlib.Nat.{mul-le-mul, mod-lt, mul-comm, mod-eq-of-lt, div-div-eq-div-mul, div-one}
 use native.Mathlib.Numerals.{add-one}
 use native.Mathlib.Omega.{arith}
 use lib.Arith.{mod-mul, digits-div, digits-mod}
-use lib.ListN.{length, getD, take, drop, set, length-set, length-take, length-drop, length-map}
+use lib.ListN.{length, getD, take, drop, set, length-set, length-take, length-map}
 use lib.Seq.{drop-cons, getD-take, drop-length, take-set-lt, drop-set-lt, getD-set-same}
 use Rattle.paper.specs.declared.Axis.{Axis}
 use Rattle.paper.specs.Limits.{reach, mostCells}
 use Rattle.paper.specs.Axes.{width, cells, onAxis, inside, offset, atOffset}
-use Rattle.coordinates.specs.Places.{Inside, offset-lt, nestedOffset, nested-offset}
+use Rattle.coordinates.specs.Places.{Inside, offset-lt}
 use Rattle.coordinates.specs.Limits.{Sound, sound-drop, sound-at, cells-pos, cells-drop}
 
 -- ---- the axes of a struct: the first r of a list that is at least so long
@@ -107,22 +107,6 @@ module _ (l : List Axis) (p : List ℕ) (r : ℕ) (h : r ≤ length l) (k : r �
   -- what is summed so far is an offset into the axes done
   pub offset-few : (i : ℕ) → Sound (take r l) → Inside (take r l) (take r p) → offset (drop i (take r l)) (drop i (take r p)) < cells (take r l)
   offset-few i s t = omega (arith, offset-lt (drop i (take r l)) (drop i (take r p)) (inside-drop (take r l) (take r p) i t), cells-drop (take r l) i s)
-
-  -- the nested form, on the way up: the axes left
-  pub nested-up : (n i : ℕ) (d : Axis) (z : ℕ) → i < r
-      → nestedOffset n (drop i (take r l)) (drop i (take r p)) ≡ nestedOffset (n * width (getD l i d) + (getD p i z - getD l i d .lo)) (drop (i + 1) (take r l)) (drop (i + 1) (take r p))
-  unfolding nestedOffset
-  nested-up n i d z b = rw (drop-first-cons l r h i d b, drop-first-cons p r k i z b, add-one i)
-
-  pub nested-end : (n i : ℕ) → i ≤ r → r ≤ i → nestedOffset n (drop i (take r l)) (drop i (take r p)) ≡ n
-  unfolding nestedOffset
-  nested-end n i b c = let e : i ≡ r = omega arith in rw (e, drop-first l r h)
-
-  -- what is nested so far is at most the whole
-  pub nested-le : (n i : ℕ) → Sound (take r l) → n ≤ nestedOffset n (drop i (take r l)) (drop i (take r p))
-  nested-le n i s =
-      rw (nested-offset (drop i (take r l)) (drop i (take r p)) n (simp (length-drop, length-first l r h, length-first p r k)))
-      (le-trans (le-of-eq (sym (mul-one n))) (le-trans (mul-le-mul-left n (cells-pos (drop i (take r l)) (sound-drop (take r l) i s))) (omega arith)))
 
 -- ---- the coordinate of an offset, on the way down
 

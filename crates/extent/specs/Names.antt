@@ -11,11 +11,6 @@ use Rattle.paper.specs.Limits.{nameBytes}
 use Rattle.paper.specs.Numbers.{leBytes, zeros}
 use Rattle.paper.specs.Axes.{inName, nameRest, isName}
 
-zeros-none : (k : ℕ) → zeros (leBytes k 0) ≡ true
-unfolding zeros leBytes
-zeros-none zero = refl
-zeros-none (suc k) = zeros-none k
-
 few : (n p q : ℕ) → n < q → q ≡ p * 256 → n / 256 < p
 few n p q h e = omega arith
 

@@ -12,7 +12,7 @@ use Rattle.paper.specs.declared.Cell.the-variants.{Empty, Int, Float, Truth}
 use Rattle.paper.specs.Limits.{mostAxes, mostCells}
 use Rattle.paper.specs.Numbers.{text, from}
 use Rattle.paper.specs.Axes.{width, cells}
-use Rattle.paper.specs.Json.{cellText, brackets, jsonText}
+use Rattle.paper.specs.Json.{cellText, jsonText}
 use Rattle.coordinates.specs.Limits.{Sound, cells-pos, cells-drop, sound-drop}
 use Rattle.coordinates.specs.Loops.{drop-first, drop-down}
 use Rattle.decimal.specs.Digits.{mostSigned, decimal-most}

@@ -17,7 +17,7 @@ use Rattle.paper.specs.declared.Axis.{Axis}
 use Rattle.paper.specs.declared.Cell.{Cell}
 use Rattle.paper.specs.declared.Cell.the-variants.{Empty, Int, Float, Truth}
 use Rattle.paper.specs.Limits.{FLOAT, mostAxes, mostCells, smallestInt}
-use Rattle.paper.specs.Refusals.{got, refused, _>>=_}
+use Rattle.paper.specs.Refusals.{got}
 use Rattle.paper.specs.Numbers.{from}
 use Rattle.paper.specs.Axes.{cells, goodExtent, Array}
 use Rattle.paper.specs.Reference.{chosen}

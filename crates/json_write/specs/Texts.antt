@@ -9,10 +9,10 @@ use lib.ListN.{length, drop, getD, length-append, length-map, length-drop, drop-
 use lib.Seq.{drop-cons, take-at, drop-at}
 use Rattle.paper.specs.declared.Axis.{Axis}
 use Rattle.paper.specs.declared.Cell.{Cell}
-use Rattle.paper.specs.Numbers.{text, from}
+use Rattle.paper.specs.Numbers.{from}
 use Rattle.paper.specs.Axes.{width, cells, noAxis}
 use Rattle.paper.specs.Json.{cellText, commas, jsonArray, layers, brackets}
-use Rattle.coordinates.specs.Layers.{from-split}
+use Rattle.laws.specs.Lists.{from-split}
 
 -- ---- items
 

@@ -14,7 +14,7 @@ use Rattle.paper.specs.declared.Axis.{Axis}
 use Rattle.paper.specs.declared.Cell.{Cell}
 use Rattle.paper.specs.declared.Refusal.{Refusal}
 use Rattle.paper.specs.Limits.{FLOAT, mostAxes, mostCells, cellBytes}
-use Rattle.paper.specs.Refusals.{got, refused, _>>=_, refusal, present, unknown4, unfit7, smallOutput14}
+use Rattle.paper.specs.Refusals.{got, refused, refusal, present, unknown4, unfit7, smallOutput14}
 use Rattle.paper.specs.Numbers.{text, from, part, nth}
 use Rattle.paper.specs.Axes.{width, cells, goodExtent, Array}
 use Rattle.paper.specs.Cells.{cellOf}

@@ -1,21 +1,20 @@
 -- What a mark and a word stand for where they are a cell's: that cell, whose bytes they are. A FLOAT cell's word, an empty one's too,
 -- is no NaN's; so the loop over cells need not judge again.
 use Prim.Native.Nat.{ℕ, _%_, _^_, _<_}
-use mathlib.Core.Path.{_≡_, refl, sym, ap, ap₂, _∙_, subst}
+use mathlib.Core.Path.{_≡_, sym, ap, ap₂, _∙_, subst}
 use mathlib.Core.Bool.{Bool, true, not, _&&_}
-use mathlib.Core.List.{List, _∷_}
+use mathlib.Core.List.{_∷_}
 use mathlib.Core.Option.{some}
 use native.Mathlib.Omega.{arith}
 use lib.Dec.{T, eqb, leb}
-use lib.ListN.{getD, drop}
 use lib.Ieee.{binary64, ofBits, nanBits}
 use lib.Ieee.Bits.{nanBits-is}
 use mir.Syntax.{w64}
 use mir.Val.{toZ}
 use borrow.Author.Tests.{eqb-true, leb-true, ne-eqb}
 use Rattle.paper.specs.Limits.{INT, FLOAT, wordBytes}
-use Rattle.paper.specs.Numbers.{leOf, leBytes}
-use Rattle.paper.specs.Cells.{finite, filled, cellFrom, cellOf, encode}
+use Rattle.paper.specs.Numbers.{leBytes}
+use Rattle.paper.specs.Cells.{finite, filled, cellFrom, encode}
 use Rattle.paper.specs.declared.Cell.{Cell}
 use Rattle.paper.specs.declared.Cell.the-variants.{Empty, Int, Float, Truth}
 use Rattle.laws.specs.Tests.{and-left, and-right}
@@ -58,14 +57,6 @@ standing-is kind mark n c =
     (λ z e. standing-empty kind mark n (even mark (eqb-true mark 0 (and-left (eqb mark 0) _ z))) ∙ inj Empty c e)
     (λ _ e. absurd (bad c e)))
 
--- nine bytes that are a cell: their mark and word stand for it
-pub stands : (kind : ℕ) (bs : List ℕ) (c : Cell) → cellOf kind bs ≡ some c → standing kind (getD bs 0 0) (leOf (drop 1 bs)) ≡ c
-stands kind bs c = standing-is kind (getD bs 0 0) (leOf (drop 1 bs)) c
-
--- a scalar: its word stands, with mark 1, for the scalar
-pub scalar-stands : (kind n : ℕ) (c : Cell) → filled kind n ≡ some c → standing kind 1 n ≡ c
-scalar-stands kind n c = filled-is kind 1 n c (odd 1 refl)
-
 -- ---- no NaN
 
 finite-word : (n : ℕ) → finite (ofBits binary64 n) ≡ true → NoNan n
@@ -92,10 +83,6 @@ no-nan-from kind mark n c k =
     (λ _. either (eqb mark 0 && eqb n 0) _ _ (some c) (NoNan n)
     (λ z e. subst NoNan (sym (eqb-true n 0 (and-right (eqb mark 0) (eqb n 0) z))) zero-word)
     (λ _ e. absurd (bad c e)))
-
--- of nine bytes
-pub no-nan-word : (kind : ℕ) (bs : List ℕ) (c : Cell) → kind ≡ FLOAT → cellOf kind bs ≡ some c → NoNan (leOf (drop 1 bs))
-no-nan-word kind bs c = no-nan-from kind (getD bs 0 0) (leOf (drop 1 bs)) c
 
 -- ---- as bytes
 

@@ -16,7 +16,7 @@ use Rattle.paper.specs.Axes.{cells, goodLimits, inside, ordinality, atOffset, c
 use Rattle.paper.specs.Listing.{rowBytes, row}
 use Rattle.coordinates.specs.Places.{Inside, inside-true, inside-length, offset-atOffset, ordinality-bounds}
 use Rattle.coordinates.specs.Limits.{Sound, limits-true}
-use Rattle.coordinates.specs.Layers.{concat-append}
+use Rattle.laws.specs.Lists.{concat-append}
 use Rattle.coordinates.specs.Fill.{Each, length-concat, piece-concat}
 use Rattle.laws.specs.Numbers.{leOf-leBytes}
 use Rattle.laws.specs.Positions.{position-read}

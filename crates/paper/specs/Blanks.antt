@@ -10,7 +10,6 @@ use lib.ListN.{replicate}
 use Rattle.paper.specs.declared.Axis.{Axis}
 use Rattle.paper.specs.declared.Cell.{Cell}
 use Rattle.paper.specs.declared.Cell.the-variants.{Empty, Int, Float, Truth}
-use Rattle.paper.specs.declared.PairOp.{PairOp}
 use Rattle.paper.specs.declared.PairOp.the-variants.{Eq, Ne, Lt, Le, Gt, Ge}
 use Rattle.paper.specs.declared.SingleOp.{SingleOp}
 use Rattle.paper.specs.declared.SingleOp.the-variants.{IsTrue, IsFalse, IsUnknown}

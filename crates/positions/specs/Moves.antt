@@ -6,13 +6,13 @@ use Prim.Native.Nat.{ℕ, _+_, _-_, _*_, _^_, _≤_, _<_}
 use native.Mathlib.Omega.{arith}
 use borrow.Author.Tests.{ltb-true, ltb-false}
 use lib.Dec.{ltb}
-use lib.IntN.{ℤ, _+ℤ_, _-ℤ_}
+use lib.IntN.{ℤ, _+ℤ_}
 use mir.Syntax.{w32}
 use mir.Val.{toZ, ofZ}
 use Rattle.paper.specs.Limits.{reach}
 use Rattle.paper.specs.Refusals.{if_then_else_}
 use Rattle.paper.specs.Numbers.{position, distance, noPosition, moved}
-use Rattle.laws.specs.Parts.{up, dn, One, one-part, add-parts, minus-parts, parts-eq, toZ-low, toZ-high, bits-low, bits-high}
+use Rattle.laws.specs.Parts.{up, dn, One, one-part, add-parts, parts-eq, toZ-low, toZ-high, bits-low, bits-high}
 use Rattle.laws.specs.Positions.{position-parts, distance-from, distance-low}
 
 -- d is the distance of a position
@@ -48,12 +48,6 @@ module _ (d n : ℕ) where
 
   pub moved-down : turning ≤ n → n < 2 ^ 32 → lower d (amount n) ≡ moved d (toZ w32 n)
   moved-down h k = sunk (position d +ℤ toZ w32 n) d (amount n) (omega (arith, position-parts d, add-parts (position d) (toZ w32 n), toZ-high w32 n h k)) (one-part (position d +ℤ toZ w32 n))
-
-  pub back-down : n < turning → lower d n ≡ distance (position d -ℤ toZ w32 n)
-  back-down h = sunk (position d -ℤ toZ w32 n) d n (omega (arith, position-parts d, minus-parts (position d) (toZ w32 n), toZ-low w32 n h)) (one-part (position d -ℤ toZ w32 n))
-
-  pub back-up : turning ≤ n → n < 2 ^ 32 → d + amount n ≡ distance (position d -ℤ toZ w32 n)
-  back-up h k = risen (position d -ℤ toZ w32 n) d (amount n) (omega (arith, position-parts d, minus-parts (position d) (toZ w32 n), toZ-high w32 n h k)) (one-part (position d -ℤ toZ w32 n))
 
 -- 0 moved by a number is that number
 pub from-zero : (z : ℤ) → moved reach z ≡ distance z

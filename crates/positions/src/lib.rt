@@ -1,7 +1,6 @@
 // Positions. A position is carried as its distance above -1,000,000, so that no signed number is made: 32 bits of two's complement come
 // in and go out as a u32.
 ghost use mathlib.Core.Path.{_≡_};
-ghost use lib.IntN.{_-ℤ_};
 ghost use mir.Syntax.{w32};
 ghost use mir.Val.{toZ, ofZ};
 ghost use Rattle.paper.specs.Limits.{limitBytes};
@@ -41,17 +40,6 @@ pub fn moved_by(d: u32, n: u32) -> u32
         return d + n;
     }
     lowered(d, NOWHERE - n + 1)
-}
-
-// The same moved back.
-pub fn moved_back(d: u32, n: u32) -> u32
-    requires { ⌜ Near d ⌝ }
-    ensures { λ r. ⌜ r ≡ distance (position d -ℤ toZ w32 n) ⌝ }
-{
-    if n < TURNING {
-        return lowered(d, n);
-    }
-    d + (NOWHERE - n + 1)
 }
 
 // The distance of the signed number whose bits are n: 0 moved by it.

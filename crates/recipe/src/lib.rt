@@ -4,7 +4,7 @@ ghost use mathlib.Core.Path.{_≡_};
 ghost use Prim.Native.Nat.{_+_, _*_, _≤_, _<_};
 ghost use lib.ListN.{length};
 ghost use Rattle.paper.specs.Limits.{detailBytes, stepBytes, mostSteps, mostCells};
-ghost use Rattle.paper.specs.Refusals.{if_then_else_, refusal};
+ghost use Rattle.paper.specs.Refusals.{refusal};
 ghost use Rattle.paper.specs.Axes.{cells};
 ghost use Rattle.paper.specs.Numbers.{nth, part};
 ghost use Rattle.paper.specs.Recipe.{operand, noShape, resultOf, planStep};

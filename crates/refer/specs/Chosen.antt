@@ -14,7 +14,7 @@ use Rattle.paper.specs.declared.Head.{Head}
 use Rattle.paper.specs.declared.Reading.{Reading}
 use Rattle.paper.specs.declared.Refusal.{Refusal}
 use Rattle.paper.specs.Limits.{cellBytes}
-use Rattle.paper.specs.Refusals.{Res, got, refused, _>>=_, refusal, unknown4}
+use Rattle.paper.specs.Refusals.{Res, got, refused, refusal, unknown4}
 use Rattle.paper.specs.Numbers.{part, nth}
 use Rattle.paper.specs.Axes.{Array}
 use Rattle.paper.specs.Cells.{cellOf}

@@ -19,7 +19,7 @@ use Rattle.paper.specs.declared.Ordinality.{Ordinality}
 use Rattle.paper.specs.declared.Seen.{Seen}
 use Rattle.paper.specs.declared.Seen.the-variants.{Held, End}
 use Rattle.paper.specs.Limits.{cellBytes}
-use Rattle.paper.specs.Refusals.{Res, got, refused, _>>=_, _>>_, if_then_else_, refusal, between, badAxis5, outside6}
+use Rattle.paper.specs.Refusals.{Res, got, refused, if_then_else_, refusal, between, badAxis5, outside6}
 use Rattle.paper.specs.Numbers.{part, distance}
 use Rattle.paper.specs.Axes.{cells, goodExtent, inside, ordinality, placeOf, cellNo, Shape, Array}
 use Rattle.paper.specs.Cells.{cellOf}

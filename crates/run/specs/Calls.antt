@@ -59,9 +59,6 @@ module _ (B bs : List ℕ) (R : Reading) (P : Plan) (W : List ℕ) (a : AskedToS
         let d = v .done z in
         record { work = d .bytes ∙ sym (ap (workAfter ps W) (d .is)); no = λ h. absurd (h z); yes = λ _. d }
 
-    pub clear-room : (r .number ≡ 0 → ⊥) → P .cells * cellBytes ≤ length after
-    clear-room h = omega (arith, a .room, v .stopped h .long)
-
     pub settle-stopped : (h : r .number ≡ 0 → ⊥) (last : List ℕ) → last ≡ over (replicate (P .cells * cellBytes) 0) after → Settled B bs R P W r last
     unfolding workAfter
     settle-stopped h last e =

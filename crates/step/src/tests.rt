@@ -5,7 +5,7 @@ ghost use lib.Dec.{eqb};
 ghost use lib.ListN.{length};
 ghost use Rattle.paper.specs.Limits.{detailBytes, scalarAt, wordBytes};
 ghost use Rattle.paper.specs.Numbers.{leOf, part, positionAt};
-ghost use Rattle.paper.specs.Axes.{without, onAxis, axisAt, result};
+ghost use Rattle.paper.specs.Axes.{without, onAxis, axisAt};
 ghost use Rattle.paper.specs.Cells.{filled};
 ghost use Rattle.paper.specs.Operators.{takes};
 ghost use Rattle.paper.specs.Recipe.{uses, axisIn, isScalar, typesFit, covers, withLimits, fitsIn, resultOf};

@@ -8,7 +8,7 @@ use lib.Dec.{eqb}
 use native.Mathlib.Omega.{arith}
 use Rattle.paper.specs.declared.Total.{Total}
 use Rattle.paper.specs.Limits.{mostCells}
-use Rattle.paper.specs.Refusals.{got, refused, _>>=_, refusal, unfit7}
+use Rattle.paper.specs.Refusals.{got, refused, refusal, unfit7}
 use Rattle.paper.specs.Axes.{goodExtent}
 use Rattle.paper.specs.Answers.{axesOf}
 use Rattle.paper.specs.Reference.{chosen}

@@ -1,11 +1,11 @@
 -- A step whose first cells the quick loop works out: it has what that loop asks, and the cells that the loop stored are the step's.
-use Prim.Native.Nat.{ℕ, zero, suc, _+_, _*_, _≤_, _<_}
+use Prim.Native.Nat.{ℕ, zero, suc, _≤_, _<_}
 use mathlib.Core.Path.{_≡_, refl, sym, subst}
 use mathlib.Core.Bool.{false}
 use mathlib.Core.List.{List}
 use native.Mathlib.Numerals.{add-one}
 use native.Mathlib.Omega.{arith}
-use lib.ListN.{length, take}
+use lib.ListN.{take}
 use Rattle.origin.specs.Origins.{moves}
 use Rattle.quick.specs.declared.operands.Pairing.{Pairing}
 use Rattle.quick.specs.Cells.{answerAt, Workable, WorkedOut}

@@ -90,9 +90,6 @@ module _ (B bs : List ℕ) (R : Reading) (P : Plan) (v : Setting B bs R P) (W : 
   pub room : k < n → base + k * cellBytes + cellBytes ≤ length work
   room h = omega (arith, room-all, long (omega arith))
 
-  pub base-room : k ≤ n → base ≤ length work
-  base-room h = omega (arith, room-all, long h)
-
   earlier : take base work ≡ resultBytes Rs
   earlier = earlier-there B bs R P W s base k work f
 

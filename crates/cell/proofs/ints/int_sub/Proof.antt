@@ -1,11 +1,11 @@
 -- `cell::ints::int_sub` meets its contract: whether the difference that wraps fits is told by the signs (Wrap.antt). Assumes nothing.
-use borrow.Author.Needs.{needs, sfits-of}
+use borrow.Author.Needs.{needs}
 use mathlib.Core.Path.{_≡_, _∙_, sym, ap, ap₂}
 use mathlib.Core.Bool.{Bool, true, false}
 use Prim.Native.Nat.{ℕ, _+_, _%_, _^_, _<_}
 use lib.IntN.{ℤ}
 use mir.Syntax.{w64}
-use mir.Val.{SFits, ofZ, toZ}
+use mir.Val.{ofZ}
 use mir.Facts.{toZ-ofZ}
 use Rattle.cell.specs.Signs.{signsApart}
 use Rattle.cell.proofs.Wrap.{sub-fits, sub-over}

@@ -1,5 +1,4 @@
 -- `cell::ints::signs_apart` meets its contract: the top bit of `^` and `&` (Signs.antt). Assumes nothing.
-use Prim.Native.Nat.{_^_, _<_}
 use borrow.Author.Needs.{needs}
 use Rattle.cell.proofs.Signs.{signs-by}
 use Rattle.cell.proofs.ints.signs_apart.Statement.{statement}

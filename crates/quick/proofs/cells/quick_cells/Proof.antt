@@ -1,6 +1,6 @@
 -- `quick::cells::quick_cells` meets its contract: the promise is the loop's invariant; each turn works out one cell. Assumes nothing.
-use Prim.Native.Nat.{ℕ, _+_, _-_, _*_, _≤_, _<_}
-use mathlib.Core.Path.{_≡_, sym}
+use Prim.Native.Nat.{ℕ, _+_, _-_, _*_, _≤_}
+use mathlib.Core.Path.{sym}
 use mathlib.Core.List.{List}
 use native.Mathlib.Omega.{arith}
 use denote.Ref.{now}
@@ -9,7 +9,7 @@ use lib.ListN.{length, take}
 use lib.Seq.{length-take-le}
 use Rattle.paper.specs.Limits.{cellBytes}
 use Rattle.quick.specs.Operands.{Reaches}
-use Rattle.quick.specs.Cells.{Workable, Ahead, none-yet}
+use Rattle.quick.specs.Cells.{Ahead, none-yet}
 use Rattle.quick.specs.Cells as Cells
 use Rattle.quick.proofs.cells.quick_cells.Statement.{statement}
 use Rattle.quick.proofs.cells.quick_cells.Tie as tie
