@@ -13,23 +13,20 @@ use Rattle.paper.specs.declared.Form.{Form}
 use Rattle.paper.specs.declared.Head.{Head}
 use Rattle.paper.specs.declared.Extent.{Extent}
 use Rattle.paper.specs.declared.Refusal.{Refusal}
-use Rattle.paper.specs.Limits.{mostAxes, typeBytes, axisBytes, cellBytes}
+use Rattle.paper.specs.Limits.{mostAxes, mostCells, typeBytes, axisBytes, cellBytes}
 use Rattle.paper.specs.Refusals.{got, refused, _>>=_, _>>_, refusal, ensure, between, badBytes1, badExtent2, badCell3}
 use Rattle.paper.specs.Axes.{cells, goodExtent, within, Shape}
 use Rattle.paper.specs.Cells.{isType}
 use Rattle.paper.specs.Bundle.{axisOf, maximumOf, eachAxis, arrayOf, readArray}
-use Rattle.paper.specs.Answers.{axesOf, extentOf, shapeOf, unless}
+use Rattle.paper.specs.Answers.{axesOf, extentOf, shapeOf}
 use Rattle.laws.specs.Judged.{firstBad, cellsFrom, judged, cells-judged}
-use Rattle.laws.specs.Answers.{extent-axes, formOf}
+use Rattle.laws.specs.Answers.{unless-refused, extent-axes, formOf}
 use Rattle.extent.specs.Judged.{cellsWithin, within-zero, within-some}
-use Rattle.parts.specs.Axes.{length-each}
 use Rattle.bundle.specs.declared.One.{One}
+use Rattle.bundle.specs.Axes.{length-each}
 use Rattle.bundle.specs.Read.{cellsIn, arrayAt, oneOf, none, Fit, JudgedArray, ReadArray}
 
 -- ---- an answer that is a refusal
-
-some-number : (x : Refusal) → (x .number ≡ 0 → ⊥) → {A : Type 0} (a : A) → unless x a ≡ refused x
-some-number x h a = rw (ne-eqb (x .number) 0 h)
 
 module _ (bs : List ℕ) (x : Refusal) (h : x .number ≡ 0 → ⊥) where
   -- of a form
@@ -37,7 +34,7 @@ module _ (bs : List ℕ) (x : Refusal) (h : x .number ≡ 0 → ⊥) where
   judged-none from k form r e q =
       let z : r .refusal .number ≡ 0 → ⊥ = λ f. h (sym (ap (λ (o : One). o .refusal .number) e) ∙ f) in
       record {
-        said = ap (oneOf bs) e ∙ some-number x h _ ∙ q;
+        said = ap (oneOf bs) e ∙ unless-refused x _ h ∙ q;
         end = omega (arith, ap (λ (o : One). o .end) e);
         fit = λ f. absurd (z f);
         held = λ f. absurd (z f);
@@ -49,7 +46,7 @@ module _ (bs : List ℕ) (x : Refusal) (h : x .number ≡ 0 → ⊥) where
   read-none at k r e q =
       let z : r .refusal .number ≡ 0 → ⊥ = λ f. h (sym (ap (λ (o : One). o .refusal .number) e) ∙ f) in
       record {
-        said = ap (oneOf bs) e ∙ some-number x h _ ∙ q;
+        said = ap (oneOf bs) e ∙ unless-refused x _ h ∙ q;
         end = omega (arith, ap (λ (o : One). o .end) e);
         fit = λ f. absurd (z f);
         tidy = λ f. absurd (z f);
@@ -91,12 +88,12 @@ module _ (k : ℕ) (s : List ℕ) (from : ℕ) (form : Form) (n : ℕ) (q : n �
       of-bad z = let f : eqb b 0 ≡ false = ne-eqb b 0 z in sym (of-cells ∙ rw f)
 
       -- all cells are cells: the array is as it stands in the bytes
-      pub of-got : from ≤ length s → b ≡ 0 → (r : One) → r ≡ record { refusal = refusal 0 0 0; head = record { form = form; at = from }; end = from + n * cellBytes } → JudgedArray s from k form r
+      pub of-got : from ≤ length s → b ≡ 0 → n ≤ mostCells → (r : One) → r ≡ record { refusal = refusal 0 0 0; head = record { form = form; at = from; cells = n }; end = from + n * cellBytes } → JudgedArray s from k form r
       unfolding arrayAt
-      of-got l z r w =
+      of-got l z few r w =
           let m = is-good .1 in
-          let head : Head = record { form = form; at = from } in
-          let fit : Fit s head = record { good = is-good .0; fits = omega (arith, m); clean = ap (λ (j : ℕ). firstBad t 1 j (drop from s)) m ∙ sym e ∙ z } in
+          let head : Head = record { form = form; at = from; cells = n } in
+          let fit : Fit s head = record { good = is-good .0; counted = sym m; few = few; fits = omega (arith, m); clean = ap (λ (j : ℕ). firstBad t 1 j (drop from s)) m ∙ sym e ∙ z } in
           record {
             said =
                 ap (oneOf s) w
@@ -104,7 +101,7 @@ module _ (k : ℕ) (s : List ℕ) (from : ℕ) (form : Form) (n : ℕ) (q : n �
                 ∙ sym (of-cells ∙ rw z);
             end = omega (arith, ap (λ (o : One). o .end) w);
             fit = λ f. subst (λ (o : One). Fit s (o .head)) (sym w) fit;
-            held = λ f. ap (λ (o : One). o .head) w;
+            held = λ f. ap (λ (o : One). o .head) w ∙ (λ i. record { form = form; at = from; cells = sym m i });
             past = λ f. ap (λ (o : One). o .end) w ∙ ap (λ (j : ℕ). from + j * cellBytes) (sym m);
           }
 
@@ -165,7 +162,7 @@ module _ (k : ℕ) (s : List ℕ) (at t n : ℕ) (et : t ≡ getD s at 0) (en : 
               tidy = λ z.
                   let w = j .held z in
                   let y : shapeOf (r .head .form) ≡ record { type = t; axes = E; maximum = M } = ap (λ (o : Head). shapeOf (o .form)) w ∙ shape-is in
-                  w ∙ (λ i. record { form = (form-is ∙ sym (ap formOf y)) i; at = ap (λ (o : Head). o .at) (sym w) i });
+                  w ∙ (λ i. record { form = (form-is ∙ sym (ap formOf y)) i; at = ap (λ (o : Head). o .at) (sym w) i; cells = ap (λ (o : Head). cellsIn (o .form)) (sym w) i });
               lies = λ z.
                   let w = j .held z in
                   let a : r .head .at ≡ from = ap (λ (o : Head). o .at) w in

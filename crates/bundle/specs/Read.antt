@@ -8,7 +8,7 @@ use Rattle.paper.specs.declared.Form.{Form}
 use Rattle.paper.specs.declared.Head.{Head}
 use Rattle.paper.specs.declared.Reading.{Reading}
 use Rattle.paper.specs.declared.Refusal.{Refusal}
-use Rattle.paper.specs.Limits.{typeBytes, axisBytes, cellBytes}
+use Rattle.paper.specs.Limits.{mostCells, typeBytes, axisBytes, cellBytes}
 use Rattle.paper.specs.Refusals.{Res}
 use Rattle.paper.specs.Axes.{cells, goodExtent, within, Array}
 use Rattle.paper.specs.Bundle.{arrayOf, readArray, readBundle}
@@ -33,9 +33,11 @@ oneOf bs r = unless (r .refusal) (arrayAt bs (r .head), drop (r .end) bs)
 abbrev pub none : Refusal → One
 none x = record { refusal = x; head = noHead; end = 0 }
 
--- what later code leans on: the extent is good and inside its maximum, the cells lie in the bytes, and each is one
+-- what later code leans on: the extent is good and inside its maximum, its cells are counted, they lie in the bytes, and each is one
 pub record Fit (bs : List ℕ) (h : Head) : Type 0 where
   pub good : (goodExtent (shapeOf (h .form) .axes) && within (shapeOf (h .form) .axes) (shapeOf (h .form) .maximum)) ≡ true
+  pub counted : h .cells ≡ cellsIn (h .form)
+  pub few : h .cells ≤ mostCells
   pub fits : h .at + cellsIn (h .form) * cellBytes ≤ length bs
   pub clean : firstBad (h .form .kind) 1 (cellsIn (h .form)) (drop (h .at) bs) ≡ 0
 
@@ -46,7 +48,7 @@ pub record JudgedArray (bs : List ℕ) (from k : ℕ) (form : Form) (r : One) : 
   pub said : oneOf bs r ≡ arrayOf k (shapeOf form) (drop from bs)
   pub end : r .end ≤ length bs
   pub fit : r .refusal .number ≡ 0 → Fit bs (r .head)
-  pub held : r .refusal .number ≡ 0 → r .head ≡ record { form = form; at = from }
+  pub held : r .refusal .number ≡ 0 → r .head ≡ record { form = form; at = from; cells = cellsIn form }
   pub past : r .refusal .number ≡ 0 → r .end ≡ from + cellsIn form * cellBytes
 
 -- the head is the one of a shape and a byte: nothing stands past its last axis

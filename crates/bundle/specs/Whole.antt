@@ -1,14 +1,13 @@
 -- The whole bundle: the loop over its arrays in remaining form, as a record with a law for each event, and the ways out of reading.
-use Prim.Native.Nat.{ℕ, zero, suc, _+_, _-_, _*_, _≤_, _<_}
+use Prim.Native.Nat.{ℕ, suc, _+_, _-_, _*_, _≤_, _<_}
 use mathlib.Core.Path.{_≡_, refl, sym, ap, ap₂, subst, _∙_}
 use mathlib.Core.Bool.{Bool, true, false}
 use mathlib.Core.List.{List, [], _∷_, _++_, map, map-append, append-assoc, append-nil}
-use native.Mathlib.Numerals.{add-one}
 use native.Mathlib.Omega.{arith}
 use borrow.Author.Tests.{eq-eqb, ne-eqb, eqb-true, eqb-false, leb-true}
 use lib.Dec.{eqb, leb}
-use lib.ListN.{length, getD, take, drop, set, replicate, length-drop, length-set, length-map, take-append-drop}
-use lib.Seq.{getD-set-same, getD-set-other, drop-drop, take-suc-set, length-take-le}
+use lib.ListN.{length, getD, take, drop, set, replicate, length-drop, length-set, length-map, take-append-drop, List·getD-eq-default}
+use lib.Seq.{getD-set-same, getD-set-other, length-take-le}
 use Rattle.paper.specs.declared.Head.{Head}
 use Rattle.paper.specs.declared.Reading.{Reading}
 use Rattle.paper.specs.declared.Refusal.{Refusal}
@@ -19,9 +18,9 @@ use Rattle.paper.specs.Axes.{Shape, Array}
 use Rattle.paper.specs.Bundle.{mark, markBytes, readArray, readArrays, readBundle}
 use Rattle.paper.specs.Answers.{shapeOf, lyingFrom, reading, readSaid}
 use Rattle.laws.specs.Tests.{and-right}
-use Rattle.laws.specs.Answers.{headOf, noHead, readingOf}
-use Rattle.parts.specs.Judge.{past}
+use Rattle.laws.specs.Answers.{unless-refused, unless-got, headOf, noHead, readingOf}
 use Rattle.bundle.specs.declared.One.{One}
+use Rattle.bundle.specs.Front.{front-more, blank-more}
 use Rattle.bundle.specs.Read.{cellsIn, arrayAt, Fit, LiesAt, ReadArray, AllFit, readOf, ReadAll}
 
 -- what a head says: a shape, and the byte at which the cells begin
@@ -92,33 +91,26 @@ more-fit bs i l v k f g j h = by (eqb j i) refl
     by true e = let q : i ≡ j = sym (eqb-true j i e) in subst (λ (m : ℕ). Fit bs (getD (set l i v) m noHead)) q (subst (Fit bs) (sym (getD-set-same l i v noHead k)) g)
     by false e = let n = eqb-false j i e in subst (Fit bs) (sym (getD-set-other l i j v noHead n)) (f j (less j i h n))
 
-drop-set : (l : List Head) (i : ℕ) (a : Head) → drop (suc i) (set l i a) ≡ drop (suc i) l
-drop-set [] i a = refl
-drop-set (x ∷ l) zero a = refl
-drop-set (x ∷ l) (suc i) a = drop-set l i a
-
-module _ (s : List ℕ) (n i at : ℕ) (l : List Head) (v : Loop s n i at l) (h : i < n) (r : One) (e : ReadArray s at (i + 1) r) where
+module _ {s : List ℕ} {n i at : ℕ} {l : List Head} (v : Loop s n i at l) (h : i < n) {r : One} (e : ReadArray s at (i + 1) r) where
   -- one array more
   module _ (z : r .refusal .number ≡ 0) where
     within : i < length l
     within = omega (arith, v .few, v .long)
 
     first : take (i + 1) (set l i (r .head)) ≡ take i l ++ (r .head ∷ [])
-    first = ap (λ (j : ℕ). take j (set l i (r .head))) (add-one i) ∙ take-suc-set l i (r .head) within
+    first = front-more l i (r .head) within
 
     more : before (map (arrayAt s) (take (i + 1) (set l i (r .head)))) (readArrays (i + 1 + 1) (n - (i + 1)) (drop (r .end) s))
         ≡ before (map (arrayAt s) (take i l)) (readArrays (i + 1) (n - i) (drop at s))
     unfolding readArrays
     more =
         let f : n - i ≡ suc (n - (i + 1)) = omega arith in
-        let y : eqb (r .refusal .number) 0 ≡ true = eq-eqb _ _ z in
-        let g : readArray (i + 1) (drop at s) ≡ got (arrayAt s (r .head), drop (r .end) s) = sym (e .said) ∙ rw y in
+        let g : readArray (i + 1) (drop at s) ≡ got (arrayAt s (r .head), drop (r .end) s) = sym (e .said) ∙ unless-got (r .refusal) _ z in
         rw (f, g, first, map-append (arrayAt s) (take i l) (r .head ∷ []))
         (sym (joined (map (arrayAt s) (take i l)) (arrayAt s (r .head)) _))
 
     pub loop-more : Loop s n (i + 1) (r .end) (set l i (r .head))
     loop-more =
-        let m : mostArrays - i ≡ suc (mostArrays - (i + 1)) = omega (arith, v .few) in
         record {
           turns = omega arith;
           few = v .few;
@@ -131,9 +123,7 @@ module _ (s : List ℕ) (n i at : ℕ) (l : List Head) (v : Loop s n i at l) (h 
               subst (λ (hs : List Head). map headOf (map headSaid hs) ≡ hs) (sym first)
               (ap (map headOf) (map-append headSaid (take i l) (r .head ∷ [])) ∙ map-append headOf (map headSaid (take i l)) (headSaid (r .head) ∷ [])
               ∙ ap₂ (λ (x : List Head) (y : Head). x ++ (y ∷ [])) (v .tidy) (sym (e .tidy z)));
-          blank =
-              ap (λ (j : ℕ). drop j (set l i (r .head))) (add-one i) ∙ drop-set l i (r .head)
-              ∙ sym (drop-drop 1 i l ∙ ap (λ (j : ℕ). drop j l) (add-one i)) ∙ ap (drop 1) (v .blank) ∙ ap (λ (j : ℕ). drop 1 (replicate j noHead)) m;
+          blank = blank-more l i (r .head) mostArrays noHead (omega (arith, v .few)) (v .blank);
         }
 
   -- an array that is refused
@@ -141,13 +131,12 @@ module _ (s : List ℕ) (n i at : ℕ) (l : List Head) (v : Loop s n i at l) (h 
   unfolding readArrays before
   loop-refused z =
       let f : n - i ≡ suc (n - (i + 1)) = omega arith in
-      let y : eqb (r .refusal .number) 0 ≡ false = ne-eqb _ _ z in
-      let g : readArray (i + 1) (drop at s) ≡ refused (r .refusal) = sym (e .said) ∙ rw y in
+      let g : readArray (i + 1) (drop at s) ≡ refused (r .refusal) = sym (e .said) ∙ unless-refused (r .refusal) _ z in
       let w : refused (r .refusal) ≡ before (map (arrayAt s) (take i l)) (readArrays (i + 1) (n - i) (drop at s)) = rw (f, g) in
       w ∙ v .arrays
 
 -- all read
-module _ (s : List ℕ) (n i at : ℕ) (l : List Head) (v : Loop s n i at l) (h : n ≤ i) where
+module _ {s : List ℕ} {n i at : ℕ} {l : List Head} (v : Loop s n i at l) (h : n ≤ i) where
   all-done : i ≡ n
   all-done = omega (arith, v .turns)
 
@@ -162,12 +151,11 @@ module _ (s : List ℕ) (n i at : ℕ) (l : List Head) (v : Loop s n i at l) (h 
 pub all-refused : (bs : List ℕ) (r : Reading) (x : Refusal) → r ≡ readingOf (refused x) → (x .number ≡ 0 → ⊥) → refused x ≡ readBundle bs → ReadAll bs r
 unfolding reading
 all-refused bs r x e h q =
-    let z : eqb (x .number) 0 ≡ false = ne-eqb (x .number) 0 h in
-    let said : readSaid r ≡ refused x = ap readSaid e ∙ rw z in
+    let said : readSaid r ≡ refused x = ap readSaid e ∙ unless-refused x _ h in
     record {
       said = said ∙ ap (λ (m : Res (List Array)). m >>= (λ As. got (lyingFrom (markBytes + 1) As))) q;
       tidy = e ∙ ap readingOf (sym said);
-      arrays = ap (readOf bs) e ∙ rw z q;
+      arrays = ap (readOf bs) e ∙ unless-refused x _ h ∙ q;
       room = subst (λ (o : Reading). o .count ≤ length (o .heads)) (sym e) (omega arith);
       fit = λ j k. absurd (omega (arith, ap (λ (o : Reading). o .count) e));
     }
@@ -181,7 +169,7 @@ module _ (s : List ℕ) where
 
   pub bundle-short : length s < markBytes + 1 → refused (refusal badBytes1 0 0) ≡ readBundle s
   unfolding readBundle
-  bundle-short h = rw (← past s markBytes (omega arith)) (by (same (take markBytes s) mark))
+  bundle-short h = rw (List·getD-eq-default s 0 {n = markBytes} (omega arith)) (by (same (take markBytes s) mark))
     where
       by : (b : Bool) → _≡_ {A = Res (List Array)} (refused (refusal badBytes1 0 0)) (ensure b badBytes1 0 >> refused (refusal badBytes1 0 0))
       by true = refl
@@ -197,23 +185,23 @@ module _ (s : List ℕ) where
       unfolding readBundle
       bundle-refused r e = rw (m, ← en, f, ← e)
 
-      module _ (i at : ℕ) (l : List Head) (v : Loop s n i at l) (h : n ≤ i) where
+      module _ {i at : ℕ} {l : List Head} (v : Loop s n i at l) (h : n ≤ i) where
         pub bundle-left : at < length s → refused (refusal badBytes1 0 0) ≡ readBundle s
         unfolding readBundle
         bundle-left b =
             let z : eqb (length s - at) 0 ≡ false = ne-eqb (length s - at) 0 (λ e. omega arith) in
-            rw (m, ← en, f, ← loop-end s n i at l v h, length-drop at s, z)
+            rw (m, ← en, f, ← loop-end v h, length-drop at s, z)
 
         bundle-got : length s ≤ at → got (map (arrayAt s) (take n l)) ≡ readBundle s
         unfolding readBundle
         bundle-got b =
             let z : eqb (length s - at) 0 ≡ true = eq-eqb (length s - at) 0 (omega arith) in
-            rw (m, ← en, f, ← loop-end s n i at l v h, length-drop at s, z)
+            rw (m, ← en, f, ← loop-end v h, length-drop at s, z)
 
         pub bundle-read : length s ≤ at → (r : Reading) → r ≡ record { refusal = refusal 0 0 0; count = n; heads = l } → ReadAll s r
         unfolding reading
         bundle-read b r e =
-            let d = all-done s n i at l v h in
+            let d = all-done v h in
             let q = bundle-got b in
             let hs : List Head = take n l in
             let lies : LiesFrom (markBytes + 1) hs at = subst (λ (j : ℕ). LiesFrom (markBytes + 1) (take j l) at) d (v .lies) in

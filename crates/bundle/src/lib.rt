@@ -6,17 +6,26 @@ ghost use lib.ListN.{length};
 ghost use Rattle.paper.specs.Refusals.{refused, refusal, between};
 ghost use Rattle.laws.specs.Answers.{noHead, readingOf};
 ghost use Rattle.bundle.specs.Read.{none, JudgedArray, ReadArray, ReadAll};
+use axes::bounds_at;
 use extent::extent_cells;
+use judged::first_bad;
+use mark::byte_at;
+use mark::is_marked;
+use paper::AXIS_BYTES;
 use paper::Axis;
+use paper::CELL_BYTES;
 use paper::Extent;
 use paper::Form;
 use paper::Head;
+use paper::MARK_BYTES;
+use paper::OPENING_BYTES;
 use paper::Reading;
 use paper::Refusal;
-use parts::bounds_at;
-use parts::byte_at;
-use parts::first_bad;
-use parts::is_marked;
+use paper::TYPE_BYTES;
+
+pub mod axes;
+pub mod judged;
+pub mod mark;
 
 // One array read: its head, and the byte after it.
 pub struct One {
@@ -57,7 +66,11 @@ pub fn no_head() -> Head
         extent,
         maximum,
     };
-    Head { form, at: 0 }
+    Head {
+        form,
+        at: 0,
+        cells: 0,
+    }
 }
 
 fn refusing(number: u8, place: u32, ordinality: u32) -> One
@@ -77,7 +90,7 @@ fn refusing(number: u8, place: u32, ordinality: u32) -> One
 }
 
 // x is 1 to `most`.
-fn in_range(x: u8, most: u8) -> bool
+pub fn in_range(x: usize, most: usize) -> bool
     ensures { λ r. ⌜ r ≡ between 1 most x ⌝ }
 {
     if x < 1 {
@@ -98,7 +111,7 @@ pub fn array_of(s: &[u8], from: usize, k: u32, form: Form) -> One
     if n == 0 {
         return refusing(2, k, 0);
     }
-    if s.len() - from < n * 9 {
+    if s.len() - from < n * CELL_BYTES {
         return refusing(1, k, 0);
     }
     let bad = first_bad(s, from, kind, n);
@@ -106,11 +119,15 @@ pub fn array_of(s: &[u8], from: usize, k: u32, form: Form) -> One
         return refusing(3, k, bad as u32);
     }
     let refusal = no_refusal();
-    let head = Head { form, at: from };
+    let head = Head {
+        form,
+        at: from,
+        cells: n,
+    };
     One {
         refusal,
         head,
-        end: from + n * 9,
+        end: from + n * CELL_BYTES,
     }
 }
 
@@ -120,18 +137,17 @@ fn array_at(s: &[u8], at: usize, k: u32) -> One
     ensures { λ r. ⌜ ReadArray (now (s .entry)) at k r ⌝ }
 {
     let kind = byte_at(s, at);
-    let n = byte_at(s, at + 1);
-    if !in_range(kind, 3) {
+    let rank = byte_at(s, at + 1) as usize;
+    if !in_range(kind as usize, paper::TYPES) {
         return refusing(1, k, 0);
     }
-    if !in_range(n, 4) {
+    if !in_range(rank, paper::AXES) {
         return refusing(1, k, 0);
     }
-    let rank = n as usize;
-    if s.len() - at < 2 + rank * 24 {
+    if s.len() - at < TYPE_BYTES + rank * AXIS_BYTES {
         return refusing(1, k, 0);
     }
-    let bounds = bounds_at(s, at + 2, rank);
+    let bounds = bounds_at(s, at + TYPE_BYTES, rank);
     let extent = bounds.extent;
     let maximum = bounds.maximum;
     let form = Form {
@@ -139,7 +155,7 @@ fn array_at(s: &[u8], at: usize, k: u32) -> One
         extent,
         maximum,
     };
-    array_of(s, at + 2 + rank * 24, k, form)
+    array_of(s, at + TYPE_BYTES + rank * AXIS_BYTES, k, form)
 }
 
 fn refusing_all(refusal: Refusal) -> Reading
@@ -163,20 +179,19 @@ pub fn read(s: &[u8]) -> Reading
         place: 0,
         ordinality: 0,
     };
-    if s.len() < 6 {
+    if s.len() < OPENING_BYTES {
         return refusing_all(bad);
     }
     if !is_marked(s) {
         return refusing_all(bad);
     }
-    let b = byte_at(s, 5);
-    if !in_range(b, 4) {
+    let n = byte_at(s, MARK_BYTES) as usize;
+    if !in_range(n, paper::ARRAYS) {
         return refusing_all(bad);
     }
-    let n = b as usize;
     let head = no_head();
     let mut heads = [head; paper::ARRAYS];
-    let mut at: usize = 6;
+    let mut at = OPENING_BYTES;
     let mut i: usize = 0;
     while i < n {
         let one = array_at(s, at, (i + 1) as u32);

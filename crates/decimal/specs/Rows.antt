@@ -18,8 +18,8 @@ use Rattle.paper.specs.Listing.{row}
 use Rattle.paper.specs.Rests.{digits, decimal, spaced, rowText}
 use Rattle.laws.specs.Numbers.{leOf-leBytes}
 use Rattle.laws.specs.Positions.{position-read}
-use Rattle.coordinates.specs.Places.{Inside, coordinate-inside}
-use Rattle.coordinates.specs.Limits.{Sound}
+use Rattle.laws.specs.Places.{Inside, coordinate-inside}
+use Rattle.laws.specs.Limits.{Sound}
 use Rattle.decimal.specs.Wrote.{Wrote, wrote-then, wrote-as}
 use Rattle.decimal.specs.Digits.{digits-most}
 use Rattle.decimal.specs.Lines.{number, mostSpaced, number-on, number-end, number-long}

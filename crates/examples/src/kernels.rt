@@ -1,38 +1,33 @@
-// The report's kernel and filter (6.1), with the two arrays of table 17: tables 9 to 25, and the kernel of tables 2, 4 and 5.
-use paper::Cell;
-use paper::Extent;
-use paper::Form;
+// The report's clause 6: its kernel and filter, with the two arrays of table 17: tables 9 to 25, and the kernel of tables 2, 4 and 5.
+use crate::arrays::around;
+use crate::arrays::kernel;
+use crate::arrays::plane;
+use crate::arrays::put_kernel;
+use crate::ask::pack_arrays;
+use crate::ask::show_array;
+use crate::ask::show_reference;
+use crate::ask::show_step;
+use crate::ask::show_steps;
+use crate::ask::show_total;
+use crate::make::GLUE;
+use crate::make::INT;
+use crate::make::LEFT;
+use crate::make::PAIR;
+use crate::make::RENAME;
+use crate::make::RESHAPE;
+use crate::make::RIGHT;
+use crate::make::SHIFT;
+use crate::make::SINGLE;
+use crate::make::SLICE;
+use crate::make::STEP_1;
+use crate::make::TRIM;
+use crate::make::fixed;
+use crate::make::put_ints;
+use crate::say::say;
+use crate::say::say_extent;
 use paper::Total;
-use shown::ask::pack_arrays;
-use shown::ask::show_array;
-use shown::ask::show_reference;
-use shown::ask::show_run;
-use shown::ask::show_total;
-use shown::make::GLUE;
-use shown::make::LEFT;
-use shown::make::PAIR;
-use shown::make::RENAME;
-use shown::make::RESHAPE;
-use shown::make::RIGHT;
-use shown::make::SHIFT;
-use shown::make::SINGLE;
-use shown::make::SLICE;
-use shown::make::TRIM;
-use shown::make::ZERO;
-use shown::make::and_axis;
-use shown::make::detail;
-use shown::make::fixed;
-use shown::make::limits;
-use shown::make::line;
-use shown::make::put;
-use shown::make::put_three;
-use shown::make::scalar;
-use shown::make::step;
-use shown::say::say;
-use shown::say::say_extent;
-use shown::say::say_row;
 
-// The operands: arrays 1 to 4, and the result of a step.
+// The operands: arrays 1 to 4.
 const KERNEL: u8 = 1;
 
 const FILTER: u8 = 2;
@@ -41,164 +36,35 @@ const ROW: u8 = 3;
 
 const COLUMN: u8 = 4;
 
-const STEP_1: u8 = 17;
-
 // ---- the arrays
 
-fn plane(i_lo: u32, i_hi: u32, j_lo: u32, j_hi: u32) -> Extent {
-    let i = line(b'i' as u64, i_lo, i_hi);
-    and_axis(i, b'j' as u64, j_lo, j_hi)
-}
-
-// The two arrays of the report's table: their maximum is -100 to 100 on both axes.
-fn kernel_form(extent: Extent) -> Form {
-    let maximum = plane(ZERO - 100, ZERO + 100, ZERO - 100, ZERO + 100);
-    Form {
-        kind: 1,
-        extent,
-        maximum,
-    }
-}
-
-fn put_kernel(cells: &mut [u8]) {
-    let low = Cell::Int(-1);
-    put_three(cells, 0, low, low, low);
-    put_three(cells, 3, low, Cell::Int(8), low);
-    put_three(cells, 6, low, low, low);
-}
-
-// A row of the filter: it reads the same from both ends.
-fn put_even(cells: &mut [u8], k: usize, a: i64, b: i64, middle: i64) {
-    if k < 4000 {
-        let end = Cell::Int(a);
-        let next = Cell::Int(b);
-        put_three(cells, k, end, next, Cell::Int(middle));
-        put(cells, k + 3, next);
-        put(cells, k + 4, end);
-    }
-}
-
 fn put_filter(cells: &mut [u8]) {
-    put_even(cells, 9, 2, 4, 5);
-    put_even(cells, 14, 4, 9, 12);
-    put_even(cells, 19, 5, 12, 15);
-    put_even(cells, 24, 4, 9, 12);
-    put_even(cells, 29, 2, 4, 5);
+    put_ints(cells, 9, [2, 4, 5, 4, 2, 0]);
+    put_ints(cells, 14, [4, 9, 12, 9, 4, 0]);
+    put_ints(cells, 19, [5, 12, 15, 12, 5, 0]);
+    put_ints(cells, 24, [4, 9, 12, 9, 4, 0]);
+    put_ints(cells, 29, [2, 4, 5, 4, 2, 0]);
 }
 
-// A row and a column of table 17, both 1 2 3.
-fn put_lines(cells: &mut [u8]) {
-    let one = Cell::Int(1);
-    let two = Cell::Int(2);
-    let three = Cell::Int(3);
-    put_three(cells, 34, one, two, three);
-    put_three(cells, 37, one, two, three);
-}
-
+// The kernel, the filter, and a row and a column of table 17, both 1 2 3.
 fn pack_kernels(bundle: &mut [u8]) {
-    let kernel = kernel_form(plane(ZERO - 1, ZERO + 1, ZERO - 1, ZERO + 1));
-    let mut forms = [kernel; paper::ARRAYS];
-    forms[1] = kernel_form(plane(ZERO - 2, ZERO + 2, ZERO - 2, ZERO + 2));
-    forms[2] = fixed(1, plane(ZERO, ZERO, ZERO - 1, ZERO + 1));
-    forms[3] = fixed(1, plane(ZERO - 1, ZERO + 1, ZERO, ZERO));
+    let first = kernel();
+    let mut forms = [first; paper::ARRAYS];
+    forms[1] = around(plane([-2, 2, -2, 2, 0, 0]));
+    forms[2] = fixed(INT, plane([0, 0, -1, 1, 0, 0]));
+    forms[3] = fixed(INT, plane([-1, 1, 0, 0, 0, 0]));
     let mut cells = [0u8; 360];
-    put_kernel(&mut cells);
+    put_kernel(&mut cells, 0);
     put_filter(&mut cells);
-    put_lines(&mut cells);
+    put_ints(&mut cells, 34, [1, 2, 3, 1, 2, 3]);
     pack_arrays(4, forms, &cells, bundle);
-}
-
-// ---- recipes of one step, or two, run
-
-// New limits on both axes.
-fn show_limits(bundle: &[u8], operation: u8, a: u8, i: [i64; 2], j: [i64; 2]) {
-    let mut steps = [0u8; 36];
-    step(&mut steps, 0, operation, a, 0, 0);
-    limits(&mut steps, 0, i[0], i[1], j[0], j[1]);
-    show_run(bundle, &steps);
-}
-
-// A position of the first axis.
-fn show_slice(bundle: &[u8], position: i64) {
-    let mut steps = [0u8; 36];
-    step(&mut steps, 0, SLICE, KERNEL, 0, 1);
-    detail(&mut steps, 0, 0, position);
-    show_run(bundle, &steps);
-}
-
-// A position of the first axis, and then 0 to 1 of the second.
-fn show_slice_trimmed(bundle: &[u8], position: i64) {
-    let mut steps = [0u8; 72];
-    step(&mut steps, 0, SLICE, KERNEL, 0, 1);
-    detail(&mut steps, 0, 0, position);
-    step(&mut steps, 1, TRIM, STEP_1, 0, 0);
-    detail(&mut steps, 1, 1, 1);
-    show_run(bundle, &steps);
-}
-
-fn show_shift(bundle: &[u8], amount: i64) {
-    let mut steps = [0u8; 36];
-    step(&mut steps, 0, SHIFT, KERNEL, 0, 0);
-    detail(&mut steps, 0, 0, amount);
-    detail(&mut steps, 0, 1, amount);
-    show_run(bundle, &steps);
-}
-
-// Names of one letter.
-fn show_rename(bundle: &[u8], first: u8, second: u8) {
-    let mut steps = [0u8; 36];
-    step(&mut steps, 0, RENAME, KERNEL, 0, 0);
-    detail(&mut steps, 0, 0, first as i64);
-    detail(&mut steps, 0, 2, second as i64);
-    show_run(bundle, &steps);
-}
-
-fn show_glue(bundle: &[u8], b: u8, axis: u8) {
-    let mut steps = [0u8; 36];
-    step(&mut steps, 0, GLUE, KERNEL, b, axis);
-    show_run(bundle, &steps);
-}
-
-fn show_single(bundle: &[u8], operator: i64) {
-    let mut steps = [0u8; 36];
-    step(&mut steps, 0, SINGLE, KERNEL, 0, 0);
-    detail(&mut steps, 0, 0, operator);
-    show_run(bundle, &steps);
-}
-
-fn show_scalar(bundle: &[u8], operation: u8, operator: i64, n: i64) {
-    let mut steps = [0u8; 36];
-    step(&mut steps, 0, operation, KERNEL, 0, 0);
-    scalar(&mut steps, 0, operator, n);
-    show_run(bundle, &steps);
-}
-
-// NOT (kernel <= 5).
-fn show_not(bundle: &[u8]) {
-    let mut steps = [0u8; 72];
-    step(&mut steps, 0, RIGHT, KERNEL, 0, 0);
-    scalar(&mut steps, 0, 9, 5);
-    step(&mut steps, 1, SINGLE, STEP_1, 0, 0);
-    detail(&mut steps, 1, 0, 3);
-    show_run(bundle, &steps);
-}
-
-// The kernel and the filter, trimmed to the kernel's extent.
-fn show_sum(bundle: &[u8]) {
-    let mut steps = [0u8; 72];
-    step(&mut steps, 0, TRIM, FILTER, 0, 0);
-    limits(&mut steps, 0, -1, 1, -1, 1);
-    step(&mut steps, 1, PAIR, KERNEL, STEP_1, 0);
-    detail(&mut steps, 1, 0, 1);
-    show_run(bundle, &steps);
 }
 
 // ---- the tables
 
 // The kernel, its extent and its maximum.
 fn show_kernel(bundle: &[u8]) {
-    say(b"tables 2, 4 and 5 row 2:");
-    show_array(bundle, 0);
+    show_array(b"tables 2, 4 and 5 row 2:", bundle, 0);
     let reading = bundle::read(bundle);
     let heads = reading.heads;
     let head = heads[0];
@@ -208,96 +74,110 @@ fn show_kernel(bundle: &[u8]) {
     say(b"\ntable 10:");
     say_extent(form.maximum);
     say(b"\n");
+    show_reference(b"table 11 row 1: ", bundle, 1, &[0i32, 0]);
+    show_reference(b"table 11 row 2: ", bundle, 1, &[50i32, 0]);
+    show_reference(b"table 11 row 3: ", bundle, 1, &[-1i32, 1000]);
 }
 
-fn show_references(bundle: &[u8]) {
-    say_row(11, 1);
-    let middle = [0i32, 0];
-    show_reference(bundle, 1, &middle);
-    say_row(11, 2);
-    let blank = [50i32, 0];
-    show_reference(bundle, 1, &blank);
-    say_row(11, 3);
-    let beyond = [-1i32, 1000];
-    show_reference(bundle, 1, &beyond);
-}
-
+// Slices at 0 and at 50 of the first axis, and trims.
 fn show_subsets(bundle: &[u8]) {
-    say_row(12, 1);
-    show_limits(bundle, TRIM, KERNEL, [0, 1], [0, 1]);
-    say_row(12, 2);
-    show_slice_trimmed(bundle, 0);
-    say_row(12, 3);
-    show_limits(bundle, TRIM, KERNEL, [0, 0], [0, 1]);
-    say_row(12, 4);
-    show_slice(bundle, 0);
-    say_row(12, 5);
-    show_limits(bundle, TRIM, FILTER, [-1, 1], [-1, 1]);
-    say_row(12, 6);
-    show_slice_trimmed(bundle, 50);
-    say_row(12, 6);
-    show_limits(bundle, TRIM, KERNEL, [0, 50], [-1, 1]);
-    say_row(12, 6);
-    show_limits(bundle, TRIM, KERNEL, [-1000, -500], [300, 300]);
+    let trim = [TRIM, KERNEL, 0, 0];
+    let of_filter = [TRIM, FILTER, 0, 0];
+    let slice = [SLICE, KERNEL, 0, 1];
+    let of_slice = [TRIM, STEP_1, 0, 0];
+    let at_0 = [0, 0, 0, 0, 0, 0];
+    let at_50 = [50, 0, 0, 0, 0, 0];
+    let to_1 = [0, 1, 0, 0, 0, 0];
+    show_step(b"table 12 row 1:", bundle, trim, [0, 1, 0, 1, 0, 0]);
+    show_steps(b"table 12 row 2:", bundle, slice, at_0, of_slice, to_1);
+    show_step(b"table 12 row 3:", bundle, trim, [0, 0, 0, 1, 0, 0]);
+    show_step(b"table 12 row 4:", bundle, slice, at_0);
+    show_step(b"table 12 row 5:", bundle, of_filter, [-1, 1, -1, 1, 0, 0]);
+    show_steps(b"table 12 row 6:", bundle, slice, at_50, of_slice, to_1);
+    show_step(b"table 12 row 6:", bundle, trim, [0, 50, -1, 1, 0, 0]);
+    show_step(
+        b"table 12 row 6:",
+        bundle,
+        trim,
+        [-1000, -500, 300, 300, 0, 0],
+    );
 }
 
 fn show_reshapes(bundle: &[u8]) {
-    say_row(13, 1);
-    show_limits(bundle, RESHAPE, KERNEL, [0, 1], [0, 1]);
-    say_row(13, 2);
-    show_limits(bundle, RESHAPE, KERNEL, [0, 2], [0, 1]);
-    say_row(13, 3);
-    show_limits(bundle, RESHAPE, FILTER, [-1, 1], [-1, 1]);
-    say_row(13, 4);
-    show_limits(bundle, RESHAPE, KERNEL, [-2, 2], [-2, 2]);
+    let kernel = [RESHAPE, KERNEL, 0, 0];
+    let filter = [RESHAPE, FILTER, 0, 0];
+    show_step(b"table 13 row 1:", bundle, kernel, [0, 1, 0, 1, 0, 0]);
+    show_step(b"table 13 row 2:", bundle, kernel, [0, 2, 0, 1, 0, 0]);
+    show_step(b"table 13 row 3:", bundle, filter, [-1, 1, -1, 1, 0, 0]);
+    show_step(b"table 13 row 4:", bundle, kernel, [-2, 2, -2, 2, 0, 0]);
 }
 
 // Results have no declared maximum: the shift that the report's row 2 of table 14 refuses is done.
 fn show_moves(bundle: &[u8]) {
-    say_row(14, 1);
-    show_shift(bundle, 1);
-    say_row(14, 2);
-    show_shift(bundle, 1001);
-    say_row(15, 1);
-    show_rename(bundle, b'x', b'y');
-    say_row(15, 2);
-    show_rename(bundle, b'i', b'j');
-    say_row(17, 1);
-    show_glue(bundle, ROW, 1);
-    say_row(17, 2);
-    show_glue(bundle, COLUMN, 2);
+    let shift = [SHIFT, KERNEL, 0, 0];
+    let rename = [RENAME, KERNEL, 0, 0];
+    let no = [0, 0, 0, 0, 0, 0];
+    show_step(b"table 14 row 1:", bundle, shift, [1, 1, 0, 0, 0, 0]);
+    show_step(b"table 14 row 2:", bundle, shift, [1001, 1001, 0, 0, 0, 0]);
+    show_step(
+        b"table 15 row 1:",
+        bundle,
+        rename,
+        [b'x' as i64, 0, b'y' as i64, 0, 0, 0],
+    );
+    show_step(
+        b"table 15 row 2:",
+        bundle,
+        rename,
+        [b'i' as i64, 0, b'j' as i64, 0, 0, 0],
+    );
+    show_step(b"table 17 row 1:", bundle, [GLUE, KERNEL, ROW, 1], no);
+    show_step(b"table 17 row 2:", bundle, [GLUE, KERNEL, COLUMN, 2], no);
 }
 
+// Operators by their numbers: + 1, < 8, <= 9, > 10; negative 1, absolute 2, NOT 3. Table 20's row 1 three times: kernel > 5, 5 < kernel,
+// and NOT (kernel <= 5). Its row 4: the filter is trimmed to the kernel's extent.
 fn show_induced(bundle: &[u8]) {
-    say_row(18, 1);
-    show_single(bundle, 2);
-    say_row(20, 1);
-    show_scalar(bundle, RIGHT, 10, 5);
-    say_row(20, 1);
-    show_scalar(bundle, LEFT, 8, 5);
-    say_row(20, 1);
-    show_not(bundle);
-    say_row(20, 3);
-    show_single(bundle, 1);
-    say_row(20, 4);
-    show_sum(bundle);
+    let single = [SINGLE, KERNEL, 0, 0];
+    let right = [RIGHT, KERNEL, 0, 0];
+    let turned = [SINGLE, STEP_1, 0, 0];
+    let trim = [TRIM, FILTER, 0, 0];
+    let limits = [-1, 1, -1, 1, 0, 0];
+    let sum = [PAIR, KERNEL, STEP_1, 0];
+    let at_most_5 = [9, 5, 0, 0, 0, 0];
+    let not = [3, 0, 0, 0, 0, 0];
+    show_step(b"table 18 row 1:", bundle, single, [2, 0, 0, 0, 0, 0]);
+    show_step(b"table 20 row 1:", bundle, right, [10, 5, 0, 0, 0, 0]);
+    show_step(
+        b"table 20 row 1:",
+        bundle,
+        [LEFT, KERNEL, 0, 0],
+        [8, 5, 0, 0, 0, 0],
+    );
+    show_steps(b"table 20 row 1:", bundle, right, at_most_5, turned, not);
+    show_step(b"table 20 row 3:", bundle, single, [1, 0, 0, 0, 0, 0]);
+    show_steps(
+        b"table 20 row 4:",
+        bundle,
+        trim,
+        limits,
+        sum,
+        [1, 0, 0, 0, 0, 0],
+    );
 }
 
 // The sum of all elements; and of those smaller than 5: a total skips empty cells, so the middle one, byte 92 on, is emptied.
 fn show_aggregates(bundle: &mut [u8; 566]) {
-    say_row(25, 1);
-    show_total(bundle, 1, Total::Sum);
+    show_total(b"table 25 row 1: ", bundle, 1, Total::Sum);
     bundle[92] = 0;
     bundle[93] = 0;
-    say_row(25, 2);
-    show_total(bundle, 1, Total::Sum);
+    show_total(b"table 25 row 2: ", bundle, 1, Total::Sum);
 }
 
 pub fn show() {
     let mut bundle = [0u8; 566];
     pack_kernels(&mut bundle);
     show_kernel(&bundle);
-    show_references(&bundle);
     show_subsets(&bundle);
     show_reshapes(&bundle);
     show_moves(&bundle);

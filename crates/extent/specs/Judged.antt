@@ -11,7 +11,7 @@ use Rattle.paper.specs.Limits.{mostCells}
 use Rattle.paper.specs.Refusals.{if_then_else_}
 use Rattle.paper.specs.Axes.{goodNames, goodLimits, goodExtent, cells, within}
 use Rattle.laws.specs.Tests.{and-left}
-use Rattle.coordinates.specs.Limits.{Sound, extent-true, cells-pos}
+use Rattle.laws.specs.Limits.{Sound, extent-true, cells-pos}
 
 -- the number of cells, 0 where there are too many
 abbrev pub fewCells : List Axis → ℕ

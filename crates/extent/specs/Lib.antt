@@ -2,5 +2,6 @@
 -- by number, and the number of cells as the answer.
 pub mod Rank
 pub mod Tests
+pub mod Meeting
 pub mod Names
 pub mod Judged

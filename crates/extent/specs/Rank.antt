@@ -15,7 +15,7 @@ use Rattle.paper.specs.declared.Extent.{Extent}
 use Rattle.paper.specs.Limits.{mostAxes}
 use Rattle.paper.specs.Axes.{noAxis}
 use Rattle.paper.specs.Answers.{axesOf}
-use Rattle.coordinates.specs.Loops.{drop-first-cons}
+use Rattle.laws.specs.Loops.{drop-first-cons}
 
 -- r is the number of e's axes
 pub record Rank (e : Extent) (r : ℕ) : Type 0 where

@@ -1,22 +1,26 @@
-// An extent judged as the paper does: names, limits, number of cells, inside its maximum. An extent's axes are the first `rank`,
-// never more than there is room for.
+// An extent judged as the paper does: names, limits, number of cells, inside its maximum; and two extents compared, by one loop that is
+// told what is asked of each two axes. An extent's axes are the first `rank`, never more than there is room for.
 ghost use mathlib.Core.Path.{_≡_};
+ghost use mathlib.Core.Bool.{_&&_, _||_};
 ghost use Prim.Native.Nat.{_+_, _-_, _*_, _≤_};
+ghost use lib.Dec.{eqb};
 ghost use lib.ListN.{drop};
 ghost use Rattle.paper.specs.Limits.{mostCells, nameBytes, reach};
 ghost use Rattle.paper.specs.Numbers.{leBytes};
-ghost use Rattle.paper.specs.Axes.{inName, isName, named, goodNames, goodLimits, width, within, axisAt};
+ghost use Rattle.paper.specs.Axes.{inName, isName, sameName, named, goodNames, goodLimits, width, axisWithin, axisAt, onAxis};
+ghost use Rattle.paper.specs.Recipe.{sameLimits, covers};
 ghost use Rattle.paper.specs.Answers.{axesOf};
-ghost use Rattle.coordinates.specs.Limits.{Sound};
+ghost use Rattle.laws.specs.Limits.{Sound};
 ghost use Rattle.extent.specs.Rank.{Rank};
 ghost use Rattle.extent.specs.Judged.{fewCells, goodCells, cellsWithin};
-ghost use Rattle.extent.specs.Tests.{Ranged, inRange, axisWithin};
+ghost use Rattle.extent.specs.Tests.{Ranged, inRange};
+ghost use Rattle.extent.specs.Meeting.{axisCovers, meet, meeting};
 use paper::Axis;
 use paper::AxisIndex;
 use paper::Extent;
 
 // The distance of the highest position, the most cells of an array, and the bytes of a name.
-const TOP: u32 = 2000000;
+pub const TOP: u32 = 2000000;
 
 const CELLS: u64 = 4096;
 
@@ -200,6 +204,41 @@ pub fn good_extent(e: Extent) -> usize
     cells_of(e)
 }
 
+// ---- two extents compared
+
+// What is asked of each two axes: one name; the same limits too; the same but for the axis of an index; that the first lies inside
+// the maximum's, whose limits are in range; that the second lies inside the first.
+pub enum Asked {
+    Names,
+    Limits,
+    OtherLimits(AxisIndex),
+    Within,
+    Covers,
+}
+
+// Both have one name and the same limits.
+fn same_axis(a: Axis, b: Axis) -> bool
+    ensures { λ r. ⌜ r ≡ (sameName a b && sameLimits a b) ⌝ }
+{
+    if a.name != b.name {
+        return false;
+    }
+    if a.lo != b.lo {
+        return false;
+    }
+    a.hi == b.hi
+}
+
+// The same, but the limits don't count on the axis of index k; i is theirs.
+fn same_but(k: AxisIndex, i: usize, a: Axis, b: Axis) -> bool
+    ensures { λ r. ⌜ r ≡ (sameName a b && (eqb i (k .0) || sameLimits a b)) ⌝ }
+{
+    if i == k.0 as usize {
+        return a.name == b.name;
+    }
+    same_axis(a, b)
+}
+
 // The axis lies inside the maximum's, whose limits are in range.
 fn axis_within(a: Axis, m: Axis) -> bool
     ensures { λ r. ⌜ r ≡ axisWithin a m ⌝ }
@@ -213,18 +252,50 @@ fn axis_within(a: Axis, m: Axis) -> bool
     m.hi <= TOP
 }
 
-// The extent lies inside the maximum, whose limits are in range.
-pub fn is_within(e: Extent, maximum: Extent) -> bool
-    ensures { λ r. ⌜ r ≡ within (axesOf e) (axesOf maximum) ⌝ }
+// The position lies inside the axis.
+pub fn on_axis(a: Axis, x: u32) -> bool
+    ensures { λ r. ⌜ r ≡ onAxis a x ⌝ }
 {
-    let rank = rank_of(e);
-    let other = rank_of(maximum);
-    if other != rank {
+    if x < a.lo {
         return false;
     }
-    let mut i = 0;
+    x <= a.hi
+}
+
+// Both limits of the second axis lie on the first.
+fn axis_covers(a: Axis, b: Axis) -> bool
+    ensures { λ r. ⌜ r ≡ axisCovers a b ⌝ }
+{
+    if !on_axis(a, b.lo) {
+        return false;
+    }
+    on_axis(a, b.hi)
+}
+
+// What is asked of two axes of index i, from 1.
+fn axes_meet(asked: Asked, i: usize, a: Axis, b: Axis) -> bool
+    ensures { λ r. ⌜ r ≡ meet asked i a b ⌝ }
+{
+    match asked {
+        Asked::Names => return a.name == b.name,
+        Asked::Limits => return same_axis(a, b),
+        Asked::OtherLimits(k) => return same_but(k, i, a, b),
+        Asked::Within => return axis_within(a, b),
+        Asked::Covers => return axis_covers(a, b),
+    }
+}
+
+// As many axes, and each two as asked.
+pub fn all_meet(asked: Asked, e: Extent, f: Extent) -> bool
+    ensures { λ r. ⌜ r ≡ meeting asked 1 (axesOf e) (axesOf f) ⌝ }
+{
+    let rank = rank_of(e);
+    if rank_of(f) != rank {
+        return false;
+    }
+    let mut i: usize = 0;
     while i < rank {
-        if !axis_within(e.axes[i], maximum.axes[i]) {
+        if !axes_meet(asked, i + 1, e.axes[i], f.axes[i]) {
             return false;
         }
         i += 1;
@@ -232,12 +303,19 @@ pub fn is_within(e: Extent, maximum: Extent) -> bool
     true
 }
 
+// All coordinates of the second extent lie inside the first.
+pub fn covers_all(e: Extent, f: Extent) -> bool
+    ensures { λ r. ⌜ r ≡ covers (axesOf e) (axesOf f) ⌝ }
+{
+    all_meet(Asked::Covers, e, f)
+}
+
 // The number of cells of a good extent that lies inside its maximum, or 0.
 pub fn extent_cells(e: Extent, maximum: Extent) -> usize
     ensures { λ r. ⌜ (r ≡ cellsWithin (axesOf e) (axesOf maximum)) × (r ≤ mostCells) ⌝ }
 {
     let n = good_extent(e);
-    if !is_within(e, maximum) {
+    if !all_meet(Asked::Within, e, maximum) {
         return 0;
     }
     n

@@ -13,8 +13,8 @@ use Rattle.paper.specs.Limits.{mostAxes, mostCells}
 use Rattle.paper.specs.Numbers.{text, from}
 use Rattle.paper.specs.Axes.{width, cells}
 use Rattle.paper.specs.Json.{cellText, jsonText}
-use Rattle.coordinates.specs.Limits.{Sound, cells-pos, cells-drop, sound-drop}
-use Rattle.coordinates.specs.Loops.{drop-first, drop-down}
+use Rattle.laws.specs.Limits.{Sound, cells-pos, cells-drop, sound-drop}
+use Rattle.laws.specs.Loops.{drop-first, drop-down}
 use Rattle.decimal.specs.Digits.{mostSigned, decimal-most}
 use Rattle.json_write.specs.Texts.{comma, items, rowOf, row-length, cellOn, axesOn, brackets-one, brackets-more}
 

@@ -28,7 +28,7 @@ use Rattle.paper.specs.Written.{axis}
 use Rattle.laws.specs.Numbers.{Bytes}
 use Rattle.laws.specs.Cells.{OfKind}
 use Rattle.laws.specs.Parts.{fit-parts}
-use Rattle.coordinates.specs.Limits.{Sound, extent-true}
+use Rattle.laws.specs.Limits.{Sound, extent-true}
 use Rattle.decimal.specs.Digits.{digits-most, digits-fewer}
 use Rattle.roundtrip.specs.Valid.{EachOfKind, Valid}
 use Rattle.json_write.specs.Lengths.{marks, marks-most, cellsLong, long-most, json-long}

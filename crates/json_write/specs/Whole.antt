@@ -25,13 +25,12 @@ use Rattle.paper.specs.Json.{jsonText, written, writeJson}
 use Rattle.laws.specs.Numbers.{Bytes}
 use Rattle.laws.specs.Tests.{and-left, and-right, bind-got, present-got}
 use Rattle.laws.specs.Judged.{orEmpty, cellsFrom}
-use Rattle.coordinates.specs.Limits.{Sound, extent-true}
-use Rattle.extent.specs.Judged.{fewCells}
+use Rattle.laws.specs.Limits.{Sound, extent-true}
 use Rattle.roundtrip.specs.Valid.{Valid, EachValid}
 use Rattle.roundtrip.specs.Reading.{bundle-read}
 use Rattle.bundle.specs.Read.{arrayAt}
 use Rattle.refer.specs.declared.Chosen.{Chosen}
-use Rattle.refer.specs.Chosen.{ChosenHead}
+use Rattle.refer.specs.Chosen.{ChosenHead, its-refusal, its-array}
 use Rattle.json_write.specs.Stores.{Stored, stored-then, stored-as}
 use Rattle.json_write.specs.Texts.{comma, items, rowOf, row-length, cellOn, axesOn, sizeLeft, axisLeft, textLeft, text-one, text-more, size-one, size-more, text-all, size-all}
 use Rattle.json_write.specs.Lengths.{marks, cellsLong, json-long, json-short}
@@ -183,9 +182,6 @@ module _ {bs : List ℕ} {at : ℕ} {E : List Axis} (t : ℕ) (v : Whole bs at E
   pub whole-few : cells E ≤ mostCells
   whole-few = extent-true E (v .good) .1
 
-  pub whole-count : (n : ℕ) → n ≡ fewCells E → n ≡ cells E
-  whole-count n e = e ∙ rw (le-leb (cells E) mostCells whole-few)
-
   json-is : jsonAt bs at t E ≡ jsonText E (map (cellBy bs at t) (from 0 (cells E)))
   json-is = ap (jsonText E) (cells-all bs at t (cells E))
 
@@ -263,25 +259,19 @@ got-both bs k out w n r last e l q s =
     let z : 0 + length w ≡ length w = omega arith in
     (rw (e, q), rw e (s .1 ∙ sets-eq w out 0 (omega arith) ∙ ap (λ (m : ℕ). w ++ drop m out) z))
 
-module _ (bs : List ℕ) (k : ℕ) (c : Chosen) (v : ChosenHead bs k c) (room : ℕ) where
+module _ {bs : List ℕ} {k : ℕ} {c : Chosen} (v : ChosenHead bs k c) (room : ℕ) where
   -- the array's own refusal
   pub own-refusal : (c .refusal .number ≡ 0 → ⊥) → written bs k room ≡ refused (c .refusal)
   unfolding written
-  own-refusal n =
-      let z : eqb (c .refusal .number) 0 ≡ false = ne-eqb (c .refusal .number) 0 n in
-      let q : refused (c .refusal) ≡ chosen bs k = sym (rw z refl) ∙ v .said in
-      rw (← q)
+  own-refusal n = rw (← its-refusal v n)
 
   module _ (y : c .refusal .number ≡ 0) where
-    array-is : got (arrayAt bs (c .head)) ≡ chosen bs k
-    array-is = let z : eqb (c .refusal .number) 0 ≡ true = eq-eqb (c .refusal .number) 0 y in sym (rw z refl) ∙ v .said
-
     abbrev pub itsText : List ℕ
     itsText = jsonAt bs (c .head .at) (c .head .form .kind) (axesOf (c .head .form .extent))
 
     pub float-refused : c .head .form .kind ≡ FLOAT → written bs k room ≡ refused (refusal unfit7 k 0)
     unfolding written arrayAt
-    float-refused e = let z : eqb (c .head .form .kind) FLOAT ≡ true = eq-eqb (c .head .form .kind) FLOAT e in rw (← array-is, z)
+    float-refused e = let z : eqb (c .head .form .kind) FLOAT ≡ true = eq-eqb (c .head .form .kind) FLOAT e in rw (← its-array v y, z)
 
     module _ (f : c .head .form .kind ≡ FLOAT → ⊥) where
       not-float : eqb (c .head .form .kind) FLOAT ≡ false
@@ -289,14 +279,14 @@ module _ (bs : List ℕ) (k : ℕ) (c : Chosen) (v : ChosenHead bs k c) (room : 
 
       pub small-refused : room < length itsText → written bs k room ≡ refused (refusal smallOutput14 0 0)
       unfolding written arrayAt
-      small-refused l = rw (← array-is, not-float, lt-leb (length itsText) room l)
+      small-refused l = rw (← its-array v y, not-float, lt-leb (length itsText) room l)
 
       pub text-got : length itsText ≤ room → written bs k room ≡ got itsText
       unfolding written arrayAt
-      text-got l = rw (← array-is, not-float, le-leb (length itsText) room l)
+      text-got l = rw (← its-array v y, not-float, le-leb (length itsText) room l)
 
     pub its-whole : Bytes bs → Whole bs (c .head .at) (axesOf (c .head .form .extent))
     unfolding arrayAt
     its-whole b =
-        let w = chosen-valid bs k (arrayAt bs (c .head)) b (sym array-is) in
+        let w = chosen-valid bs k (arrayAt bs (c .head)) b (sym (its-array v y)) in
         record { good = w .extent; some = has-axis (arrayAt bs (c .head)) w; rank = few-axes (arrayAt bs (c .head)) w; lies = v .fit y .fits }

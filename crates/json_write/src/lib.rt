@@ -8,7 +8,7 @@ ghost use Rattle.paper.specs.Limits.{mostCells, cellBytes};
 ghost use Rattle.paper.specs.Axes.{cells};
 ghost use Rattle.paper.specs.Answers.{axesOf, jsonSaid};
 ghost use Rattle.paper.specs.Json.{cellText, writeJson};
-ghost use Rattle.coordinates.specs.Limits.{Sound};
+ghost use Rattle.laws.specs.Limits.{Sound};
 ghost use Rattle.json_write.specs.Stores.{Stored};
 ghost use Rattle.json_write.specs.Texts.{comma, axisLeft};
 ghost use Rattle.json_write.specs.Lengths.{marks, cellsLong};
@@ -17,7 +17,6 @@ use decimal::int_length;
 use decimal::put_int;
 use decimal::put_text;
 use extent::axis_of;
-use extent::cells_of;
 use extent::rank_of;
 use extent::width_of;
 use paper::Axis;
@@ -74,12 +73,11 @@ fn cells_length(s: &[u8], from: usize, kind: u8, n: usize) -> usize
     long
 }
 
-// The bytes of the whole text: beside these, `{"data":` and the closing brace.
-fn json_length(s: &[u8], from: usize, kind: u8, extent: Extent) -> usize
-    requires { ⌜ Whole (now s) from (axesOf extent) ⌝ }
+// The bytes of the whole text, with n cells: beside these, `{"data":` and the closing brace.
+fn json_length(s: &[u8], from: usize, kind: u8, extent: Extent, n: usize) -> usize
+    requires { ⌜ Whole (now s) from (axesOf extent) × (n ≡ cells (axesOf extent)) ⌝ }
     ensures { λ r. ⌜ (r ≡ length (jsonAt (now (s .entry)) from kind (axesOf extent))) × (r < 2 ^ 32) ⌝ }
 {
-    let n = cells_of(extent);
     let marks = marks_of(extent) as usize;
     let cells = cells_length(s, from, kind, n);
     9 + marks + cells
@@ -224,7 +222,8 @@ pub fn write(s: &[u8], k: u32, out: &mut [u8]) -> JsonAnswer
     }
     let extent = form.extent;
     let from = head.at;
-    let long = json_length(s, from, kind, extent);
+    let n = head.cells;
+    let long = json_length(s, from, kind, extent, n);
     if out.len() < long {
         return JsonAnswer::Refused(Refusal {
             number: 14,

@@ -1,76 +1,38 @@
 -- The answers of the callable parts: two answers with the same figures are equal, so that a promise about the figures fixes the answer.
 -- A reading is a struct with room for the most arrays and axes: it is fixed where nothing stands past the last of each.
-use mathlib.Core.Path.{_≡_, refl, sym, ap, ap₂, _∙_}
-use mathlib.Core.List.{List, [], _∷_, _++_, map}
 use Prim.Native.Nat.{ℕ, _-_}
+use mathlib.Core.Path.{_≡_, refl, ap, ap₂, _∙_}
+use mathlib.Core.List.{List, [], _∷_, _++_, map}
+use borrow.Author.Tests.{eq-eqb, ne-eqb}
 use lib.ListN.{take, length, replicate, length-map}
 use lib.Seq.{take-at}
-use borrow.Author.Tests.{ne-eqb}
 use Rattle.paper.specs.declared.Axis.{Axis}
 use Rattle.paper.specs.declared.Extent.{Extent}
 use Rattle.paper.specs.declared.Form.{Form}
 use Rattle.paper.specs.declared.Head.{Head}
 use Rattle.paper.specs.declared.Reading.{Reading}
 use Rattle.paper.specs.declared.Refusal.{Refusal}
-use Rattle.paper.specs.declared.PackAnswer.{PackAnswer}
-use Rattle.paper.specs.declared.PackAnswer.the-variants as Pack
-use Rattle.paper.specs.declared.JsonAnswer.{JsonAnswer}
-use Rattle.paper.specs.declared.JsonAnswer.the-variants as Json
-use Rattle.paper.specs.declared.ReferenceAnswer.{ReferenceAnswer}
-use Rattle.paper.specs.declared.ReferenceAnswer.the-variants as Reference
-use Rattle.paper.specs.declared.WalkAnswer.{WalkAnswer}
-use Rattle.paper.specs.declared.WalkAnswer.the-variants as WalkCase
-use Rattle.paper.specs.declared.Walk.{Walk}
-use Rattle.paper.specs.declared.TotalAnswer.{TotalAnswer}
-use Rattle.paper.specs.declared.TotalAnswer.the-variants as Total
-use Rattle.paper.specs.declared.RunAnswer.{RunAnswer}
-use Rattle.paper.specs.declared.RunAnswer.the-variants as Run
-use Rattle.paper.specs.declared.PageAnswer.{PageAnswer}
-use Rattle.paper.specs.declared.PageAnswer.the-variants as Page
-use Rattle.paper.specs.declared.StretchAnswer.{StretchAnswer}
-use Rattle.paper.specs.declared.StretchAnswer.the-variants as Stretch
 use Rattle.paper.specs.Limits.{mostAxes, mostArrays}
 use Rattle.paper.specs.Refusals.{Res, got, refused, refusal}
-use Rattle.paper.specs.Axes.{noAxis, Shape, shaped}
-use Rattle.paper.specs.Reference.{Walked}
-use Rattle.paper.specs.Answers.{axesOf, extentOf, shapeOf, readSaid, packSaid, referenceSaid, seenSaid, walkSaid, totalSaid, runSaid, pageSaid, stretchSaid, jsonSaid}
+use Rattle.paper.specs.Axes.{cells, noAxis, Shape, shaped}
+use Rattle.paper.specs.Answers.{axesOf, extentOf, shapeOf, unless, readSaid}
+use Rattle.paper.specs.declared.PackAnswer.the-variants as Pack
+use Rattle.paper.specs.declared.JsonAnswer.the-variants as Json
+use Rattle.paper.specs.declared.ReferenceAnswer.the-variants as Reference
+use Rattle.paper.specs.declared.WalkAnswer.the-variants as WalkCase
+use Rattle.paper.specs.declared.TotalAnswer.the-variants as Total
+use Rattle.paper.specs.declared.RunAnswer.the-variants as Run
+use Rattle.paper.specs.declared.PageAnswer.the-variants as Page
+use Rattle.paper.specs.declared.StretchAnswer.the-variants as Stretch
 
--- ---- answers that are enums
+-- ---- answers that are structs: number 0 stands for no refusal
 
--- an answer that its figures give back is fixed by them
-fixed : {A X : Type 0} (said : A → Res X) (back : Res X → A) → ((a : A) → back (said a) ≡ a) → (a b : A) → said a ≡ said b → a ≡ b
-fixed said back h a b e = sym (h a) ∙ ap back e ∙ h b
+module _ {A : Type 0} (x : Refusal) (a : A) where
+  pub unless-refused : (x .number ≡ 0 → ⊥) → unless x a ≡ refused x
+  unless-refused h = rw (ne-eqb (x .number) 0 h)
 
-pub pack-one : (a b : PackAnswer) → packSaid a ≡ packSaid b → a ≡ b
-pack-one = fixed packSaid (λ m. elim m [ got x ↦ Pack.Got x | refused r ↦ Pack.Refused r ]) (λ a. elim a [ Pack.Got x ↦ refl | Pack.Refused r ↦ refl ])
-
-pub json-one : (a b : JsonAnswer) → jsonSaid a ≡ jsonSaid b → a ≡ b
-json-one = fixed jsonSaid (λ m. elim m [ got x ↦ Json.Got x | refused r ↦ Json.Refused r ]) (λ a. elim a [ Json.Got x ↦ refl | Json.Refused r ↦ refl ])
-
-pub reference-one : (a b : ReferenceAnswer) → referenceSaid a ≡ referenceSaid b → a ≡ b
-reference-one = fixed referenceSaid (λ m. elim m [ got x ↦ Reference.Got x | refused r ↦ Reference.Refused r ]) (λ a. elim a [ Reference.Got x ↦ refl | Reference.Refused r ↦ refl ])
-
-seen-one : (a b : WalkAnswer) → seenSaid a ≡ seenSaid b → a ≡ b
-seen-one = fixed seenSaid (λ m. elim m [ got x ↦ WalkCase.Got x | refused r ↦ WalkCase.Refused r ]) (λ a. elim a [ WalkCase.Got x ↦ refl | WalkCase.Refused r ↦ refl ])
-
--- a walk's answer and the walking place after it
-pub walk-one : (a b : Walk) → walkSaid a ≡ walkSaid b → a ≡ b
-walk-one a b e =
-    let p = seen-one (a .answer) (b .answer) (ap (λ (w : Walked). w .answer) e) in
-    let q : a .place .0 ≡ b .place .0 = ap (λ (w : Walked). w .place) e in
-    λ i. record { answer = p i; place = record { 0 = q i } }
-
-pub total-one : (a b : TotalAnswer) → totalSaid a ≡ totalSaid b → a ≡ b
-total-one = fixed totalSaid (λ m. elim m [ got x ↦ Total.Got x | refused r ↦ Total.Refused r ]) (λ a. elim a [ Total.Got x ↦ refl | Total.Refused r ↦ refl ])
-
-pub run-one : (a b : RunAnswer) → runSaid a ≡ runSaid b → a ≡ b
-run-one = fixed runSaid (λ m. elim m [ got x ↦ Run.Got x | refused r ↦ Run.Refused r ]) (λ a. elim a [ Run.Got x ↦ refl | Run.Refused r ↦ refl ])
-
-pub page-one : (a b : PageAnswer) → pageSaid a ≡ pageSaid b → a ≡ b
-page-one = fixed pageSaid (λ m. elim m [ got x ↦ Page.Got x | refused r ↦ Page.Refused r ]) (λ a. elim a [ Page.Got x ↦ refl | Page.Refused r ↦ refl ])
-
-pub stretch-one : (a b : StretchAnswer) → stretchSaid a ≡ stretchSaid b → a ≡ b
-stretch-one = fixed stretchSaid (λ m. elim m [ got x ↦ Stretch.Got x | refused r ↦ Stretch.Refused r ]) (λ a. elim a [ Stretch.Got x ↦ refl | Stretch.Refused r ↦ refl ])
+  pub unless-got : x .number ≡ 0 → unless x a ≡ got a
+  unless-got h = rw (eq-eqb (x .number) 0 h)
 
 -- ---- extents and readings
 
@@ -81,9 +43,6 @@ extent-axes E = take-at E (replicate (mostAxes - length E) noAxis) (length E) re
 -- nothing stands past the last axis
 abbrev pub TidyExtent : Extent → Type 0
 TidyExtent e = e ≡ extentOf (axesOf e)
-
-pub extent-one : (e f : Extent) → TidyExtent e → TidyExtent f → axesOf e ≡ axesOf f → e ≡ f
-extent-one e f h k q = h ∙ ap extentOf q ∙ sym k
 
 -- the form of a shape, and the head and the reading that say what was read, with nothing past the last
 abbrev pub formOf : Shape → Form
@@ -96,10 +55,11 @@ form-shape s =
     λ i. record { type = s .type; axes = p i; maximum = q i }
 
 abbrev pub headOf : Shape × ℕ → Head
-headOf x = record { form = formOf (x .0); at = x .1 }
+headOf x = record { form = formOf (x .0); at = x .1; cells = cells (x .0 .axes) }
 
+-- of no array, with no cell
 abbrev pub noHead : Head
-noHead = headOf (shaped 0 [] [], 0)
+noHead = record { form = formOf (shaped 0 [] []); at = 0; cells = 0 }
 
 abbrev pub readingOf : Res (List (Shape × ℕ)) → Reading
 readingOf (got l) = record { refusal = refusal 0 0 0; count = length l; heads = map headOf l ++ replicate (mostArrays - length l) noHead }
@@ -117,8 +77,4 @@ reading-got l =
 
 -- or the refusal, whose number is never 0
 pub reading-refused : (r : Refusal) → (r .number ≡ 0 → ⊥) → readSaid (readingOf (refused r)) ≡ refused r
-reading-refused r h = rw (ne-eqb (r .number) 0 h)
-
--- so a reading with nothing past the last is fixed by its figures
-pub reading-one : (r s : Reading) → r ≡ readingOf (readSaid r) → s ≡ readingOf (readSaid s) → readSaid r ≡ readSaid s → r ≡ s
-reading-one r s h k q = h ∙ ap readingOf q ∙ sym k
+reading-refused r h = unless-refused r _ h

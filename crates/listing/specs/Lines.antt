@@ -9,8 +9,8 @@ use lib.Seq.{take-take, getD-take}
 use Rattle.paper.specs.declared.Axis.{Axis}
 use Rattle.paper.specs.Limits.{reach, mostAxes}
 use Rattle.paper.specs.Axes.{cells, noAxis, axisAt, offset, ordinality, atOffset, coordinate}
-use Rattle.coordinates.specs.Joins.{inside-axis}
-use Rattle.coordinates.specs.Places.{Inside, coordinate-inside, coordinate-ordinality, offset-atOffset}
+use Rattle.laws.specs.Joins.{inside-axis}
+use Rattle.laws.specs.Places.{Inside, coordinate-inside, coordinate-ordinality, offset-atOffset}
 
 -- the positions of p on the axes before the last, and x on the last
 unfoldable pub withLast : ℕ → List ℕ → ℕ → List ℕ

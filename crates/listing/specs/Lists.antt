@@ -23,8 +23,8 @@ use Rattle.paper.specs.Cells.{cellOf, isTrue, trues}
 use Rattle.paper.specs.Listing.{rowBytes, row, listed, goOn, Paged, pageOf}
 use Rattle.laws.specs.Judged.{orEmpty, cellsFrom, cell-no, length-cells}
 use Rattle.extent.specs.Judged.{Small}
-use Rattle.pages.specs.Rows.{concat-map, rowsOf, length-rows}
-use Rattle.pages.specs.Pages.{trues-yes, trues-no}
+use Rattle.laws.specs.Rows.{concat-map, rowsOf, length-rows}
+use Rattle.laws.specs.Pages.{trues-yes, trues-no}
 
 -- what was tested before: the extent is good, its n cells lie in the bytes, the start is in range, a row has room
 pub record Listable (E : List Axis) (at n start : ℕ) (work rows : List ℕ) : Type 0 where

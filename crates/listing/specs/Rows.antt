@@ -20,9 +20,9 @@ use Rattle.paper.specs.Axes.{coordinate, result}
 use Rattle.paper.specs.Cells.{filled, cellFrom, cellOf, isTruth, isTrue}
 use Rattle.paper.specs.Listing.{row}
 use Rattle.laws.specs.Judged.{orEmpty}
-use Rattle.coordinates.specs.Fill.{paste-paste}
+use Rattle.laws.specs.Fill.{paste-paste}
 use Rattle.cell.proofs.Runs.{run-cons}
-use Rattle.pages.specs.Rows.{concat-length, concat-at, concat-map}
+use Rattle.laws.specs.Rows.{concat-length, concat-at, concat-map}
 
 -- ---- TRUE
 

@@ -17,11 +17,11 @@ use Rattle.paper.specs.Numbers.{part, positionAt}
 use Rattle.paper.specs.Axes.{width, cells, sameName, noAxis, axisAt, onAxis, without, shaped}
 use Rattle.paper.specs.Recipe.{Step, uses, axisIn, agree, fitsIn, resultOf, withLimits}
 use Rattle.laws.specs.Tests.{and-left, and-right}
-use Rattle.coordinates.specs.Places.{onAxis-true}
-use Rattle.coordinates.specs.Limits.{sound-at}
-use Rattle.coordinates.specs.Alike.{alike-length}
-use Rattle.coordinates.specs.Joins.{cells-without, sound-without}
-use Rattle.coordinates.specs.Glue.{gluable}
+use Rattle.laws.specs.Places.{onAxis-true}
+use Rattle.laws.specs.Limits.{sound-at}
+use Rattle.laws.specs.Alike.{alike-length}
+use Rattle.laws.specs.Joins.{cells-without, sound-without}
+use Rattle.laws.specs.Glue.{gluable}
 use Rattle.extent.specs.Judged.{Small}
 use Rattle.shape.specs.Renewed.{length-renewed}
 use Rattle.shape.specs.declared.Change.the-variants.{Limits}

@@ -12,9 +12,9 @@ use lib.Seq.{getD-at}
 use Rattle.paper.specs.declared.Axis.{Axis}
 use Rattle.paper.specs.Refusals.{if_then_else_}
 use Rattle.paper.specs.Axes.{cells, offset, atOffset, axisAt, without, putIn}
-use Rattle.coordinates.specs.Places.{right-pos, offset-atOffset, atOffset-inside, inside-length}
-use Rattle.coordinates.specs.Joins.{cells-append, offset-append, atOffset-append, axes-at, drop-index, length-before, without-at, putIn-at}
-use Rattle.coordinates.specs.Glue.{turn, inTurn, blockCells}
+use Rattle.laws.specs.Places.{right-pos, offset-atOffset, atOffset-inside, inside-length}
+use Rattle.laws.specs.Joins.{cells-append, offset-append, atOffset-append, axes-at, drop-index, length-before, without-at, putIn-at}
+use Rattle.laws.specs.Glue.{turn, inTurn, blockCells}
 use Rattle.origin.specs.declared.Origin.{Origin}
 use Rattle.origin.specs.declared.Origin.the-variants.{FromA, FromB}
 use Rattle.origin.specs.Origins.{lyingIn, overA}

@@ -20,11 +20,11 @@ use Rattle.paper.specs.Numbers.{positionAt}
 use Rattle.paper.specs.Axes.{cells, atOffset, axisAt, without, putIn, Array, at}
 use Rattle.paper.specs.Recipe.{Step, uses, resultOf, glued, renamed, shifted}
 use Rattle.paper.specs.Values.{shiftedBack, overlaid, inSecond, gluedCell, cellAt}
-use Rattle.coordinates.specs.Places.{Inside, offset-lt, offset-atOffset, atOffset-inside}
-use Rattle.coordinates.specs.Limits.{Sound}
-use Rattle.coordinates.specs.Alike.{alike-renamed, cells-alike, atOffset-alike}
-use Rattle.coordinates.specs.Joins.{inside-putIn}
-use Rattle.coordinates.specs.Glue.{Gluable, gluable, turn, inTurn, byTurns, blockCells, glued-side, glued-left, glued-right, glued-first, glued-second, gluedCell-at}
+use Rattle.laws.specs.Places.{Inside, offset-lt, offset-atOffset, atOffset-inside}
+use Rattle.laws.specs.Limits.{Sound}
+use Rattle.laws.specs.Alike.{alike-renamed, cells-alike, atOffset-alike}
+use Rattle.laws.specs.Joins.{inside-putIn}
+use Rattle.laws.specs.Glue.{Gluable, gluable, turn, inTurn, byTurns, blockCells, glued-side, glued-left, glued-right, glued-first, glued-second, gluedCell-at}
 use Rattle.origin.specs.declared.Origin.{Origin}
 use Rattle.origin.specs.declared.Origin.the-variants.{FromA, FromB}
 use Rattle.origin.specs.Origins.{moves, Moving, originCell, inArray, cellsOfB, Comes, lyingIn, inA, overA, at-in, at-lying, lies-in, lies-over, overlaid-lying}

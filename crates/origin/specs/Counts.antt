@@ -14,8 +14,8 @@ use Rattle.paper.specs.Limits.{reach, mostCells}
 use Rattle.paper.specs.Axes.{inside, offset, ordinality, atOffset, coordinate, noAxis, axisAt, without}
 use Rattle.paper.specs.Answers.{axesOf, extentOf}
 use Rattle.laws.specs.Answers.{extent-axes}
-use Rattle.coordinates.specs.Limits.{sound-at}
-use Rattle.coordinates.specs.Glue.{turn, inTurn, blockCells}
+use Rattle.laws.specs.Limits.{sound-at}
+use Rattle.laws.specs.Glue.{turn, inTurn, blockCells}
 use Rattle.place.specs.declared.Coordinate.{Coordinate}
 use Rattle.place.specs.Positions.{positionsOf}
 use Rattle.origin.specs.declared.Origin.{Origin}

@@ -15,8 +15,8 @@ use Rattle.paper.specs.Refusals.{if_then_else_}
 use Rattle.paper.specs.Axes.{cells, inside, offset, atOffset, Array, at, shaped}
 use Rattle.paper.specs.Recipe.{Step, uses, axisIn, agree, fitsIn, resultOf}
 use Rattle.paper.specs.Values.{overlaid, cellAt}
-use Rattle.coordinates.specs.Places.{Inside, inside-true, offset-lt}
-use Rattle.coordinates.specs.Arrays.{at-inside, at-outside}
+use Rattle.laws.specs.Places.{Inside, inside-true, offset-lt}
+use Rattle.laws.specs.Arrays.{at-inside, at-outside}
 use Rattle.extent.specs.Judged.{Small}
 use Rattle.origin.specs.declared.Origin.{Origin}
 use Rattle.origin.specs.declared.Origin.the-variants.{Nowhere, FromA, FromB}

@@ -15,8 +15,8 @@ use Rattle.paper.specs.Recipe.{eachAnew, shifted}
 use Rattle.paper.specs.Values.{shiftedBack}
 use Rattle.laws.specs.Parts.{up, dn, add-parts, minus-parts}
 use Rattle.laws.specs.Positions.{position-parts, distance-from, position-back}
-use Rattle.coordinates.specs.Limits.{Sound}
-use Rattle.coordinates.specs.Places.{right-pos}
+use Rattle.laws.specs.Limits.{Sound}
+use Rattle.laws.specs.Places.{right-pos}
 
 -- a position moved to one in range is moved by the amount
 moved-by : (d : ℕ) (z : ℤ) → moved d z ≤ 2 * reach → moved d z + dn z ≡ d + up z

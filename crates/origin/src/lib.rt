@@ -6,7 +6,7 @@ ghost use lib.ListN.{drop};
 ghost use Rattle.paper.specs.Limits.{mostCells, detailBytes};
 ghost use Rattle.paper.specs.Axes.{cells, atOffset};
 ghost use Rattle.paper.specs.Answers.{axesOf};
-ghost use Rattle.coordinates.specs.Glue.{blockCells};
+ghost use Rattle.laws.specs.Glue.{blockCells};
 ghost use Rattle.positions.specs.Runs.{Holds};
 ghost use Rattle.step.specs.Steps.{stepIn};
 ghost use Rattle.origin.specs.Origins.{Moving, Comes, lyingIn, inA, overA};

@@ -5,8 +5,8 @@ use mathlib.Core.Bool.{Bool, true, false, _&&_}
 use mathlib.Core.List.{List, [], _∷_, _++_, map}
 use native.Mathlib.Numerals.{add-one}
 use native.Mathlib.Omega.{arith}
-use borrow.Author.Tests.{ne-eqb, lt-leb, leb-true}
-use lib.Dec.{eqb, leb}
+use borrow.Author.Tests.{ne-eqb, lt-leb}
+use lib.Dec.{leb}
 use lib.ListN.{length, getD, take, drop, length-append, length-drop, drop-of-length-le}
 use lib.Seq.{drop-drop, length-take-le}
 use Rattle.paper.specs.declared.Axis.{Axis}
@@ -15,17 +15,18 @@ use Rattle.paper.specs.declared.Refusal.{Refusal}
 use Rattle.paper.specs.Limits.{mostArrays, mostAxes, axisBytes, typeBytes}
 use Rattle.paper.specs.Refusals.{Res, got, refused, _>>=_, _>>_, refusal, ensure, between, badBytes1, badExtent2}
 use Rattle.paper.specs.Numbers.{none?}
-use Rattle.paper.specs.Axes.{goodExtent, within, Shape, Array}
+use Rattle.paper.specs.Axes.{goodExtent, alike, within, Shape, Array}
 use Rattle.paper.specs.Cells.{isType}
 use Rattle.paper.specs.Bundle.{markBytes, arrayOf, packArrays, packed}
 use Rattle.paper.specs.Answers.{axesOf, shapeOf}
-use Rattle.laws.specs.Tests.{and-right}
-use Rattle.coordinates.specs.Loops.{length-first, drop-first-cons}
+use Rattle.laws.specs.Answers.{unless-refused}
+use Rattle.laws.specs.Loops.{length-first, drop-first-cons}
 use Rattle.bundle.specs.declared.One.{One}
-use Rattle.bundle.specs.Read.{Fit, JudgedArray}
+use Rattle.bundle.specs.Read.{cellsIn, Fit, JudgedArray}
+use Rattle.bundle.specs.Whole.{range-le}
 use Rattle.pack.specs.declared.judge.Step.{Step}
 use Rattle.pack.specs.declared.judge.Verdict.{Verdict}
-use Rattle.pack.specs.Laid.{heldAxes, heldShape, held-whole, held-count, shapesOf, shapes-length, shapes-few, cellRoom, formBytes, mostBytes, Ready, ready-of, ready-few, ready-long, AllReady, laidBytes, restOf, packed-left}
+use Rattle.pack.specs.Laid.{heldAxes, heldShape, held-whole, held-count, shapesOf, shapes-length, shapes-few, cellRoom, formBytes, mostBytes, Ready, ready-of, ready-small, ready-long, AllReady, laidBytes, restOf, packed-left}
 
 -- ---- one form
 
@@ -63,12 +64,9 @@ form-refused bs from k form r x e h q =
       room = omega (arith, ap (λ (o : Step). o .end) e);
     }
 
-pub few-axes : (n : ℕ) → between 1 mostAxes n ≡ true → n ≤ mostAxes
-few-axes n e = leb-true n mostAxes (and-right (leb 1 n) (leb n mostAxes) e)
-
 -- axes do not lie inside a maximum that has none
 none-within : (E : List Axis) → between 1 mostAxes (length E) ≡ true → (goodExtent E && within E []) ≡ false
-unfolding within
+unfolding alike
 none-within [] e =
     let f : false ≡ true = e in
     let z : _≡_ {A = ℕ} 0 1 = cc in
@@ -100,10 +98,10 @@ module _ (bs : List ℕ) (from k : ℕ) (form : Form) where
 
       module _ (h : form .maximum .rank ≤ mostAxes) (o : One) (j : JudgedArray bs from k form o) where
         whole : heldShape form ≡ shapeOf form
-        whole = held-whole form (few-axes (form .extent .rank) b) h
+        whole = held-whole form (range-le mostAxes (form .extent .rank) b) h
 
         rank-is : length (axesOf (form .extent)) ≡ form .extent .rank
-        rank-is = length-take-le (form .extent .rank) (form .extent .axes) (omega (arith, few-axes (form .extent .rank) b, l))
+        rank-is = length-take-le (form .extent .rank) (form .extent .axes) (omega (arith, range-le mostAxes (form .extent .rank) b, l))
 
         counted : between 1 mostAxes (length (axesOf (form .extent))) ≡ true
         counted = ap (between 1 mostAxes) rank-is ∙ b
@@ -113,12 +111,12 @@ module _ (bs : List ℕ) (from k : ℕ) (form : Form) where
         form-array = rw (whole, t, counted)
 
         pub form-bad : (o .refusal .number ≡ 0 → ⊥) → packForm k (heldShape form) (drop from bs) ≡ refused (o .refusal)
-        form-bad f = let g : eqb (o .refusal .number) 0 ≡ false = ne-eqb _ _ f in form-array ∙ sym (j .said) ∙ rw g
+        form-bad f = form-array ∙ sym (j .said) ∙ unless-refused (o .refusal) _ f
 
         module _ (w : from ≤ length bs) (z : o .refusal .number ≡ 0) where
           form-ready : Ready form (drop from bs)
           form-ready =
-              let f : Fit bs (record { form = form; at = from }) = subst (Fit bs) (j .held z) (j .fit z) in
+              let f : Fit bs (record { form = form; at = from; cells = cellsIn form }) = subst (Fit bs) (j .held z) (j .fit z) in
               record { whole = whole; type = t; rank = counted; good = f .good; fits = omega (arith, length-drop from bs, f .fits); clean = f .clean }
 
           pub form-got : (r : Step) → r ≡ record { refusal = o .refusal; end = o .end; long = typeBytes + form .extent .rank * axisBytes + (o .end - from) }
@@ -126,14 +124,14 @@ module _ (bs : List ℕ) (from k : ℕ) (form : Form) where
           form-got r e =
               let v = form-ready in
               let p = j .past z in
-              let m = few-axes (form .extent .rank) b in
+              let m = range-le mostAxes (form .extent .rank) b in
               let w : r .long ≡ typeBytes + form .extent .rank * axisBytes + (o .end - from) = ap (λ (y : Step). y .long) e in
               record {
                 no = λ f. absurd (f (ap (λ (y : Step). y .refusal .number) e ∙ z));
                 ready = λ f. v;
                 end = λ f. ap (λ (y : Step). y .end) e ∙ p;
                 long = λ f. omega (arith, rank-is, ready-long form (drop from bs) v);
-                few = omega (arith, ready-few form (drop from bs) v);
+                few = omega (arith, ready-small form (drop from bs) v .few);
                 room = omega (arith, ap (λ (y : Step). y .end) e, j .end);
               }
 
@@ -165,7 +163,7 @@ pub record Judging (fs : List Form) (bs : List ℕ) (at long i : ℕ) : Type 0 w
 pub judging-start : (fs : List Form) (bs : List ℕ) → Judging fs bs 0 (markBytes + 1) 0
 judging-start fs bs = record { turns = omega arith; few = omega arith; room = omega arith; no = λ x e. e; ready = λ v. v; rest = refl; size = refl }
 
-module _ (fs : List Form) (bs : List ℕ) (at long i : ℕ) (v : Judging fs bs at long i) (f : Form) (e : drop i fs ≡ f ∷ drop (i + 1) fs) (r : Step)
+module _ {fs : List Form} {bs : List ℕ} {at long i : ℕ} (v : Judging fs bs at long i) {f : Form} (e : drop i fs ≡ f ∷ drop (i + 1) fs) {r : Step}
     (j : JudgedForm bs at (i + 1) f r) where
   pub judging-refused : (r .refusal .number ≡ 0 → ⊥) → packArrays 1 (map heldShape fs) bs ≡ refused (r .refusal)
   judging-refused h =
@@ -228,7 +226,7 @@ module _ (count : ℕ) (forms : List Form) (bs : List ℕ) where
 
   module _ (b : between 1 mostArrays count ≡ true) (l : length forms ≡ mostArrays) where
     pub count-few : count ≤ length forms
-    count-few = omega (arith, leb-true count mostArrays (and-right (leb 1 count) (leb count mostArrays) b))
+    count-few = omega (arith, range-le mostArrays count b)
 
     pub count-first : length (take count forms) ≡ count
     count-first = length-first forms count count-few
@@ -240,7 +238,7 @@ module _ (count : ℕ) (forms : List Form) (bs : List ℕ) where
     unfolding packed
     all-bad x e room = rw (shapes-length count forms, b, shapes-few count forms count-few, e)
 
-    module _ (at long i : ℕ) (v : Judging (take count forms) bs at long i) (h : count ≤ i) where
+    module _ {at long i : ℕ} (v : Judging (take count forms) bs at long i) (h : count ≤ i) where
       none-left : drop i (take count forms) ≡ []
       none-left = drop-of-length-le (take count forms) {i = i} (omega (arith, count-first))
 

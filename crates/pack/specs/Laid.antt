@@ -17,7 +17,7 @@ use Rattle.paper.specs.declared.Form.{Form}
 use Rattle.paper.specs.Limits.{mostArrays, mostAxes, mostCells, axisBytes, typeBytes, cellBytes}
 use Rattle.paper.specs.Refusals.{got, refused, _>>_, if_then_else_, refusal, ensure, between, badBytes1, smallOutput14}
 use Rattle.paper.specs.Numbers.{concat, none?}
-use Rattle.paper.specs.Axes.{cells, goodExtent, within, Shape, Array, shaped}
+use Rattle.paper.specs.Axes.{cells, goodExtent, axisWithin, within, Shape, Array, shaped}
 use Rattle.paper.specs.Cells.{isType, cellOf, cellsBytes}
 use Rattle.paper.specs.Bundle.{mark, arrayOf, axesBytes, arrayBytes, bundleBytes, packArrays, packed}
 use Rattle.paper.specs.Answers.{axesOf, shapeOf}
@@ -26,8 +26,8 @@ use Rattle.laws.specs.Cells.{bytes-back}
 use Rattle.laws.specs.Judged.{is?, orEmpty, firstBad, cellsFrom, cells-judged}
 use Rattle.laws.specs.Numbers.{Bytes, bytes-take, bytes-drop}
 use Rattle.laws.specs.Tests.{and-left, and-right}
-use Rattle.extent.specs.Judged.{good-small}
-use Rattle.extent.specs.Tests.{within-other}
+use Rattle.extent.specs.Judged.{Small, good-small}
+use Rattle.laws.specs.Alike.{alike-length}
 use Rattle.bundle.specs.Read.{cellsIn}
 use Rattle.pack.specs.Put.{axes-length}
 
@@ -95,14 +95,7 @@ pub record Ready (f : Form) (bs : List ℕ) : Type 0 where
   pub clean : firstBad (f .kind) 1 (cellsIn f) bs ≡ 0
 
 pub within-alike : (E M : List Axis) → within E M ≡ true → length M ≡ length E
-within-alike E M e = by (eqb (length M) (length E)) refl
-  where
-    by : (b : Bool) → eqb (length M) (length E) ≡ b → length M ≡ length E
-    by true q = eqb-true (length M) (length E) q
-    by false q =
-        let f : false ≡ true = within-other E M (eqb-false (length M) (length E) q) ∙ e in
-        let z : _≡_ {A = ℕ} 0 1 = cc in
-        absurd (omega arith)
+within-alike E M e = sym (alike-length axisWithin E M e)
 
 -- cells judged, written again, are their bytes
 first-one : (c : Option Cell) (x o : ℕ) → 0 < o → (if is? c then x else o) ≡ 0 → (c ≡ some (orEmpty c)) × (x ≡ 0)
@@ -135,8 +128,8 @@ module _ (f : Form) (bs : List ℕ) (v : Ready f bs) where
   pub ready-alike : length M ≡ length E
   ready-alike = within-alike E M (and-right (goodExtent E) (within E M) (v .good))
 
-  pub ready-few : cellsIn f ≤ mostCells
-  ready-few = good-small E (and-left (goodExtent E) (within E M) (v .good)) .few
+  pub ready-small : Small E
+  ready-small = good-small E (and-left (goodExtent E) (within E M) (v .good))
 
   pub ready-long : length (formBytes f bs) ≡ typeBytes + length E * axisBytes + cellRoom f
   ready-long = omega (arith, length-append (axesBytes E M) (take (cellRoom f) bs), axes-length E M ready-alike, length-take-le (cellRoom f) bs (v .fits))

@@ -13,21 +13,22 @@ use Rattle.paper.specs.declared.Form.{Form}
 use Rattle.paper.specs.declared.Refusal.{Refusal}
 use Rattle.paper.specs.declared.PackAnswer.{PackAnswer}
 use Rattle.paper.specs.declared.PackAnswer.the-variants.{Got, Refused}
-use Rattle.paper.specs.Limits.{mostArrays, axisBytes, typeBytes, cellBytes}
+use Rattle.paper.specs.Limits.{mostArrays, mostCells, axisBytes, typeBytes, cellBytes}
 use Rattle.paper.specs.Refusals.{got, refused, refusal, between, smallOutput14}
 use Rattle.paper.specs.Numbers.{part}
 use Rattle.paper.specs.Axes.{Shape}
 use Rattle.paper.specs.Bundle.{mark, markBytes, axesBytes, packed, packInto, pack}
 use Rattle.paper.specs.Answers.{axesOf, packSaid}
 use Rattle.laws.specs.Numbers.{Bytes}
-use Rattle.laws.specs.Tests.{and-left, and-right}
-use Rattle.extent.specs.Judged.{cellsWithin}
+use Rattle.laws.specs.Tests.{and-left}
+use Rattle.extent.specs.Judged.{fewCells}
 use Rattle.bundle.specs.Read.{cellsIn}
+use Rattle.bundle.specs.Whole.{range-le}
 use Rattle.pack.specs.declared.judge.Verdict.{Verdict}
 use Rattle.pack.specs.declared.put.Ends.{Ends}
 use Rattle.laws.specs.Put.{put, put-none, put-byte, length-put, after}
 use Rattle.pack.specs.Put.{axes-length}
-use Rattle.pack.specs.Laid.{shapesOf, cellRoom, formBytes, Ready, ready-alike, ready-long, AllReady, laidBytes, bundleOf, packed-ready}
+use Rattle.pack.specs.Laid.{shapesOf, cellRoom, formBytes, Ready, ready-small, ready-alike, ready-long, AllReady, laidBytes, bundleOf, packed-ready}
 use Rattle.pack.specs.Judging.{JudgedAll}
 
 -- ---- an array
@@ -44,13 +45,13 @@ pub record ArrayPut (form : Form) (bs : List ℕ) (from : ℕ) (d : List ℕ) (a
   pub cells : r .from ≡ from + cellRoom form
   pub next : r .at ≡ at + length (formBytes form (drop from bs))
 
-module _ (form : Form) (bs : List ℕ) (from : ℕ) (d : List ℕ) (at : ℕ) (q : ArrayRoom form bs from d at) (n : ℕ) (en : n ≡ length (axesOf (form .extent)))
-    (m : ℕ) (em : m ≡ cellsWithin (axesOf (form .extent)) (axesOf (form .maximum))) where
+module _ {form : Form} {bs : List ℕ} {from : ℕ} {d : List ℕ} {at : ℕ} (q : ArrayRoom form bs from d at) {n : ℕ} (en : n ≡ length (axesOf (form .extent)))
+    {m : ℕ} (em : m ≡ fewCells (axesOf (form .extent))) where
   abbrev axes : List ℕ
   axes = axesBytes (axesOf (form .extent)) (axesOf (form .maximum))
 
   pub its-cells : m ≡ cellsIn form
-  its-cells = em ∙ rw (q .ready .good)
+  its-cells = em ∙ rw (le-leb (cellsIn form) mostCells (ready-small form (drop from bs) (q .ready) .few))
 
   pub its-long : length (formBytes form (drop from bs)) ≡ typeBytes + n * axisBytes + m * cellBytes
   its-long = omega (arith, ready-long form (drop from bs) (q .ready), its-cells)
@@ -102,8 +103,8 @@ pub record Laying (fs : List Form) (bs d₀ d : List ℕ) (from at i : ℕ) : Ty
 pub laying-start : (fs : List Form) (bs d : List ℕ) → AllReady fs bs → markBytes + 1 + length (laidBytes fs bs) ≤ length d → Laying fs bs d d 0 (markBytes + 1) 0
 laying-start fs bs d v h = record { turns = omega arith; long = refl; start = omega arith; ready = v; room = h; left = refl }
 
-module _ (fs : List Form) (bs d₀ d : List ℕ) (from at i : ℕ) (v : Laying fs bs d₀ d from at i) where
-  module _ (f : Form) (e : drop i fs ≡ f ∷ drop (i + 1) fs) where
+module _ {fs : List Form} {bs d₀ d : List ℕ} {from at i : ℕ} (v : Laying fs bs d₀ d from at i) where
+  module _ {f : Form} (e : drop i fs ≡ f ∷ drop (i + 1) fs) where
     parted : laidBytes (drop i fs) (drop from bs) ≡ formBytes f (drop from bs) ++ laidBytes (drop (i + 1) fs) (drop (from + cellRoom f) bs)
     unfolding laidBytes
     parted = rw (e, drop-drop (cellRoom f) from bs)
@@ -140,7 +141,7 @@ module _ (fs : List Form) (bs d₀ d : List ℕ) (from at i : ℕ) (v : Laying f
 -- ---- packing
 
 range : (n : ℕ) → between 1 mostArrays n ≡ true → (1 ≤ n) × (n ≤ mostArrays)
-range n e = (leb-true 1 n (and-left (leb 1 n) (leb n mostArrays) e), leb-true n mostArrays (and-right (leb 1 n) (leb n mostArrays) e))
+range n e = (leb-true 1 n (and-left (leb 1 n) (leb n mostArrays) e), range-le mostArrays n e)
 
 -- the promise: the answer and the output buffer after are those that the paper's packing gives of these shapes and cells
 pub record PackedInto (ss : List Shape) (bs out : List ℕ) (r : PackAnswer) (y : List ℕ) : Type 0 where
@@ -151,7 +152,7 @@ pub pack-refused : (ss : List Shape) (bs out : List ℕ) (x : Refusal) → packe
 unfolding packInto
 pack-refused ss bs out x e = record { said = rw e; wrote = rw e }
 
-module _ (count : ℕ) (forms : List Form) (bs out : List ℕ) (l : length forms ≡ mostArrays) (g : Bytes bs) (r : Verdict) (j : JudgedAll count forms bs r) (z : r .refusal .number ≡ 0) where
+module _ {count : ℕ} {forms : List Form} {bs : List ℕ} (out : List ℕ) (l : length forms ≡ mostArrays) (g : Bytes bs) {r : Verdict} (j : JudgedAll count forms bs r) (z : r .refusal .number ≡ 0) where
   abbrev bundle : List ℕ
   bundle = bundleOf count (take count forms) bs
 

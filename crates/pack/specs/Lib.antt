@@ -2,4 +2,3 @@ pub mod Put
 pub mod Laid
 pub mod Judging
 pub mod Laying
-pub mod RoundTrip

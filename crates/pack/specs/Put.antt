@@ -99,11 +99,11 @@ pub record Writing (e m : Extent) (d₀ : List ℕ) (at : ℕ) (d : List ℕ) (i
   pub long : length d ≡ length d₀
   pub left : put d (at + i * axisBytes) (axesBytes (drop i (axesOf e)) (drop i (axesOf m))) ≡ put d₀ at (axesBytes (axesOf e) (axesOf m))
 
-module _ (e m : Extent) (d₀ : List ℕ) (at : ℕ) where
+module _ {e m : Extent} {d₀ : List ℕ} {at : ℕ} where
   pub axes-start : Writing e m d₀ at d₀ 0
   axes-start = let a : at + 0 * axisBytes ≡ at = omega arith in record { turns = omega arith; long = refl; left = rw a }
 
-  module _ (r : ℕ) (re : Rank e r) (rm : Rank m r) (q : AxesRoom e m at d₀) (d : List ℕ) (i : ℕ) (v : Writing e m d₀ at d i) where
+  module _ {r : ℕ} (re : Rank e r) (rm : Rank m r) (q : AxesRoom e m at d₀) {d : List ℕ} {i : ℕ} (v : Writing e m d₀ at d i) where
     pub axes-more : i < r → (y : List ℕ) → y ≡ put d (at + i * axisBytes) (axisPart (axisNo e i) (axisNo m i)) → Writing e m d₀ at y (i + 1)
     axes-more h y w =
         let x = axisPart (axisNo e i) (axisNo m i) in

@@ -3,18 +3,15 @@
 ghost use mathlib.Core.Path.{_≡_};
 ghost use Prim.Native.Nat.{_≤_};
 ghost use lib.ListN.{length};
-ghost use Rattle.paper.specs.Refusals.{refusal, between};
+ghost use Rattle.paper.specs.Refusals.{refusal};
 ghost use Rattle.pack.specs.Judging.{JudgedForm, JudgedAll, stopped, over};
-use crate::put::AXIS;
-use crate::put::TYPED;
 use bundle::array_of;
+use bundle::in_range;
+use paper::AXIS_BYTES;
 use paper::Form;
+use paper::OPENING_BYTES;
 use paper::Refusal;
-
-// The highest type, and the bytes before the first array.
-const KINDS: usize = 3;
-
-const MARKED: usize = 6;
+use paper::TYPE_BYTES;
 
 // One array judged: the byte after its cells, and the number of its bytes in the bundle.
 pub struct Step {
@@ -27,16 +24,6 @@ pub struct Step {
 pub struct Verdict {
     pub refusal: Refusal,
     pub long: usize,
-}
-
-// x is 1 to `most`.
-fn in_range(x: usize, most: usize) -> bool
-    ensures { λ r. ⌜ r ≡ between 1 most x ⌝ }
-{
-    if x < 1 {
-        return false;
-    }
-    x <= most
 }
 
 fn stop(refusal: Refusal) -> Step
@@ -75,7 +62,7 @@ fn form_judged(cells: &[u8], from: usize, k: u32, form: Form) -> Step
     let extent = form.extent;
     let maximum = form.maximum;
     let rank = extent.rank;
-    if !in_range(kind as usize, KINDS) {
+    if !in_range(kind as usize, paper::TYPES) {
         return refuse_form(1, k);
     }
     if !in_range(rank, paper::AXES) {
@@ -93,7 +80,7 @@ fn form_judged(cells: &[u8], from: usize, k: u32, form: Form) -> Step
     Step {
         refusal,
         end,
-        long: TYPED + rank * AXIS + (end - from),
+        long: TYPE_BYTES + rank * AXIS_BYTES + (end - from),
     }
 }
 
@@ -110,7 +97,7 @@ pub fn judged(count: usize, forms: [Form; paper::ARRAYS], cells: &[u8]) -> Verdi
         return refuse(bad);
     }
     let mut at: usize = 0;
-    let mut long = MARKED;
+    let mut long = OPENING_BYTES;
     let mut i = 0;
     while i < count {
         let form = forms[i];

@@ -13,30 +13,21 @@ ghost use Rattle.pack.specs.Laid.{laidBytes};
 ghost use Rattle.pack.specs.Laying.{ArrayRoom, ArrayPut, AllRoom};
 use cell::bytes::copy_bytes;
 use cell::bytes::put4;
-use extent::NAME;
-use extent::extent_cells;
+use extent::cells_of;
 use extent::rank_of;
+use paper::AXIS_BYTES;
 use paper::Axis;
+use paper::CELL_BYTES;
 use paper::Extent;
 use paper::Form;
-use positions::LIMIT;
+use paper::LIMIT_BYTES;
+use paper::LOWER_AT;
+use paper::MAXIMUM_LOWER_AT;
+use paper::MAXIMUM_UPPER_AT;
+use paper::OPENING_BYTES;
+use paper::TYPE_BYTES;
+use paper::UPPER_AT;
 use positions::bits_of;
-
-// The bytes of an array before its axes, of an axis and of a cell; and of a bundle before its arrays.
-pub const TYPED: usize = 2;
-
-pub const AXIS: usize = NAME + 4 * LIMIT;
-
-const CELL: usize = 9;
-
-const MARKED: usize = 6;
-
-// Where an axis's upper limit stands in its bytes, and its maximum's limits.
-const UPPER: usize = NAME + LIMIT;
-
-const MAXIMUM_LOWER: usize = NAME + 2 * LIMIT;
-
-const MAXIMUM_UPPER: usize = NAME + 3 * LIMIT;
 
 // What half of a name's bytes can hold.
 const HALF: u64 = 4294967296;
@@ -49,7 +40,7 @@ fn put_name(d: &mut [u8], at: usize, n: u64)
     let high = n / HALF;
     let low = n % HALF;
     put4(d, at, low as u32);
-    put4(d, at + LIMIT, high as u32);
+    put4(d, at + LIMIT_BYTES, high as u32);
 }
 
 // An axis with its maximum: name, lower, upper, maximum lower, maximum upper.
@@ -58,10 +49,10 @@ fn put_axis(d: &mut [u8], at: usize, a: Axis, m: Axis)
     ensures { λ _. ⌜ now (d .exit) ≡ put (now (d .entry)) at (axisPart a m) ⌝ }
 {
     put_name(d, at, a.name);
-    put4(d, at + NAME, bits_of(a.lo));
-    put4(d, at + UPPER, bits_of(a.hi));
-    put4(d, at + MAXIMUM_LOWER, bits_of(m.lo));
-    put4(d, at + MAXIMUM_UPPER, bits_of(m.hi));
+    put4(d, at + LOWER_AT, bits_of(a.lo));
+    put4(d, at + UPPER_AT, bits_of(a.hi));
+    put4(d, at + MAXIMUM_LOWER_AT, bits_of(m.lo));
+    put4(d, at + MAXIMUM_UPPER_AT, bits_of(m.hi));
 }
 
 // The axes of an extent with its maximum.
@@ -74,7 +65,7 @@ fn put_axes(d: &mut [u8], at: usize, e: Extent, m: Extent)
     while i < rank {
         let a = e.axes[i];
         let b = m.axes[i];
-        put_axis(d, at + i * AXIS, a, b);
+        put_axis(d, at + i * AXIS_BYTES, a, b);
         i += 1;
     }
 }
@@ -93,14 +84,16 @@ fn put_array(form: Form, cells: &[u8], from: usize, d: &mut [u8], at: usize) -> 
     let extent = form.extent;
     let maximum = form.maximum;
     let rank = rank_of(extent);
-    let n = extent_cells(extent, maximum);
+    let n = cells_of(extent);
     d[at] = form.kind;
     d[at + 1] = rank as u8;
-    put_axes(d, at + TYPED, extent, maximum);
-    copy_bytes(cells, from, d, at + TYPED + rank * AXIS, n * CELL);
+    put_axes(d, at + TYPE_BYTES, extent, maximum);
+    let begin = at + TYPE_BYTES + rank * AXIS_BYTES;
+    let long = n * CELL_BYTES;
+    copy_bytes(cells, from, d, begin, long);
     Ends {
-        from: from + n * CELL,
-        at: at + TYPED + rank * AXIS + n * CELL,
+        from: from + long,
+        at: begin + long,
     }
 }
 
@@ -110,7 +103,7 @@ pub fn put_arrays(count: usize, forms: [Form; paper::ARRAYS], cells: &[u8], d: &
     ensures { λ _. ⌜ now (d .exit) ≡ put (now (d .entry)) (markBytes + 1) (laidBytes (take count forms) (now (cells .entry))) ⌝ }
 {
     let mut from: usize = 0;
-    let mut at = MARKED;
+    let mut at = OPENING_BYTES;
     let mut i = 0;
     while i < count {
         let form = forms[i];

@@ -18,7 +18,7 @@ unfolding Numbers.leBytes Numbers.position Numbers.distance Numbers.lastOf Numbe
 numbers = tt
 
 unfoldable pub axes : Unit {0}
-unfolding Axes.nameRest Axes.isName Axes.named Axes.goodNames Axes.goodLimits Axes.cells Axes.within Axes.inside Axes.offset Axes.atOffset Axes.build Axes.placeOf Axes.at
+unfolding Axes.nameRest Axes.isName Axes.named Axes.goodNames Axes.goodLimits Axes.cells Axes.alike Axes.inside Axes.offset Axes.atOffset Axes.build Axes.placeOf Axes.at
 axes = tt
 
 unfoldable pub cells : Unit {0}
@@ -42,7 +42,7 @@ unfolding Totals.totals? Totals.filledFrom Totals.holds Totals.best Totals.bestO
 totals = tt
 
 unfoldable pub recipe : Unit {0}
-unfolding Recipe.operation Recipe.operand Recipe.uses Recipe.unusedZero Recipe.isScalar Recipe.typesFit Recipe.alike Recipe.agree Recipe.eachAnew Recipe.glued Recipe.fitsIn Recipe.resultOf Recipe.planStep Recipe.planSteps Recipe.planRecipe
+unfolding Recipe.operation Recipe.operand Recipe.uses Recipe.unusedZero Recipe.isScalar Recipe.typesFit Recipe.agree Recipe.eachAnew Recipe.glued Recipe.fitsIn Recipe.resultOf Recipe.planStep Recipe.planSteps Recipe.planRecipe
 recipe = tt
 
 unfoldable pub values : Unit {0}

@@ -9,7 +9,7 @@ use Rattle.paper.specs.declared.Axis.{Axis}
 use Rattle.paper.specs.declared.Place.{Place}
 use Rattle.paper.specs.declared.Place.the-variants.{At, InMaximum, Beyond}
 use Rattle.paper.specs.Axes.{cells, inside, ordinality, placeOf, shaped}
-use Rattle.coordinates.specs.Places.{inside-true, inside-length}
+use Rattle.laws.specs.Places.{inside-true, inside-length}
 use Rattle.paper.specs.declared.Extent.{Extent}
 use Rattle.paper.specs.Answers.{axesOf}
 use Rattle.extent.specs.Rank.{Rank}

@@ -3,9 +3,9 @@
 ghost use mathlib.Core.Path.{_≡_};
 ghost use Prim.Native.Nat.{ℕ, _+_, _-_, _*_, _≤_};
 ghost use Rattle.paper.specs.Limits.{reach};
-ghost use Rattle.paper.specs.Axes.{onAxis, inside, ordinality, coordinate, placeOf, shaped};
+ghost use Rattle.paper.specs.Axes.{inside, ordinality, coordinate, placeOf, shaped};
 ghost use Rattle.paper.specs.Answers.{axesOf};
-ghost use Rattle.coordinates.specs.Places.{Inside};
+ghost use Rattle.laws.specs.Places.{Inside};
 ghost use Rattle.extent.specs.Judged.{Small};
 ghost use Rattle.place.specs.Positions.{positionsOf, Counted};
 use paper::Axis;
@@ -15,16 +15,6 @@ use paper::Place;
 
 pub struct Coordinate {
     pub at: [u32; paper::AXES],
-}
-
-// The position lies inside the axis.
-pub fn on_axis(a: Axis, x: u32) -> bool
-    ensures { λ r. ⌜ r ≡ onAxis a x ⌝ }
-{
-    if x < a.lo {
-        return false;
-    }
-    x <= a.hi
 }
 
 // How far a position lies above the axis's lower limit.
@@ -50,7 +40,7 @@ pub fn is_inside(e: Extent, p: Coordinate) -> bool
     let rank = extent::rank_of(e);
     let mut i = 0;
     while i < rank {
-        if !on_axis(e.axes[i], p.at[i]) {
+        if !extent::on_axis(e.axes[i], p.at[i]) {
             return false;
         }
         i += 1;

@@ -1,7 +1,7 @@
 // Where operands lie, and a cell of one as it lies: in the bundle, among the results so far, or one scalar that stands for all.
 ghost use mathlib.Core.Path.{_≡_};
 ghost use lib.Dec.{eqb};
-ghost use Rattle.quick.specs.Operands.{scalarSide, bytesIn, markAt, wordAt, Reaches};
+ghost use Rattle.quick.specs.Operands.{scalarSide, bytesIn, markFrom, wordFrom, markAt, wordAt, Lies, Reaches};
 use cell::bytes::word;
 
 // The bytes of a cell.
@@ -40,18 +40,19 @@ fn side_of<'a>(bundle: &'a [u8], done: &'a [u8], which: u8) -> &'a [u8]
     if which == IN_WORK { done } else { bundle }
 }
 
-// Cell k of an operand, of which the caller tells whether it is a scalar for all: told by a constant, the loop has no test of it.
+// The cell that lies off bytes after an operand's first, of which the caller tells whether it is a scalar for all: told by a constant, the
+// loop has no test of it.
 pub fn raw_told<'a>(
     bundle: &'a [u8],
     done: &'a [u8],
     from: Source,
     scalar: u64,
     all: bool,
-    k: usize,
+    off: usize,
 ) -> Raw
-    requires { ⌜ Reaches (now bundle) (now done) from k ⌝ }
+    requires { ⌜ Lies (now bundle) (now done) from off ⌝ }
     requires { ⌜ eqb (from .which) scalarSide ≡ all ⌝ }
-    ensures { λ r. ⌜ (r .mark ≡ markAt (now (bundle .entry)) (now (done .entry)) from k) × (r .bits ≡ wordAt (now (bundle .entry)) (now (done .entry)) scalar from k) ⌝ }
+    ensures { λ r. ⌜ (r .mark ≡ markFrom (now (bundle .entry)) (now (done .entry)) from off) × (r .bits ≡ wordFrom (now (bundle .entry)) (now (done .entry)) scalar from off) ⌝ }
 {
     if all {
         return Raw {
@@ -60,7 +61,7 @@ pub fn raw_told<'a>(
         };
     }
     let side = side_of(bundle, done, from.which);
-    let at = from.at + k * CELL;
+    let at = from.at + off;
     Raw {
         mark: side[at],
         bits: word(side, at + 1),
@@ -72,5 +73,8 @@ pub fn raw_of<'a>(bundle: &'a [u8], done: &'a [u8], from: Source, scalar: u64, k
     requires { ⌜ Reaches (now bundle) (now done) from k ⌝ }
     ensures { λ r. ⌜ (r .mark ≡ markAt (now (bundle .entry)) (now (done .entry)) from k) × (r .bits ≡ wordAt (now (bundle .entry)) (now (done .entry)) scalar from k) ⌝ }
 {
-    raw_told(bundle, done, from, scalar, from.which == SCALAR, k)
+    if from.which == SCALAR {
+        return raw_told(bundle, done, from, scalar, true, 0);
+    }
+    raw_told(bundle, done, from, scalar, false, k * CELL)
 }

@@ -16,7 +16,6 @@ ghost use Rattle.recipe.specs.Plans.{arraysOf, resultsOf, GoodArrays, Go
 ghost use Rattle.recipe.specs.Testing.{faultOf, finishBy, foundOf};
 ghost use Rattle.recipe.specs.Answered.{Said};
 ghost use Rattle.recipe.specs.Whole.{withStep, PlannedAll};
-use compare::agrees;
 use extent::good_extent;
 use extent::rank_of;
 use paper::AxisIndex;
@@ -26,6 +25,7 @@ use paper::Refusal;
 use shape::empty;
 use step::StepHead;
 use step::Typed;
+use step::agreeing::agrees;
 use step::operation::OperationGot;
 use step::operation::operation_of;
 use step::tests::fits_in;

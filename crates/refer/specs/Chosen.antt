@@ -1,12 +1,9 @@
 -- An array of a bundle, chosen by its number, as the paper chooses it; and its cells by index.
 use Prim.Native.Nat.{ℕ, zero, suc, _+_, _-_, _*_, _≤_, _<_}
 use mathlib.Core.Path.{_≡_, refl, sym, ap, subst, _∙_}
-use mathlib.Core.Bool.{true, false}
 use mathlib.Core.List.{List, [], _∷_, map}
 use mathlib.Core.Option.{none, some}
 use native.Mathlib.Omega.{arith}
-use borrow.Author.Tests.{eq-eqb, ne-eqb}
-use lib.Dec.{eqb}
 use lib.ListN.{length, take, drop, getD, length-map}
 use lib.Seq.{drop-drop, length-take-le}
 use Rattle.paper.specs.declared.Cell.the-variants.{Empty}
@@ -21,7 +18,7 @@ use Rattle.paper.specs.Cells.{cellOf}
 use Rattle.paper.specs.Bundle.{readBundle}
 use Rattle.paper.specs.Reference.{chosen}
 use Rattle.paper.specs.Answers.{unless}
-use Rattle.laws.specs.Answers.{noHead}
+use Rattle.laws.specs.Answers.{unless-refused, unless-got, noHead}
 use Rattle.laws.specs.Judged.{orEmpty, cell-no}
 use Rattle.bundle.specs.Read.{cellsIn, arrayAt, Fit, ReadAll}
 use Rattle.refer.specs.declared.Chosen.{Chosen}
@@ -42,9 +39,8 @@ pub record ChosenHead (bs : List ℕ) (k : ℕ) (r : Chosen) : Type 0 where
 
 none-chosen : (bs : List ℕ) (k : ℕ) (r : Chosen) (x : Refusal) → r ≡ noneChosen x → (x .number ≡ 0 → ⊥) → refused x ≡ chosen bs k → ChosenHead bs k r
 none-chosen bs k r x e h q =
-    let z : eqb (x .number) 0 ≡ false = ne-eqb (x .number) 0 h in
     record {
-      said = ap (chosenOf bs) e ∙ rw z q;
+      said = ap (chosenOf bs) e ∙ unless-refused x _ h ∙ q;
       fit = λ f. absurd (h (sym (ap (λ (c : Chosen). c .refusal .number) e) ∙ f));
     }
 
@@ -67,7 +63,7 @@ nth-some f (x ∷ l) d (suc n) (suc (suc k)) h a b =
 
 -- what an array of heads is read as past its end
 abbrev pub pastHead : Head
-pastHead = record { form = record { kind = 0; extent = record { rank = 0; axes = [] }; maximum = record { rank = 0; axes = [] } }; at = 0 }
+pastHead = record { form = record { kind = 0; extent = record { rank = 0; axes = [] }; maximum = record { rank = 0; axes = [] } }; at = 0; cells = 0 }
 
 -- what stands at an index does not hang on what would stand past the end
 pub getD-any : {A : Type 0} (l : List A) (i : ℕ) (d e : A) → i < length l → getD l i d ≡ getD l i e
@@ -75,18 +71,17 @@ getD-any [] i d e h = absurd (omega arith)
 getD-any (a ∷ l) zero d e h = refl
 getD-any (a ∷ l) (suc i) d e h = getD-any l i d e (omega arith)
 
-module _ (bs : List ℕ) (k : ℕ) (o : Reading) (v : ReadAll bs o) where
+module _ {bs : List ℕ} (k : ℕ) {o : Reading} (v : ReadAll bs o) where
   -- the bundle's own refusal
   pub bundle-refuses : (o .refusal .number ≡ 0 → ⊥) → (r : Chosen) → r ≡ noneChosen (o .refusal) → ChosenHead bs k r
   unfolding chosen
   bundle-refuses h r e =
-      let z : eqb (o .refusal .number) 0 ≡ false = ne-eqb (o .refusal .number) 0 h in
-      let q : refused (o .refusal) ≡ readBundle bs = sym (rw z refl) ∙ v .arrays in
+      let q : refused (o .refusal) ≡ readBundle bs = sym (unless-refused (o .refusal) _ h) ∙ v .arrays in
       none-chosen bs k r (o .refusal) e h (rw (← q) refl)
 
   module _ (y : o .refusal .number ≡ 0) where
     its-arrays : got (map (arrayAt bs) (take (o .count) (o .heads))) ≡ readBundle bs
-    its-arrays = let z : eqb (o .refusal .number) 0 ≡ true = eq-eqb (o .refusal .number) 0 y in sym (rw z refl) ∙ v .arrays
+    its-arrays = sym (unless-got (o .refusal) _ y) ∙ v .arrays
 
     -- no such array
     unknown : nth (map (arrayAt bs) (take (o .count) (o .heads))) k ≡ none → (r : Chosen) → r ≡ noneChosen (refusal unknown4 k 0) → ChosenHead bs k r
@@ -103,12 +98,20 @@ module _ (bs : List ℕ) (k : ℕ) (o : Reading) (v : ReadAll bs o) where
     pub known : 1 ≤ k → k ≤ o .count → (r : Chosen) → r ≡ record { refusal = o .refusal; head = getD (o .heads) (k - 1) noHead } → ChosenHead bs k r
     unfolding chosen
     known a b r e =
-        let z : eqb (o .refusal .number) 0 ≡ true = eq-eqb (o .refusal .number) 0 y in
         let n = nth-some (arrayAt bs) (o .heads) noHead (o .count) k a b (v .room) in
         record {
-          said = ap (chosenOf bs) e ∙ rw (z, ← its-arrays, n) refl;
+          said = ap (chosenOf bs) e ∙ unless-got (o .refusal) _ y ∙ rw (← its-arrays, n) refl;
           fit = λ f. subst (λ (c : Chosen). Fit bs (c .head)) (sym e) (v .fit (k - 1) (omega arith));
         }
+
+-- ---- the array that was chosen, or its refusal
+
+module _ {bs : List ℕ} {k : ℕ} {c : Chosen} (v : ChosenHead bs k c) where
+  pub its-refusal : (c .refusal .number ≡ 0 → ⊥) → refused (c .refusal) ≡ chosen bs k
+  its-refusal n = sym (unless-refused (c .refusal) _ n) ∙ v .said
+
+  pub its-array : c .refusal .number ≡ 0 → got (arrayAt bs (c .head)) ≡ chosen bs k
+  its-array y = sym (unless-got (c .refusal) _ y) ∙ v .said
 
 -- ---- its cells
 

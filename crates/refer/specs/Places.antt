@@ -21,17 +21,15 @@ use Rattle.paper.specs.declared.Seen.the-variants.{Held, End}
 use Rattle.paper.specs.Limits.{cellBytes}
 use Rattle.paper.specs.Refusals.{Res, got, refused, if_then_else_, refusal, between, badAxis5, outside6}
 use Rattle.paper.specs.Numbers.{part, distance}
-use Rattle.paper.specs.Axes.{cells, goodExtent, inside, ordinality, placeOf, cellNo, Shape, Array}
+use Rattle.paper.specs.Axes.{cells, inside, ordinality, placeOf, cellNo, Shape, Array}
 use Rattle.paper.specs.Cells.{cellOf}
-use Rattle.paper.specs.Reference.{chosen, referred, reference, seen, walkedOn, Walked, walk}
+use Rattle.paper.specs.Reference.{referred, reference, seen, walkedOn, Walked, walk}
 use Rattle.paper.specs.Answers.{shapeOf}
-use Rattle.coordinates.specs.Places.{inside-true, ordinality-bounds}
+use Rattle.laws.specs.Places.{inside-true, ordinality-bounds}
 use Rattle.laws.specs.Judged.{orEmpty}
-use Rattle.laws.specs.Tests.{and-left}
-use Rattle.extent.specs.Judged.{goodCells}
 use Rattle.bundle.specs.Read.{cellsIn, arrayAt}
 use Rattle.refer.specs.declared.Chosen.{Chosen}
-use Rattle.refer.specs.Chosen.{ChosenHead, cell-at}
+use Rattle.refer.specs.Chosen.{ChosenHead, its-refusal, its-array, cell-at}
 
 -- ---- a coordinate's positions, one after the other
 
@@ -55,7 +53,7 @@ elsewhereOf k (At o) = got Empty
 elsewhereOf k InMaximum = got Empty
 elsewhereOf k Beyond = refused (refusal outside6 k 0)
 
-module _ (bs : List ℕ) (k : ℕ) (zs : List ℤ) (c : Chosen) (v : ChosenHead bs k c) where
+module _ {bs : List ℕ} {k : ℕ} (zs : List ℤ) {c : Chosen} (v : ChosenHead bs k c) where
   abbrev h : Head
   h = c .head
 
@@ -65,28 +63,22 @@ module _ (bs : List ℕ) (k : ℕ) (zs : List ℤ) (c : Chosen) (v : ChosenHead 
   -- the array's own refusal
   pub refer-refused : (c .refusal .number ≡ 0 → ⊥) → refused (c .refusal) ≡ reference bs k zs
   unfolding reference
-  refer-refused n =
-      let z : eqb (c .refusal .number) 0 ≡ false = ne-eqb (c .refusal .number) 0 n in
-      let q : refused (c .refusal) ≡ chosen bs k = sym (rw z refl) ∙ v .said in
-      rw (← q) refl
+  refer-refused n = rw (← its-refusal v n) refl
 
   module _ (y : c .refusal .number ≡ 0) where
-    array-is : got A ≡ chosen bs k
-    array-is = let z : eqb (c .refusal .number) 0 ≡ true = eq-eqb (c .refusal .number) 0 y in sym (rw z refl) ∙ v .said
-
     -- another number of coordinates than axes
     pub refer-count : (length zs ≡ length (shapeOf (h .form) .axes) → ⊥) → refused (refusal badAxis5 k 0) ≡ reference bs k zs
     unfolding reference arrayAt
     refer-count n =
         let z : eqb (length zs) (length (shapeOf (h .form) .axes)) ≡ false = ne-eqb _ _ n in
-        rw (← array-is, z) refl
+        rw (← its-array v y, z) refl
 
     module _ (e : length zs ≡ length (shapeOf (h .form) .axes)) (p : Place) (q : p ≡ placeOf (shapeOf (h .form)) (map distance zs)) where
       by-place : referred k A p ≡ reference bs k zs
       unfolding reference arrayAt
       by-place =
           let z : eqb (length zs) (length (shapeOf (h .form) .axes)) ≡ true = eq-eqb _ _ e in
-          rw (← array-is, z, ← q) refl
+          rw (← its-array v y, z, ← q) refl
 
       -- inside the extent: the cell
       pub refer-inside : (o i : ℕ) → p ≡ At (record { 0 = o }) → i ≡ o - 1 → i < cellsIn (h .form)
@@ -128,44 +120,40 @@ none-before m o e = rw e
 pub none-past : (m o : ℕ) → m < o → between 1 m o ≡ false
 none-past m o h = let a : leb 1 o ≡ true = le-leb 1 o (omega arith) in let b : leb o m ≡ false = lt-leb o m h in rw (a, b)
 
-module _ (bs : List ℕ) (k o : ℕ) (c : Chosen) (v : ChosenHead bs k c) where
-  -- the number of cells of an array that was chosen
-  pub chosen-cells : c .refusal .number ≡ 0 → (n : ℕ) → n ≡ goodCells (shapeOf (c .head .form) .axes) → n ≡ cellsIn (c .head .form)
-  chosen-cells y n e = let g = and-left (goodExtent (shapeOf (c .head .form) .axes)) _ (v .fit y .good) in e ∙ rw g
-
+module _ {bs : List ℕ} {k : ℕ} (o : ℕ) {c : Chosen} (v : ChosenHead bs k c) where
   walked : (m : Res Seen) → m ≡ seen bs k o → (w : Walked) → w ≡ record { answer = m; place = walkedOn o m } → w ≡ walk bs k o
   walked m e w f = f ∙ ap (λ (x : Res Seen). record { answer = x; place = walkedOn o x }) e
 
   pub walk-refused : (c .refusal .number ≡ 0 → ⊥) → _≡_ {A = Walked} (record { answer = refused (c .refusal); place = o }) (walk bs k o)
   unfolding seen walkedOn
-  walk-refused n =
-      let z : eqb (c .refusal .number) 0 ≡ false = ne-eqb (c .refusal .number) 0 n in
-      let q : refused (c .refusal) ≡ chosen bs k = sym (rw z refl) ∙ v .said in
-      walked (refused (c .refusal)) (rw (← q) refl) _ refl
+  walk-refused n = walked (refused (c .refusal)) (rw (← its-refusal v n) refl) _ refl
 
-  module _ (y : c .refusal .number ≡ 0) (n : ℕ) (e : n ≡ cellsIn (c .head .form)) where
-    walk-array : got (arrayAt bs (c .head)) ≡ chosen bs k
-    walk-array = let z : eqb (c .refusal .number) 0 ≡ true = eq-eqb (c .refusal .number) 0 y in sym (rw z refl) ∙ v .said
+  module _ (y : c .refusal .number ≡ 0) where
+    abbrev many : ℕ
+    many = c .head .cells
 
-    pub walk-outside : (between 1 (n + 1) o) ≡ false → outsideOf k o ≡ walk bs k o
+    counted : many ≡ cellsIn (c .head .form)
+    counted = v .fit y .counted
+
+    pub walk-outside : (between 1 (many + 1) o) ≡ false → outsideOf k o ≡ walk bs k o
     unfolding seen walkedOn arrayAt
-    walk-outside b = walked (refused (refusal outside6 k 0)) (rw (← walk-array, ← e, b) refl) _ refl
+    walk-outside b = walked (refused (refusal outside6 k 0)) (rw (← its-array v y, ← counted, b) refl) _ refl
 
-    pub walk-end : o ≡ n + 1 → _≡_ {A = Walked} (record { answer = got End; place = o }) (walk bs k o)
+    pub walk-end : o ≡ many + 1 → _≡_ {A = Walked} (record { answer = got End; place = o }) (walk bs k o)
     unfolding seen walkedOn arrayAt
     walk-end f =
         let b : leb 1 o ≡ true = le-leb 1 o (omega arith) in
-        let d : leb o (n + 1) ≡ true = le-leb o (n + 1) (omega arith) in
-        let z : eqb o (n + 1) ≡ true = eq-eqb o (n + 1) f in
-        walked (got End) (rw (← walk-array, ← e, b, d, z) refl) _ refl
+        let d : leb o (many + 1) ≡ true = le-leb o (many + 1) (omega arith) in
+        let z : eqb o (many + 1) ≡ true = eq-eqb o (many + 1) f in
+        walked (got End) (rw (← its-array v y, ← counted, b, d, z) refl) _ refl
 
-    pub walk-cell : (i : ℕ) → i + 1 ≡ o → o ≤ n
+    pub walk-cell : (i : ℕ) → i + 1 ≡ o → o ≤ many
         → _≡_ {A = Walked} (record { answer = got (Held (orEmpty (cellOf (c .head .form .kind) (part (c .head .at + i * cellBytes) cellBytes bs)))); place = o + 1 }) (walk bs k o)
     unfolding seen walkedOn arrayAt
     walk-cell i f g =
         let b : leb 1 o ≡ true = le-leb 1 o (omega arith) in
-        let d : leb o (n + 1) ≡ true = le-leb o (n + 1) (omega arith) in
-        let z : eqb o (n + 1) ≡ false = ne-eqb o (n + 1) (λ x. omega arith) in
+        let d : leb o (many + 1) ≡ true = le-leb o (many + 1) (omega arith) in
+        let z : eqb o (many + 1) ≡ false = ne-eqb o (many + 1) (λ x. omega arith) in
         let j : i ≡ o - 1 = omega arith in
-        let w : orEmpty (cellOf (c .head .form .kind) (part (c .head .at + i * cellBytes) cellBytes bs)) ≡ cellNo (arrayAt bs (c .head)) o = sym (cell-at bs (c .head) i (omega arith)) ∙ ap (λ (x : ℕ). getD (arrayAt bs (c .head) .cells) x Empty) j in
-        walked (got (Held _)) (rw (w, ← walk-array, ← e, b, d, z) refl) _ refl
+        let w : orEmpty (cellOf (c .head .form .kind) (part (c .head .at + i * cellBytes) cellBytes bs)) ≡ cellNo (arrayAt bs (c .head)) o = sym (cell-at bs (c .head) i (omega (arith, counted))) ∙ ap (λ (x : ℕ). getD (arrayAt bs (c .head) .cells) x Empty) j in
+        walked (got (Held _)) (rw (w, ← its-array v y, ← counted, b, d, z) refl) _ refl

@@ -18,8 +18,8 @@ use bundle::no_head;
 use bundle::read;
 use cell::bytes::Got;
 use cell::bytes::read_cell;
-use extent::good_extent;
 use extent::rank_of;
+use paper::CELL_BYTES;
 use paper::Cell;
 use paper::Head;
 use paper::Ordinality;
@@ -32,6 +32,8 @@ use paper::WalkAnswer;
 use place::Coordinate;
 use place::found;
 use positions::distance_of;
+
+pub mod walk;
 
 // An array chosen: its head, or the refusal (number 0: none).
 pub struct Chosen {
@@ -78,7 +80,7 @@ pub fn held_cell(s: &[u8], at: usize, kind: u8, i: usize) -> Cell
     requires { ⌜ at + i * cellBytes + cellBytes ≤ length (now s) ⌝ }
     ensures { λ r. ⌜ r ≡ orEmpty (cellOf kind (part (at + i * cellBytes) cellBytes (now (s .entry)))) ⌝ }
 {
-    let got = read_cell(s, at + i * 9, kind);
+    let got = read_cell(s, at + i * CELL_BYTES, kind);
     match got {
         Got::Is(c) => c,
         Got::Bad => Cell::Empty,
@@ -189,9 +191,7 @@ pub fn walk_step(s: &[u8], k: u32, place: Ordinality) -> Walk
         };
     }
     let head = array.head;
-    let form = head.form;
-    let extent = form.extent;
-    let n = good_extent(extent);
+    let n = head.cells;
     let o = place.0 as usize;
     if o == 0 {
         return outside(k, place);
@@ -206,6 +206,7 @@ pub fn walk_step(s: &[u8], k: u32, place: Ordinality) -> Walk
         };
     }
     let at = head.at;
+    let form = head.form;
     let kind = form.kind;
     let cell = held_cell(s, at, kind, o - 1);
     Walk {

@@ -14,8 +14,8 @@ use Rattle.paper.specs.Axes.{cells, Shape}
 use Rattle.paper.specs.Listing.{row}
 use Rattle.paper.specs.Rests.{decimal, spaced, rowText}
 use Rattle.laws.specs.Put.{put-none}
-use Rattle.coordinates.specs.Limits.{Sound}
-use Rattle.pages.specs.Rows.{rowsOf, length-rows}
+use Rattle.laws.specs.Limits.{Sound}
+use Rattle.laws.specs.Rows.{rowsOf, length-rows}
 use Rattle.decimal.specs.Wrote.{Wrote, wrote-then, wrote-long}
 use Rattle.decimal.specs.Digits.{decimal-most}
 use Rattle.decimal.specs.Lines.{number, mostSpaced, mostFound, foundLine}

@@ -26,11 +26,10 @@ use Rattle.paper.specs.Listing.{planned, room, lastShape, rowBytes, pageTests, 
 use Rattle.paper.specs.Rests.{mostBytes, allRows, refusedText, printed, rests}
 use Rattle.paper.specs.Answers.{pageSaid}
 use Rattle.laws.specs.Tests.{no-refusal, none-refused, got-one, bind-got, ensure-got}
-use Rattle.coordinates.specs.Limits.{limits-true}
-use Rattle.pages.specs.Pages.{trues-no, trues-yes}
-use Rattle.pages.specs.Rows.{rowsOf, length-rows}
-use Rattle.pages.specs.Results.{AsPlanned, values-full, planned-good, last-shape, last-whole}
-use Rattle.pages.specs.Demand3.{extent-good}
+use Rattle.laws.specs.Limits.{limits-true}
+use Rattle.laws.specs.Pages.{trues-no, trues-yes}
+use Rattle.laws.specs.Rows.{rowsOf, length-rows}
+use Rattle.laws.specs.Results.{AsPlanned, values-full, planned-good, last-shape, last-whole, extent-good}
 use Rattle.decimal.specs.Wrote.{Wrote}
 use Rattle.decimal.specs.Lines.{mostFound, foundLine, found-text}
 use Rattle.decimal.specs.Rows.{mostRow}

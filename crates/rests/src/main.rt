@@ -1,4 +1,4 @@
 // The program `rests`: what paper 01, "Eleven hours, whole", says that it prints. It is run here on that paper's example.
 fn main() {
-    printing::print_rests();
+    print_files::print_rests();
 }

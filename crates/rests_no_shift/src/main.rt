@@ -1,4 +1,4 @@
 // The program `rests` once more, run on paper 01's example without its shift, which is refused.
 fn main() {
-    printing::print_rests();
+    print_files::print_rests();
 }

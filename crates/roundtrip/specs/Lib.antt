@@ -2,5 +2,4 @@
 pub mod Valid
 pub mod Reading
 pub mod Packing
-pub mod RoundTrip
 pub mod Lying

@@ -24,7 +24,7 @@ use Rattle.paper.specs.Listing.{planned, resultBytes, bytesOfAll, workAfter, la
 use Rattle.paper.specs.Answers.{axesOf, unless}
 use Rattle.laws.specs.Judged.{cellsFrom}
 use Rattle.laws.specs.Tests.{ensure-got, and-left, and-right}
-use Rattle.pages.specs.Results.{AsPlanned, values-full, last-shape}
+use Rattle.laws.specs.Results.{AsPlanned, values-full, last-shape}
 use Rattle.step.specs.Steps.{resultFor}
 use Rattle.recipe.specs.declared.Plan.{Plan}
 use Rattle.recipe.specs.declared.Planned.{Planned}

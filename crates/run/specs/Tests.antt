@@ -24,7 +24,7 @@ use Rattle.laws.specs.Cells.{OfKind}
 use Rattle.laws.specs.Numbers.{Bytes}
 use Rattle.roundtrip.specs.Valid.{EachOfKind, EachValid}
 use Rattle.roundtrip.specs.Reading.{bundle-read}
-use Rattle.kinds.specs.Operators.{nothing}
+use Rattle.laws.specs.Kinds.{nothing}
 use Rattle.bundle.specs.Read.{ReadAll}
 use Rattle.recipe.specs.declared.Plan.{Plan}
 use Rattle.recipe.specs.declared.Planned.{Planned}

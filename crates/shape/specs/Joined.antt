@@ -13,8 +13,8 @@ use Rattle.paper.specs.Axes.{width, limited, axisAt, noAxis}
 use Rattle.paper.specs.Recipe.{glued}
 use Rattle.paper.specs.Answers.{axesOf, extentOf}
 use Rattle.laws.specs.Answers.{TidyExtent}
-use Rattle.coordinates.specs.Limits.{Sound}
-use Rattle.coordinates.specs.Glue.{gluedAxis}
+use Rattle.laws.specs.Limits.{Sound}
+use Rattle.laws.specs.Glue.{gluedAxis}
 
 -- k is an axis of the first, and both have limits in range
 pub record Gluing (k : ℕ) (E F : List Axis) : Type 0 where

@@ -1,5 +1,6 @@
 // One step of a recipe in parts, each against one definition of the paper: the operation that its bytes name, the bytes that it does not
 // use, its types, what lies inside A, and the type and extent of its result.
+pub mod agreeing;
 pub mod operation;
 pub mod tests;
 pub mod unused;

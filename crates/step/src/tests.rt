@@ -18,8 +18,9 @@ use crate::Typed;
 use cell::bytes::Got;
 use cell::bytes::from_word;
 use cell::bytes::word;
-use compare::covers_all;
-use compare::position_in;
+use extent::axis_of;
+use extent::covers_all;
+use extent::on_axis;
 use operators::types::gives_pair;
 use operators::types::gives_single;
 use operators::types::takes_pair;
@@ -104,7 +105,7 @@ fn slice_fits(e: Extent, k: AxisIndex, s: &[u8], at: usize) -> bool
     requires { ⌜ Holds at detailBytes (now s) ⌝ }
     ensures { λ r. ⌜ r ≡ onAxis (axisAt (k .0) (axesOf e)) (positionAt 0 (part at detailBytes (now (s .entry)))) ⌝ }
 {
-    position_in(e, k, position_at(s, at))
+    on_axis(axis_of(e, k), position_at(s, at))
 }
 
 // The same, and B lies inside the rest of A.

@@ -14,7 +14,7 @@ use Rattle.paper.specs.Numbers.{none?}
 use Rattle.paper.specs.Axes.{goodExtent}
 use Rattle.paper.specs.Recipe.{agree, glued, goodResult}
 use Rattle.laws.specs.Tests.{and-left, and-right}
-use Rattle.coordinates.specs.Glue.{Gluable, gluable, length-glued}
+use Rattle.laws.specs.Glue.{Gluable, gluable, length-glued}
 use Rattle.extent.specs.Judged.{Small, goodCells, good-zero, good-some, good-small}
 use Rattle.shape.specs.Joined.{Gluing}
 use Rattle.stretch.specs.Sides.{faulted}

@@ -5,4 +5,3 @@ pub mod Glues
 pub mod Turns
 pub mod Plans
 pub mod Handed
-pub mod Reads

@@ -20,9 +20,9 @@ use Rattle.paper.specs.Values.{inFirst}
 use Rattle.paper.specs.Stretch.{Side, stay, stretchAt, stretch}
 use Rattle.paper.specs.Answers.{axesOf, stretchSaid}
 use Rattle.laws.specs.Tests.{and-left, and-right}
-use Rattle.coordinates.specs.Limits.{cells-drop}
-use Rattle.coordinates.specs.Glue.{Gluable, blockCells, block-pos, cells-glued}
-use Rattle.coordinates.specs.Stretch.{onward}
+use Rattle.laws.specs.Limits.{cells-drop}
+use Rattle.laws.specs.Glue.{Gluable, blockCells, block-pos, cells-glued}
+use Rattle.laws.specs.Stretch.{onward}
 use Rattle.extent.specs.Judged.{Small}
 use Rattle.origin.specs.Asks.{Axial, InTurns}
 use Rattle.stretch.specs.Sides.{axesTold, sided, faulted, fault-stops, fault-none, sideFault, judge-by, Clean, SideJudged}

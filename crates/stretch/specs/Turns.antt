@@ -18,10 +18,10 @@ use Rattle.paper.specs.Axes.{cells, ordinality, coordinate}
 use Rattle.paper.specs.Recipe.{glued}
 use Rattle.paper.specs.Values.{inFirst, inSecond}
 use Rattle.paper.specs.Stretch.{stay, span, stretchAt}
-use Rattle.coordinates.specs.Places.{right-pos}
-use Rattle.coordinates.specs.Limits.{Sound}
-use Rattle.coordinates.specs.Glue.{turn, inTurn, blockCells, Gluable, cells-first, cells-second, cells-blocks, glued-side, glued-left, glued-right}
-use Rattle.coordinates.specs.Stretch.{onward, stay-left, stay-right}
+use Rattle.laws.specs.Places.{right-pos}
+use Rattle.laws.specs.Limits.{Sound}
+use Rattle.laws.specs.Glue.{turn, inTurn, blockCells, Gluable, cells-first, cells-second, cells-blocks, glued-side, glued-left, glued-right}
+use Rattle.laws.specs.Stretch.{onward, stay-left, stay-right}
 use Rattle.origin.specs.Asks.{InTurns}
 
 abbrev leftPart : ℕ → ℕ → ℕ → Part

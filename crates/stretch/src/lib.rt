@@ -14,7 +14,6 @@ ghost use Rattle.stretch.specs.Glues.{glueFault};
 ghost use Rattle.stretch.specs.Turns.{turnPart, InBuffer};
 ghost use Rattle.stretch.specs.Plans.{Planned};
 ghost use Rattle.stretch.specs.Handed.{partOf, Handed};
-use compare::agrees;
 use extent::good_extent;
 use extent::rank_of;
 use origin::block_of;
@@ -26,6 +25,7 @@ use paper::Part;
 use paper::Refusal;
 use paper::StretchAnswer;
 use shape::glued_along;
+use step::agreeing::agrees;
 
 // The highest type, and the bytes of a cell.
 const KINDS: usize = 3;

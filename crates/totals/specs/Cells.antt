@@ -30,12 +30,18 @@ cellsAt bs at t n = cellsFrom t n (drop at bs)
 abbrev pub oneAt : List ℕ → ℕ → ℕ → ℕ → Cell
 oneAt bs at t i = orEmpty (cellOf t (part (at + i * cellBytes) cellBytes bs))
 
--- 1 for a filled cell; for one that is TRUE
-abbrev pub tallyOf : Cell → ℕ
-tallyOf c = if emptyCell c then 0 else 1
-
+-- 1 for a cell that is TRUE; the same, or for a filled cell
 abbrev pub tallyTrue : Cell → ℕ
 tallyTrue c = if isTrue c then 1 else 0
+
+abbrev pub tallyOf : Bool → Cell → ℕ
+tallyOf true c = tallyTrue c
+tallyOf false c = if emptyCell c then 0 else 1
+
+-- how many are TRUE, or filled
+unfoldable pub counted : Bool → List Cell → ℕ
+counted t [] = 0
+counted t (c ∷ cs) = tallyOf t c + counted t cs
 
 -- ---- the next cell
 
@@ -47,34 +53,32 @@ filled-cons : (o : ℕ) (c : Cell) (cs : List Cell) → filledFrom o (c ∷ cs) 
 unfolding filledFrom
 filled-cons o c cs = refl
 
-trues-cons : (o : ℕ) (c : Cell) (cs : List Cell) → length (trues o (c ∷ cs)) ≡ tallyTrue c + length (trues (o + 1) cs)
-unfolding trues
-trues-cons o c cs = by (isTrue c)
+pub counted-true : (o : ℕ) (cs : List Cell) → counted true cs ≡ length (trues o cs)
+unfolding counted trues
+counted-true o [] = refl
+counted-true o (c ∷ cs) = by (isTrue c) (counted-true (o + 1) cs)
   where
-    by : (b : Bool) → length (if b then o ∷ trues (o + 1) cs else trues (o + 1) cs) ≡ (if b then 1 else 0) + length (trues (o + 1) cs)
-    by true = omega arith
-    by false = omega arith
+    by : (b : Bool) → counted true cs ≡ length (trues (o + 1) cs) → (if b then 1 else 0) + counted true cs ≡ length (if b then o ∷ trues (o + 1) cs else trues (o + 1) cs)
+    by true e = omega arith
+    by false e = omega arith
 
-pub length-front : (c : Cell) (o : ℕ) (later : List Numbered) → length (inFront c o later) ≡ tallyOf c + length later
-length-front c o later = by (emptyCell c)
+pub counted-filled : (o : ℕ) (cs : List Cell) → counted false cs ≡ length (filledFrom o cs)
+unfolding counted filledFrom
+counted-filled o [] = refl
+counted-filled o (c ∷ cs) = by (emptyCell c) (counted-filled (o + 1) cs)
   where
-    by : (b : Bool) → length (if b then later else record { at = o; cell = c } ∷ later) ≡ (if b then 0 else 1) + length later
-    by true = omega arith
-    by false = omega arith
+    by : (b : Bool) → counted false cs ≡ length (filledFrom (o + 1) cs)
+        → (if b then 0 else 1) + counted false cs ≡ length (if b then filledFrom (o + 1) cs else record { at = o; cell = c } ∷ filledFrom (o + 1) cs)
+    by true e = omega arith
+    by false e = omega arith
 
-pub tally-one : (c : Cell) → tallyOf c ≤ 1
-tally-one c = by (emptyCell c)
-  where
-    by : (b : Bool) → (if b then 0 else 1) ≤ 1
-    by true = omega arith
-    by false = omega arith
+at-most-one : (b : Bool) (x y : ℕ) → x ≤ 1 → y ≤ 1 → (if b then x else y) ≤ 1
+at-most-one true x y p q = p
+at-most-one false x y p q = q
 
-pub true-one : (c : Cell) → tallyTrue c ≤ 1
-true-one c = by (isTrue c)
-  where
-    by : (b : Bool) → (if b then 1 else 0) ≤ 1
-    by true = omega arith
-    by false = omega arith
+pub tally-one : (t : Bool) (c : Cell) → tallyOf t c ≤ 1
+tally-one true c = at-most-one (isTrue c) 1 0 (omega arith) (omega arith)
+tally-one false c = at-most-one (emptyCell c) 0 1 (omega arith) (omega arith)
 
 module _ (bs : List ℕ) (at t n : ℕ) where
   abbrev cs : List Cell
@@ -83,9 +87,6 @@ module _ (bs : List ℕ) (at t n : ℕ) where
   -- what is filled of the cells from i on
   abbrev pub filledLeft : ℕ → List Numbered
   filledLeft i = filledFrom (i + 1) (drop i (cellsAt bs at t n))
-
-  abbrev pub truesLeft : ℕ → List ℕ
-  truesLeft i = trues (i + 1) (drop i (cellsAt bs at t n))
 
   module _ (i : ℕ) (h : i < n) where
     pub cell-next : drop i cs ≡ oneAt bs at t i ∷ drop (i + 1) cs
@@ -97,8 +98,9 @@ module _ (bs : List ℕ) (at t n : ℕ) where
     pub filled-next : filledLeft i ≡ inFront (oneAt bs at t i) (i + 1) (filledLeft (i + 1))
     filled-next = ap (filledFrom (i + 1)) cell-next ∙ filled-cons (i + 1) (oneAt bs at t i) (drop (i + 1) cs)
 
-    pub trues-next : length (truesLeft i) ≡ tallyTrue (oneAt bs at t i) + length (truesLeft (i + 1))
-    trues-next = ap (λ (x : List Cell). length (trues (i + 1) x)) cell-next ∙ trues-cons (i + 1) (oneAt bs at t i) (drop (i + 1) cs)
+    pub counted-next : (v : Bool) → counted v (drop i cs) ≡ tallyOf v (oneAt bs at t i) + counted v (drop (i + 1) cs)
+    unfolding counted
+    counted-next v = ap (counted v) cell-next
 
   module _ (i : ℕ) (h : n ≤ i) where
     none-left : drop i cs ≡ []
@@ -108,6 +110,6 @@ module _ (bs : List ℕ) (at t n : ℕ) where
     unfolding filledFrom
     filled-none = ap (filledFrom (i + 1)) none-left
 
-    pub trues-none : truesLeft i ≡ []
-    unfolding trues
-    trues-none = ap (trues (i + 1)) none-left
+    pub counted-none : (v : Bool) → counted v (drop i cs) ≡ 0
+    unfolding counted
+    counted-none v = ap (counted v) none-left

@@ -2,13 +2,11 @@
 // the cells before, by value.
 ghost use mathlib.Core.Path.{_≡_};
 ghost use Prim.Native.Nat.{ℕ};
-ghost use lib.ListN.{length};
 ghost use lib.Ieee.{nan};
-ghost use Rattle.paper.specs.Cells.{trues};
 ghost use Rattle.paper.specs.Operators.{answered};
 ghost use Rattle.paper.specs.Totals.{filledFrom, below, bestOf, intSum, floatSum, totals?, totalOf, totals};
 ghost use Rattle.paper.specs.Answers.{totalSaid};
-ghost use Rattle.totals.specs.Cells.{Lying, cellsAt, tallyOf, tallyTrue};
+ghost use Rattle.totals.specs.Cells.{Lying, cellsAt, tallyOf, tallyTrue, counted};
 ghost use Rattle.totals.specs.Best.{beatsOf, betterOf};
 ghost use Rattle.totals.specs.Sums.{ExactNext, MeanNext, Summed, asTotal, madeOf};
 use cell::means::Added;
@@ -21,7 +19,6 @@ use cell::sums::Exact;
 use cell::sums::exact_answer;
 use cell::sums::exact_none;
 use cell::sums::exact_with;
-use extent::good_extent;
 use operators::logic::is_empty;
 use operators::logic::is_truth;
 use operators::operators::lt;
@@ -36,16 +33,6 @@ use refer::held_cell;
 
 // ---- counts
 
-// 1 for a filled cell.
-fn tally(c: Cell) -> u32
-    ensures { λ r. ⌜ r ≡ tallyOf c ⌝ }
-{
-    if is_empty(c) {
-        return 0;
-    }
-    1
-}
-
 // 1 for a cell that is TRUE.
 fn tally_true(c: Cell) -> u32
     ensures { λ r. ⌜ r ≡ tallyTrue c ⌝ }
@@ -56,31 +43,29 @@ fn tally_true(c: Cell) -> u32
     0
 }
 
-// How many cells are filled.
-fn count_filled(s: &[u8], at: usize, kind: u8, n: usize) -> u32
-    requires { ⌜ Lying at n (now s) ⌝ }
-    ensures { λ r. ⌜ r ≡ length (filledFrom 1 (cellsAt (now (s .entry)) at kind n)) ⌝ }
+// The same, or 1 for a filled cell.
+fn tally(trues: bool, c: Cell) -> u32
+    ensures { λ r. ⌜ r ≡ tallyOf trues c ⌝ }
 {
-    let mut count: u32 = 0;
-    let mut i: usize = 0;
-    while i < n {
-        let c = held_cell(s, at, kind, i);
-        count += tally(c);
-        i += 1;
+    if trues {
+        return tally_true(c);
     }
-    count
+    if is_empty(c) {
+        return 0;
+    }
+    1
 }
 
-// How many cells are TRUE.
-fn count_true(s: &[u8], at: usize, kind: u8, n: usize) -> u32
+// How many cells are TRUE, or filled.
+fn count_cells(s: &[u8], at: usize, kind: u8, n: usize, trues: bool) -> u32
     requires { ⌜ Lying at n (now s) ⌝ }
-    ensures { λ r. ⌜ r ≡ length (trues 1 (cellsAt (now (s .entry)) at kind n)) ⌝ }
+    ensures { λ r. ⌜ r ≡ counted trues (cellsAt (now (s .entry)) at kind n) ⌝ }
 {
     let mut count: u32 = 0;
     let mut i: usize = 0;
     while i < n {
         let c = held_cell(s, at, kind, i);
-        count += tally_true(c);
+        count += tally(trues, c);
         i += 1;
     }
     count
@@ -271,8 +256,8 @@ fn total_of(s: &[u8], at: usize, kind: u8, n: usize, k: u32, which: Total) -> To
     ensures { λ r. ⌜ totalSaid r ≡ totalOf which k kind (cellsAt (now (s .entry)) at kind n) ⌝ }
 {
     match which {
-        Total::Filled => TotalAnswer::Got(Totalled::Count(count_filled(s, at, kind, n))),
-        Total::Trues => TotalAnswer::Got(Totalled::Count(count_true(s, at, kind, n))),
+        Total::Filled => TotalAnswer::Got(Totalled::Count(count_cells(s, at, kind, n, false))),
+        Total::Trues => TotalAnswer::Got(Totalled::Count(count_cells(s, at, kind, n, true))),
         Total::Smallest => TotalAnswer::Got(Totalled::Is(best_cell(s, at, kind, n, false))),
         Total::Largest => TotalAnswer::Got(Totalled::Is(best_cell(s, at, kind, n, true))),
         Total::Sum => {
@@ -305,8 +290,7 @@ pub fn total(s: &[u8], k: u32, which: Total) -> TotalAnswer
             ordinality: 0,
         });
     }
-    let extent = form.extent;
-    let n = good_extent(extent);
+    let n = head.cells;
     let at = head.at;
     total_of(s, at, kind, n, k, which)
 }

@@ -17,18 +17,18 @@ use Rattle.paper.specs.declared.SingleOp.{SingleOp}
 use Rattle.paper.specs.declared.Operation.{Operation}
 use Rattle.paper.specs.declared.Operation.the-variants.{Trim, Slice, Reshape, Shift, Rename, Update, Put, Glue, Pair, RightScalar, LeftScalar, Single}
 use Rattle.paper.specs.Limits.{FLOAT}
-use Rattle.paper.specs.Axes.{cells, atOffset, sameName, Shape, Array, at}
+use Rattle.paper.specs.Axes.{cells, atOffset, sameName, Shape, Array, at, alike}
 use Rattle.paper.specs.Cells.{isType, filled, cellFrom}
 use Rattle.paper.specs.Operators.{takes, takesOne, pairCell, singleCell}
-use Rattle.paper.specs.Recipe.{scalarOf, uses, isScalar, typesFit, alike, sameLimits, agree, resultOf}
+use Rattle.paper.specs.Recipe.{scalarOf, uses, isScalar, typesFit, sameLimits, agree, resultOf}
 use Rattle.paper.specs.Recipe as Paper
 use Rattle.paper.specs.Values.{scalar, cellAt, operandArray}
 use Rattle.paper.specs.Listing.{resultBytes}
 use Rattle.laws.specs.Tests.{and-left, and-right}
-use Rattle.coordinates.specs.Alike.{alike-true, cells-alike, atOffset-alike}
-use Rattle.hot.specs.Codes.{standing, NoNan, kindOf, pairCodeOf, singleCodeOf, codeCell}
-use Rattle.kinds.specs.Standing.{standing-is, no-nan-from}
-use Rattle.kinds.specs.Coding.{pair-code-kind, pair-code-cell, single-code-kind, single-code-cell}
+use Rattle.laws.specs.Alike.{alike-true, cells-alike, atOffset-alike}
+use Rattle.coded.specs.Codes.{standing, NoNan, kindOf, pairCodeOf, singleCodeOf, codeCell}
+use Rattle.coded.proofs.Standing.{standing-is, no-nan-from}
+use Rattle.coded.proofs.Codes.{pair-code-kind, pair-code-cell, single-code-kind, single-code-cell}
 use Rattle.origin.specs.Origins.{moves}
 use Rattle.origin.specs.Cases.{own-cell}
 use Rattle.quick.specs.declared.operands.Source.{Source}

@@ -25,9 +25,9 @@ use Rattle.paper.specs.Recipe as Paper
 use Rattle.paper.specs.Values.{cellAt, settled, operandArray, valueOf, valuesFrom, values}
 use Rattle.paper.specs.Listing.{resultBytes, bytesOfAll}
 use Rattle.laws.specs.Cells.{OfKind}
-use Rattle.coordinates.specs.Places.{length-build, getD-build}
-use Rattle.pages.specs.Rows.{concat-map}
-use Rattle.pages.specs.Results.{cell-bytes, results-bytes}
+use Rattle.laws.specs.Places.{length-build, getD-build}
+use Rattle.laws.specs.Rows.{concat-map}
+use Rattle.laws.specs.Results.{cell-bytes, results-bytes}
 use Rattle.recipe.specs.declared.Plan.{Plan}
 use Rattle.recipe.specs.Whole.{stepsOf}
 use Rattle.values.specs.Found.{arraysIn, shapesIn, plannedShapes, AllWhole, all-full}

@@ -20,7 +20,7 @@ use Rattle.paper.specs.Values.{noArray}
 use Rattle.paper.specs.Listing.{resultBytes}
 use Rattle.laws.specs.Answers.{noHead}
 use Rattle.laws.specs.Numbers.{Bytes}
-use Rattle.pages.specs.Results.{AllFull, results-bytes}
+use Rattle.laws.specs.Results.{AllFull, results-bytes}
 use Rattle.bundle.specs.Read.{arrayAt, AllFit}
 use Rattle.recipe.specs.declared.Plan.{Plan}
 use Rattle.recipe.specs.declared.Planned.{Planned}

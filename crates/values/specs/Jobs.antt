@@ -13,7 +13,7 @@ use Rattle.paper.specs.Limits.{stepsFrom, scalarAt, wordBytes}
 use Rattle.paper.specs.Refusals.{if_then_else_}
 use Rattle.paper.specs.Numbers.{leOf, part}
 use Rattle.paper.specs.Recipe.{operand}
-use Rattle.hot.specs.Codes.{pairCodeOf, singleCodeOf}
+use Rattle.coded.specs.Codes.{pairCodeOf, singleCodeOf}
 use Rattle.recipe.specs.declared.Plan.{Plan}
 use Rattle.recipe.specs.declared.Planned.{Planned}
 use Rattle.recipe.specs.Plans.{arraysOf, resultsOf, operandB, Stands}

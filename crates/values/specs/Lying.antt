@@ -18,9 +18,9 @@ use Rattle.paper.specs.Values.{noArray}
 use Rattle.paper.specs.Listing.{resultBytes}
 use Rattle.laws.specs.Cells.{cell-back}
 use Rattle.laws.specs.Judged.{is?, orEmpty, cellsFrom, cell-no, cell-is, length-cells}
-use Rattle.kinds.specs.Steps.{Kept}
-use Rattle.pages.specs.Rows.{concat-at}
-use Rattle.pages.specs.Results.{cell-bytes}
+use Rattle.laws.specs.Steps.{Kept}
+use Rattle.laws.specs.Rows.{concat-at}
+use Rattle.laws.specs.Results.{cell-bytes}
 use Rattle.bundle.specs.Read.{cellsIn, arrayAt, Fit}
 
 pub record Lies (bs : List ℕ) (at : ℕ) (X : Array) : Type 0 where

@@ -22,9 +22,9 @@ use Rattle.paper.specs.Answers.{axesOf}
 use Rattle.paper.specs.Listing.{resultBytes}
 use Rattle.laws.specs.Cells.{OfKind}
 use Rattle.laws.specs.Numbers.{Bytes, leOf-lt, bytes-take, bytes-drop}
-use Rattle.kinds.specs.Operators.{nothing}
-use Rattle.kinds.specs.Standing.{written}
-use Rattle.kinds.specs.Steps.{Kept, cell-kept, result-type}
+use Rattle.laws.specs.Kinds.{nothing}
+use Rattle.coded.proofs.Standing.{written}
+use Rattle.laws.specs.Steps.{Kept, cell-kept, result-type}
 use Rattle.positions.specs.Runs.{Holds}
 use Rattle.step.specs.Steps.{stepIn}
 use Rattle.recipe.specs.Testing.{bare}

@@ -23,10 +23,10 @@ use Rattle.paper.specs.Values.{cellAt, operandArray, values}
 use Rattle.paper.specs.Answers.{axesOf}
 use Rattle.paper.specs.Listing.{resultBytes}
 use mathlib.Core.Logic.{inl, inr}
-use Rattle.pages.specs.Untouched.{Either, values-late}
+use Rattle.laws.specs.Late.{Either, values-late}
 use Rattle.positions.specs.Runs.{Holds, part-part}
 use Rattle.step.specs.Steps.{stepIn}
-use Rattle.hot.specs.Codes.{kindOf, codeCell, standing}
+use Rattle.coded.specs.Codes.{kindOf, codeCell, standing}
 use Rattle.recipe.specs.declared.Plan.{Plan}
 use Rattle.recipe.specs.declared.Planned.{Planned}
 use Rattle.recipe.specs.Answered.{plannedOf}

@@ -8,15 +8,14 @@ ghost use Rattle.paper.specs.Refusals.{refusal};
 ghost use Rattle.positions.specs.Runs.{Holds};
 ghost use Rattle.recipe.specs.Plans.{GoodArrays, GoodResults};
 ghost use Rattle.quick.specs.Operands.{pairing as pairedAs};
-ghost use Rattle.quick.specs.Cells.{Workable, Ahead};
 ghost use Rattle.values.specs.Jobs.{InBundle, InWork, SourceOf, JobFor, movedCount, pairingFor, originMark, originWord, Fetches};
 ghost use Rattle.values.specs.Runs.{Asked, Moved, Running, Valued};
 use cell::bytes::put9;
 use cell::bytes::word;
 use cell::bytes::write_cell;
-use hot::computed;
-use hot::pair_code;
-use hot::single_code;
+use coded::computed;
+use coded::pair_code;
+use coded::single_code;
 use origin::Origin;
 use origin::origin_of;
 use paper::Answer;
@@ -25,6 +24,7 @@ use paper::Ordinality;
 use paper::Reading;
 use paper::Refusal;
 use paper::StepNumber;
+use quick::codes::ahead;
 use quick::operands::IN_BUNDLE;
 use quick::operands::IN_WORK;
 use quick::operands::Pairing;
@@ -245,25 +245,6 @@ fn move_cells(bundle: &[u8], recipe: &[u8], work: &mut [u8], base: usize, job: J
 }
 
 // ---- the first cells of a step
-
-// The cells of a step up to the first that refuses, by the quick loop of its code; and how many they are.
-fn ahead(bundle: &[u8], work: &mut [u8], base: usize, q: Pairing, n: usize) -> usize
-    requires { ⌜ Workable (now bundle) (now work) base q n ⌝ }
-    ensures { λ r. ⌜ Ahead (now (bundle .entry)) (now (work .entry)) base q n r (now (work .exit)) ⌝ }
-{
-    let a = q.first;
-    let b = q.second;
-    if a.which == SCALAR {
-        if b.which == SCALAR {
-            return 0;
-        }
-        return quick_scalars::left::ahead(bundle, work, base, q, n);
-    }
-    if b.which == SCALAR {
-        return quick_scalars::right::ahead(bundle, work, base, q, n);
-    }
-    quick_pairs::ahead(bundle, work, base, q, n)
-}
 
 // The cells of a step that are moved, or worked out ahead by the quick loop; and how many they are. No cell of them refuses.
 fn begin_cells(

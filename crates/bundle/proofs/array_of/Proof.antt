@@ -1,40 +1,77 @@
--- `bundle::array_of` meets its contract.
-use Prim.Native.Nat.{_+_, _*_}
-use Rattle.bundle.specs.Arrays.{judged-none, of-extent, of-short, of-bad, of-got}
-use denote.Ref.{now}
+-- `bundle::array_of` meets its contract: each way out by the law of its test.
+use Prim.Native.Nat.{ℕ, _+_, _*_}
+use mathlib.Core.Path.{_≡_}
+use mathlib.Core.List.{List}
 use native.Mathlib.Omega.{arith}
 use borrow.Author.Needs.{needs}
+use denote.Ref.{now}
+use lib.ListN.{drop}
+use Rattle.paper.specs.declared.Form.{Form}
+use Rattle.paper.specs.declared.Refusal.{Refusal}
+use Rattle.paper.specs.Limits.{cellBytes}
+use Rattle.paper.specs.Refusals.{refused}
+use Rattle.paper.specs.Bundle.{arrayOf}
+use Rattle.paper.specs.Answers.{shapeOf}
+use Rattle.extent.specs.Judged.{cellsWithin}
+use Rattle.bundle.specs.declared.One.{One}
+use Rattle.bundle.specs.Read.{none, JudgedArray}
+use Rattle.bundle.specs.Arrays.{judged-none, of-extent, of-short, of-bad, of-got}
 use Rattle.bundle.proofs.array_of.Statement.{statement}
 use Rattle.bundle.proofs.array_of.Tie as tie
 
+-- the extent is judged
+module _ (c : tie.After-extent-cells) where
+  abbrev bs : List ℕ
+  bs = now (c .before .before .before .before .args .s)
+
+  abbrev k : ℕ
+  k = c .before .before .before .before .args .k
+
+  abbrev from : ℕ
+  from = c .before .before .before .before .args .from
+
+  abbrev form : Form
+  form = c .before .before .before .before .args .form
+
+  abbrev n : ℕ
+  n = c .extent-cells .result
+
+  count : n ≡ cellsWithin (shapeOf form .axes) (shapeOf form .maximum)
+  count = c .extent-cells .ensures .0
+
+  stops : (x : Refusal) → (x .number ≡ 0 → ⊥) → (r : One) → r ≡ none x → refused x ≡ arrayOf k (shapeOf form) (drop from bs) → JudgedArray bs from k form r
+  stops x h = judged-none bs x h from k form
+
 returns : tie.Need-returns
 returns c =
-    let a = c .before .before .before .before .before .before .args in
-    judged-none (now (a .s)) _ (λ e. omega arith) (a .from) (a .k) (a .form) (c .refusing .result) (c .refusing .ensures)
-    (of-extent (a .k) (now (a .s)) (a .from) (a .form) _ (c .before .before .extent-cells .ensures .0) (c .before .if1 .taken))
+    let p = c .before .before in
+    stops p _ (λ e. omega arith) (c .refusing .result) (c .refusing .ensures) (of-extent (k p) (bs p) (from p) (form p) (n p) (count p) (c .before .if1 .taken))
 
 returns-2 : tie.Need-returns-2
 returns-2 c =
-    let a = c .before .before .before .before .before .before .before .args in
-    judged-none (now (a .s)) _ (λ e. omega arith) (a .from) (a .k) (a .form) (c .refusing2 .result) (c .refusing2 .ensures)
-    (of-short (a .k) (now (a .s)) (a .from) (a .form) _ (c .before .before .before .extent-cells .ensures .0) (c .before .before .if1 .left) (c .before .if2 .taken))
+    let p = c .before .before .before in
+    stops p _ (λ e. omega arith) (c .refusing2 .result) (c .refusing2 .ensures)
+    (of-short (k p) (bs p) (from p) (form p) (n p) (count p) (c .before .before .if1 .left) (c .before .if2 .taken))
 
 returns-3 : tie.Need-returns-3
 returns-3 c =
-    let a = c .before .before .before .before .before .before .before .before .before .args in
-    judged-none (now (a .s)) _ (λ e. omega arith) (a .from) (a .k) (a .form) (c .refusing3 .result) (c .refusing3 .ensures)
-    (of-bad (a .k) (now (a .s)) (a .from) (a .form) _ (c .before .before .before .before .before .extent-cells .ensures .0) (c .before .before .before .before .if1 .left) (c .before .before .before .if2 .left) _ (c .before .before .first-bad .ensures .0) (c .before .if3 .taken))
+    let b = c .before .before in
+    let p = b .before .before .before in
+    stops p _ (λ e. omega arith) (c .refusing3 .result) (c .refusing3 .ensures)
+    (of-bad (k p) (bs p) (from p) (form p) (n p) (count p) (b .before .before .if1 .left) (b .before .if2 .left) _ (b .first-bad .ensures .0) (c .before .if3 .taken))
 
 returns-4 : tie.Need-returns-4
 returns-4 c =
-    let a = c .before .before .before .before .before .before .before .before .before .args in
-    of-got (a .k) (now (a .s)) (a .from) (a .form) _ (c .before .before .before .before .before .extent-cells .ensures .0) (c .before .before .before .before .if1 .left) (c .before .before .before .if2 .left) _ (c .before .before .first-bad .ensures .0)
-    (c .before .before .before .before .before .before .before .before .before .pre) (c .before .if3 .left) _ (λ i. record { refusal = (c .no-refusal .ensures) i; head = record { form = a .form; at = a .from }; end = a .from + c .before .before .before .before .before .extent-cells .result * 9 })
+    let b = c .before .before in
+    let p = b .before .before .before in
+    of-got (k p) (bs p) (from p) (form p) (n p) (count p) (b .before .before .if1 .left) (b .before .if2 .left) _ (b .first-bad .ensures .0)
+    (p .before .before .before .before .pre) (c .before .if3 .left) (p .extent-cells .ensures .1) _
+    (λ i. record { refusal = (c .no-refusal .ensures) i; head = record { form = form p; at = from p; cells = n p }; end = from p + n p * cellBytes })
 
 pub array-of-spec : {M : Type 1} → statement M
 array-of-spec =
     tie.close
     (tie.spec
-    (λ c κs. search needs) (λ c κs. search needs) returns (λ c. search needs) (λ c. search needs) (λ c κs. search needs)
-    returns-2 (λ c κs. search needs) (λ c. search needs) (λ c κs. search needs) returns-3 (λ c κs. search needs)
-    (λ c. search needs) (λ c. search needs) returns-4)
+    (λ c κs. search needs) (λ c κs. search needs) returns (λ c. search needs) (λ c. search needs)
+    (λ c κs. search needs) returns-2 (λ c κs. search needs) (λ c. search needs) (λ c κs. search needs) returns-3
+    (λ c κs. search needs) (λ c. search needs) (λ c. search needs) returns-4)

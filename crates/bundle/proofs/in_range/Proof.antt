@@ -3,11 +3,9 @@ use borrow.Author.Tests.{le-leb, lt-leb}
 use Rattle.bundle.proofs.in_range.Statement.{statement}
 use Rattle.bundle.proofs.in_range.Tie as tie
 
--- src/lib.rt:84:9
 returns : tie.Need-returns
 returns c = rw (lt-leb 1 (c .before .args .x) (c .if1 .taken))
 
--- src/lib.rt:80:1
 returns-2 : tie.Need-returns-2
 returns-2 c = rw (le-leb 1 (c .before .args .x) (c .if1 .left))
 

@@ -6,13 +6,8 @@ use borrow.Author.Needs.{needs}
 use Rattle.bundle.proofs.refusing_all.Statement.{statement}
 use Rattle.bundle.proofs.refusing_all.Tie as tie
 
--- src/lib.rt:148:9
-no-head-requires : tie.Need-no-head-requires
-no-head-requires c κs = search needs
-
--- src/lib.rt:145:1
 returns : tie.Need-returns
 returns c = λ i. record { refusal = c .before .args .refusal; count = 0; heads = ap (replicate mostArrays) (c .no-head .ensures) i }
 
 pub refusing-all-spec : {M : Type 1} → statement M
-refusing-all-spec = tie.close (tie.spec no-head-requires returns)
+refusing-all-spec = tie.close (tie.spec (λ c κs. search needs) returns)

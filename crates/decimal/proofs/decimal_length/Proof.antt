@@ -27,5 +27,5 @@ pub decimal-length-spec : {M : Type 1} → statement M
 decimal-length-spec =
     tie.close
     (tie.spec
-    (λ c. search needs) (λ c. search needs) sub-bits (λ c. search needs) (λ c. search needs) (λ c κs. search needs) returns
-    (λ c. search needs) returns-2)
+    (λ c. search needs) (λ c. search needs) sub-bits (λ c. search needs) (λ c. search needs) (λ c κs. search needs)
+    returns (λ c. search needs) returns-2)

@@ -75,7 +75,7 @@ pub put-decimal-spec : {M : Type 1} → statement M
 put-decimal-spec =
     tie.close
     (tie.spec
-    (λ c κs. search needs) (λ c. search needs) (λ c. search needs) put-short-requires-2 put-four-requires (λ c. search needs) returns-2
-    put-short-requires-3 put-eight-requires (λ c. search needs) returns-3
-    put-short-requires-4 put-four-requires-2 put-eight-requires-2 (λ c. search needs) returns-4
-    put-short-requires-5 put-eight-requires-3 put-eight-requires-4 (λ c. search needs) returns-5)
+    (λ c κs. search needs) (λ c. search needs) (λ c. search needs) put-short-requires-2 put-four-requires
+    (λ c. search needs) returns-2 put-short-requires-3 put-eight-requires (λ c. search needs) returns-3
+    put-short-requires-4 put-four-requires-2 put-eight-requires-2 (λ c. search needs) returns-4 put-short-requires-5
+    put-eight-requires-3 put-eight-requires-4 (λ c. search needs) returns-5)

@@ -33,4 +33,5 @@ pub put-int-spec : {M : Type 1} → statement M
 put-int-spec =
     tie.close
     (tie.spec
-    slice-write-out (λ c κs. search needs) (λ c. search needs) (λ c κs. search needs) put-decimal-requires same-length returns)
+    slice-write-out (λ c κs. search needs) (λ c. search needs) (λ c κs. search needs) put-decimal-requires same-length
+    returns)

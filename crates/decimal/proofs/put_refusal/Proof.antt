@@ -25,5 +25,5 @@ pub put-refusal-spec : {M : Type 1} → statement M
 put-refusal-spec =
     tie.close
     (tie.spec
-    (λ c. search needs) (λ c κs. search needs) (λ c. search needs) (λ c κs. search needs) (λ c. search needs) put-number-requires-2 (λ c. search needs)
-    put-number-requires-3 put-byte-requires (λ c. search needs) returns)
+    (λ c. search needs) (λ c κs. search needs) (λ c. search needs) (λ c κs. search needs) (λ c. search needs)
+    put-number-requires-2 (λ c. search needs) put-number-requires-3 put-byte-requires (λ c. search needs) returns)

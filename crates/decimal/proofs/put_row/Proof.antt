@@ -51,5 +51,6 @@ pub put-row-spec : {M : Type 1} → statement M
 put-row-spec =
     tie.close
     (tie.spec
-    Inv-loop μ-loop (λ c κs. search needs) (λ c. search needs) put-decimal-requires loop-holds (λ c. search needs) (λ c. search needs) (λ c. search needs)
-    position-at-requires put-position-requires (λ c. search needs) (λ c. search needs) loop-again put-byte-requires same-length returns)
+    Inv-loop μ-loop (λ c κs. search needs) (λ c. search needs) put-decimal-requires loop-holds (λ c. search needs)
+    (λ c. search needs) (λ c. search needs) position-at-requires put-position-requires (λ c. search needs)
+    (λ c. search needs) loop-again put-byte-requires same-length returns)

@@ -25,5 +25,5 @@ pub put-short-spec : {M : Type 1} → statement M
 put-short-spec =
     tie.close
     (tie.spec
-    (λ c κs. search needs) (λ c. search needs) (λ c. search needs) put-small-requires put-pair-requires (λ c. search needs)
-    returns)
+    (λ c κs. search needs) (λ c. search needs) (λ c. search needs) put-small-requires put-pair-requires
+    (λ c. search needs) returns)

@@ -26,5 +26,5 @@ pub put-small-spec : {M : Type 1} → statement M
 put-small-spec =
     tie.close
     (tie.spec
-    (λ c. search needs) add-last (λ c. search needs) (λ c. search needs) slice-write-out (λ c. search needs) (λ c. search needs)
-    slice-write-out-2 add-result (λ c. search needs) returns)
+    (λ c. search needs) add-last (λ c. search needs) (λ c. search needs) slice-write-out (λ c. search needs)
+    (λ c. search needs) slice-write-out-2 add-result (λ c. search needs) returns)

@@ -25,9 +25,11 @@ pub smallest-spec : {M : Type 1} → statement M
 smallest-spec =
     tie.close
     (tie.spec
-    (λ c. arm (c .match .keys1)) (λ c. arm (c .match .keys2)) (λ c. arm (c .match .keys3)) (λ c. arm (c .match .keys4))
-    (λ c. arm (c .match .keys5)) (λ c. arm (c .match .keys6)) (λ c. arm (c .match .keys7)) (λ c. arm (c .match .keys8))
-    (λ c. arm (c .match .keys9)) (λ c. arm (c .match .keys10)) (λ c. arm (c .match .keys11)) (λ c. arm (c .match .keys12))
-    (λ c. arm (c .match .keys13)) (λ c. arm (c .match .keys14)) (λ c. arm (c .match .keys15)) (λ c. arm (c .match .keys16))
-    (λ c. arm (c .match .keys17)) (λ c. arm (c .match .keys18)) (λ c. arm (c .match .keys19)) (λ c. arm (c .match .keys20))
+    (λ c. arm (c .match .keys1)) (λ c. arm (c .match .keys2)) (λ c. arm (c .match .keys3))
+    (λ c. arm (c .match .keys4)) (λ c. arm (c .match .keys5)) (λ c. arm (c .match .keys6))
+    (λ c. arm (c .match .keys7)) (λ c. arm (c .match .keys8)) (λ c. arm (c .match .keys9))
+    (λ c. arm (c .match .keys10)) (λ c. arm (c .match .keys11)) (λ c. arm (c .match .keys12))
+    (λ c. arm (c .match .keys13)) (λ c. arm (c .match .keys14)) (λ c. arm (c .match .keys15))
+    (λ c. arm (c .match .keys16)) (λ c. arm (c .match .keys17)) (λ c. arm (c .match .keys18))
+    (λ c. arm (c .match .keys19)) (λ c. arm (c .match .keys20))
     (λ c. absurd (never (c .before .args .k) (c .before .pre) (c .match .rest))))

@@ -10,22 +10,10 @@ use Rattle.paper.specs.Axes.{noAxis}
 use Rattle.extent.proofs.axis_of.Statement.{statement}
 use Rattle.extent.proofs.axis_of.Tie as tie
 
-rank-of-requires : tie.Need-rank-of-requires
-rank-of-requires c κs = search needs
-
-from-zero-requires : tie.Need-from-zero-requires
-from-zero-requires c κs = search needs
-
 returns : tie.Need-returns
 returns c =
     let e = c .before .before .before .args .t1 in
     axis-past e (c .before .before .rank-of .result) (c .before .before .rank-of .ensures) (c .before .from-zero .result) (c .if1 .taken) ∙ ap (λ (i : ℕ). getD (axesOf e) i noAxis) (c .before .from-zero .ensures)
-
-mul-result : tie.Need-mul-result
-mul-result c = search needs
-
-element-copy-out-result : tie.Need-element-copy-out-result
-element-copy-out-result c = search needs
 
 returns-2 : tie.Need-returns-2
 returns-2 c =
@@ -36,9 +24,4 @@ pub axis-of-spec : {M : Type 1} → statement M
 axis-of-spec =
     tie.close
     (tie.spec
-    rank-of-requires
-    from-zero-requires
-    returns
-    mul-result
-    element-copy-out-result
-    returns-2)
+    (λ c κs. search needs) (λ c κs. search needs) returns (λ c. search needs) (λ c. search needs) returns-2)

@@ -7,8 +7,8 @@ use native.Mathlib.Omega.{arith}
 use borrow.Author.Needs.{needs}
 use borrow.Author.Tests.{le-leb, lt-leb}
 use lib.ListN.{drop, take}
-use Rattle.coordinates.specs.Limits.{Sound, cells-drop}
-use Rattle.coordinates.specs.Loops.{cells-down, cells-none, drop-none, product-le, sound-first}
+use Rattle.laws.specs.Limits.{Sound, cells-drop}
+use Rattle.laws.specs.Loops.{cells-down, cells-none, drop-none, product-le, sound-first}
 use Rattle.paper.specs.Answers.{axesOf}
 use Rattle.paper.specs.Axes.{cells, noAxis}
 use Rattle.paper.specs.Limits.{mostCells}
@@ -30,20 +30,8 @@ module _ (c : tie.After-width-of Inv-loop μ-loop) where
       let l = c .before .before .before .loop in
       ap₂ _*_ (l .inv .1) (c .width-of .ensures .0) ∙ mul-comm _ _ ∙ sym (cells-down (c .before .before .before .before .before .args .t1 .axes) (c .before .before .before .before .rank-of .result) (c .before .before .before .before .rank-of .ensures .room) (l .i) noAxis (omega arith) (omega arith))
 
-rank-of-requires : tie.Need-rank-of-requires Inv-loop μ-loop
-rank-of-requires c κs = search needs
-
 loop-holds : tie.Need-loop-holds Inv-loop μ-loop
 loop-holds c = (omega arith, cells-none (c .before .args .t1 .axes) (c .rank-of .result) (c .rank-of .ensures .room), omega arith)
-
-sub-i : tie.Need-sub-i Inv-loop μ-loop
-sub-i c = search needs
-
-mul-a : tie.Need-mul-a Inv-loop μ-loop
-mul-a c = search needs
-
-element-copy-out-a : tie.Need-element-copy-out-a Inv-loop μ-loop
-element-copy-out-a c = search needs
 
 width-of-requires : tie.Need-width-of-requires Inv-loop μ-loop
 width-of-requires c κs =
@@ -60,9 +48,6 @@ returns c =
     omega (arith, turn (c .before), cells-drop (take (s .rank-of .result) (s .before .args .t1 .axes)) (c .before .before .before .before .loop .i - 1) (sound s), ap cells (s .rank-of .ensures .first)) in
     (rw (lt-leb _ _ m), omega arith)
 
-loop-less : tie.Need-loop-less Inv-loop μ-loop
-loop-less c = omega arith
-
 loop-again : tie.Need-loop-again Inv-loop μ-loop
 loop-again c = (omega arith, turn (c .before), omega arith)
 
@@ -78,16 +63,5 @@ pub cells-of-spec : {M : Type 1} → statement M
 cells-of-spec =
     tie.close
     (tie.spec
-    Inv-loop
-    μ-loop
-    rank-of-requires
-    loop-holds
-    sub-i
-    mul-a
-    element-copy-out-a
-    width-of-requires
-    mul-n
-    returns
-    loop-less
-    loop-again
-    returns-2)
+    Inv-loop μ-loop (λ c κs. search needs) loop-holds (λ c. search needs) (λ c. search needs) (λ c. search needs)
+    width-of-requires mul-n returns (λ c. omega arith) loop-again returns-2)

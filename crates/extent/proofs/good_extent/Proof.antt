@@ -4,20 +4,14 @@ use mathlib.Core.Path.{sym, _∙_}
 use native.Mathlib.Omega.{arith}
 use borrow.Author.Needs.{needs}
 use borrow.Author.Tests.{not-false, not-true}
-use Rattle.coordinates.specs.Limits.{limits-true}
+use Rattle.laws.specs.Limits.{limits-true}
 use Rattle.extent.specs.Judged.{bad-limits, bad-names, by-cells}
 use Rattle.paper.specs.Answers.{axesOf}
 use Rattle.extent.proofs.good_extent.Statement.{statement}
 use Rattle.extent.proofs.good_extent.Tie as tie
 
-good-names-requires : tie.Need-good-names-requires
-good-names-requires c κs = search needs
-
 returns : tie.Need-returns
 returns c = (bad-names (axesOf (c .before .before .args .e)) (sym (c .before .good-names .ensures) ∙ not-true _ (c .if1 .taken)), omega arith)
-
-good-limits-requires : tie.Need-good-limits-requires
-good-limits-requires c κs = search needs
 
 returns-2 : tie.Need-returns-2
 returns-2 c =
@@ -35,11 +29,4 @@ returns-3 c = (
 
 pub good-extent-spec : {M : Type 1} → statement M
 good-extent-spec =
-    tie.close
-    (tie.spec
-    good-names-requires
-    returns
-    good-limits-requires
-    returns-2
-    cells-of-requires
-    returns-3)
+    tie.close (tie.spec (λ c κs. search needs) returns (λ c κs. search needs) returns-2 cells-of-requires returns-3)

@@ -24,29 +24,11 @@ module _ (c : tie.In-loop Inv-loop μ-loop) where
   turn : goodLimits (axesOf (c .before .before .before .args .t1)) ≡ (inRange (axisNo (c .before .before .before .args .t1) (c .before .loop .i)) && goodLimits (drop (c .before .loop .i + 1) (axesOf (c .before .before .before .args .t1))))
   turn = sym (c .before .loop .inv) ∙ limits-up (c .before .before .before .args .t1) (c .before .before .rank-of .result) (c .before .before .rank-of .ensures) (c .before .loop .i) (c .loop-test .taken)
 
-rank-of-requires : tie.Need-rank-of-requires Inv-loop μ-loop
-rank-of-requires c κs = search needs
-
 loop-holds : tie.Need-loop-holds Inv-loop μ-loop
 loop-holds c = refl
 
-mul-in-range : tie.Need-mul-in-range Inv-loop μ-loop
-mul-in-range c = search needs
-
-element-copy-out-in-range : tie.Need-element-copy-out-in-range Inv-loop μ-loop
-element-copy-out-in-range c = search needs
-
-in-range-requires : tie.Need-in-range-requires Inv-loop μ-loop
-in-range-requires c κs = search needs
-
 returns : tie.Need-returns Inv-loop μ-loop
 returns c = sym (turn (c .before .before .before) ∙ rw (sym (c .before .in-range .ensures) ∙ not-true _ (c .if1 .taken)))
-
-add-i : tie.Need-add-i Inv-loop μ-loop
-add-i c = search needs
-
-loop-less : tie.Need-loop-less Inv-loop μ-loop
-loop-less c = omega arith
 
 loop-again : tie.Need-loop-again Inv-loop μ-loop
 loop-again c = sym (turn (c .before .before .before) ∙ rw (sym (c .before .in-range .ensures) ∙ not-false _ (c .if1 .left)))
@@ -58,15 +40,5 @@ pub good-limits-spec : {M : Type 1} → statement M
 good-limits-spec =
     tie.close
     (tie.spec
-    Inv-loop
-    μ-loop
-    rank-of-requires
-    loop-holds
-    mul-in-range
-    element-copy-out-in-range
-    in-range-requires
-    returns
-    add-i
-    loop-less
-    loop-again
-    returns-2)
+    Inv-loop μ-loop (λ c κs. search needs) loop-holds (λ c. search needs) (λ c. search needs) (λ c κs. search needs)
+    returns (λ c. search needs) (λ c. omega arith) loop-again returns-2)

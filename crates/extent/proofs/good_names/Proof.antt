@@ -25,38 +25,14 @@ module _ (c : tie.In-loop Inv-loop μ-loop) where
       ≡ (goodName (axisNo (c .before .before .before .args .t1) (c .before .loop .i)) && (not (named (axisNo (c .before .before .before .args .t1) (c .before .loop .i)) (drop (c .before .loop .i + 1) (axesOf (c .before .before .before .args .t1)))) && goodNames (drop (c .before .loop .i + 1) (axesOf (c .before .before .before .args .t1)))))
   turn = sym (c .before .loop .inv) ∙ names-up (c .before .before .before .args .t1) (c .before .before .rank-of .result) (c .before .before .rank-of .ensures) (c .before .loop .i) (c .loop-test .taken)
 
-rank-of-requires : tie.Need-rank-of-requires Inv-loop μ-loop
-rank-of-requires c κs = search needs
-
 loop-holds : tie.Need-loop-holds Inv-loop μ-loop
 loop-holds c = refl
-
-mul-a : tie.Need-mul-a Inv-loop μ-loop
-mul-a c = search needs
-
-element-copy-out-a : tie.Need-element-copy-out-a Inv-loop μ-loop
-element-copy-out-a c = search needs
-
-is-name-requires : tie.Need-is-name-requires Inv-loop μ-loop
-is-name-requires c κs = search needs
 
 returns : tie.Need-returns Inv-loop μ-loop
 returns c = sym (turn (c .before .before .before) ∙ rw (sym (c .before .is-name .ensures) ∙ not-true _ (c .if1 .taken)))
 
-add-is-named : tie.Need-add-is-named Inv-loop μ-loop
-add-is-named c = search needs
-
-is-named-requires : tie.Need-is-named-requires Inv-loop μ-loop
-is-named-requires c κs = search needs
-
 returns-2 : tie.Need-returns-2 Inv-loop μ-loop
 returns-2 c = sym (turn (c .before .before .before .before .before) ∙ rw (sym (c .before .before .before .is-name .ensures) ∙ not-false _ (c .before .before .if1 .left), sym (c .before .is-named .ensures) ∙ c .if2 .taken))
-
-add-i : tie.Need-add-i Inv-loop μ-loop
-add-i c = search needs
-
-loop-less : tie.Need-loop-less Inv-loop μ-loop
-loop-less c = omega arith
 
 loop-again : tie.Need-loop-again Inv-loop μ-loop
 loop-again c = sym (turn (c .before .before .before .before .before) ∙ rw (sym (c .before .before .before .is-name .ensures) ∙ not-false _ (c .before .before .if1 .left), sym (c .before .is-named .ensures) ∙ c .if2 .left))
@@ -68,18 +44,6 @@ pub good-names-spec : {M : Type 1} → statement M
 good-names-spec =
     tie.close
     (tie.spec
-    Inv-loop
-    μ-loop
-    rank-of-requires
-    loop-holds
-    mul-a
-    element-copy-out-a
-    is-name-requires
-    returns
-    add-is-named
-    is-named-requires
-    returns-2
-    add-i
-    loop-less
-    loop-again
+    Inv-loop μ-loop (λ c κs. search needs) loop-holds (λ c. search needs) (λ c. search needs) (λ c κs. search needs)
+    returns (λ c. search needs) (λ c κs. search needs) returns-2 (λ c. search needs) (λ c. omega arith) loop-again
     returns-3)

@@ -27,19 +27,10 @@ returns-2 c = name-high (c .before .before .args .n) (c .before .if1 .left) (c .
 loop-holds : tie.Need-loop-holds Inv-loop μ-loop
 loop-holds c = let h = c .before .before .fits .n .fits in (omega arith, omega arith, refl)
 
-in-name-requires : tie.Need-in-name-requires Inv-loop μ-loop
-in-name-requires c κs = search needs
-
 returns-3 : tie.Need-returns-3 Inv-loop μ-loop
 returns-3 c =
     let l = c .before .before .before .loop in
     rest-stop (l .i) (l .left) (c .before .before .loop-test .taken) (l .inv .1) (sym (c .before .in-name .ensures) ∙ not-true _ (c .if3 .taken)) ∙ l .inv .2 ∙ name-first (c .before .before .before .before .before .before .args .n) (c .before .before .before .before .before .if1 .left) (c .before .before .before .before .if2 .left)
-
-add-i : tie.Need-add-i Inv-loop μ-loop
-add-i c = search needs
-
-loop-less : tie.Need-loop-less Inv-loop μ-loop
-loop-less c = omega arith
 
 loop-again : tie.Need-loop-again Inv-loop μ-loop
 loop-again c =
@@ -56,14 +47,5 @@ pub is-name-spec : {M : Type 1} → statement M
 is-name-spec =
     tie.close
     (tie.spec
-    Inv-loop
-    μ-loop
-    returns
-    returns-2
-    loop-holds
-    in-name-requires
-    returns-3
-    add-i
-    loop-less
-    loop-again
-    returns-4)
+    Inv-loop μ-loop returns returns-2 loop-holds (λ c κs. search needs) returns-3 (λ c. search needs)
+    (λ c. omega arith) loop-again returns-4)

@@ -25,26 +25,11 @@ module _ (c : tie.In-loop Inv-loop μ-loop) where
       ≡ (sameName (c .before .before .before .args .a) (axisNo (c .before .before .before .args .t2) (c .before .loop .i)) || named (c .before .before .before .args .a) (drop (c .before .loop .i + 1) (axesOf (c .before .before .before .args .t2))))
   turn = sym (c .before .loop .inv) ∙ named-up (c .before .before .before .args .t2) (c .before .before .rank-of .result) (c .before .before .rank-of .ensures) (c .before .loop .i) (c .before .before .before .args .a) (c .loop-test .taken)
 
-rank-of-requires : tie.Need-rank-of-requires Inv-loop μ-loop
-rank-of-requires c κs = search needs
-
 loop-holds : tie.Need-loop-holds Inv-loop μ-loop
 loop-holds c = refl
 
-mul-b : tie.Need-mul-b Inv-loop μ-loop
-mul-b c = search needs
-
-element-copy-out-b : tie.Need-element-copy-out-b Inv-loop μ-loop
-element-copy-out-b c = search needs
-
 returns : tie.Need-returns Inv-loop μ-loop
 returns c = sym (turn (c .before .before .before .before) ∙ rw (eq-eqb _ _ (c .if1 .taken)))
-
-add-i : tie.Need-add-i Inv-loop μ-loop
-add-i c = search needs
-
-loop-less : tie.Need-loop-less Inv-loop μ-loop
-loop-less c = omega arith
 
 loop-again : tie.Need-loop-again Inv-loop μ-loop
 loop-again c = sym (turn (c .before .before .before .before) ∙ rw (ne-eqb _ _ (c .if1 .left)))
@@ -56,14 +41,5 @@ pub is-named-spec : {M : Type 1} → statement M
 is-named-spec =
     tie.close
     (tie.spec
-    Inv-loop
-    μ-loop
-    rank-of-requires
-    loop-holds
-    mul-b
-    element-copy-out-b
-    returns
-    add-i
-    loop-less
-    loop-again
-    returns-2)
+    Inv-loop μ-loop (λ c κs. search needs) loop-holds (λ c. search needs) (λ c. search needs) returns
+    (λ c. search needs) (λ c. omega arith) loop-again returns-2)

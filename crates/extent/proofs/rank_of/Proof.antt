@@ -4,7 +4,7 @@ use mathlib.Core.Path.{_≡_}
 use native.Mathlib.Omega.{arith}
 use borrow.Author.Needs.{needs}
 use lib.ListN.{length, length-take}
-use Rattle.coordinates.specs.Loops.{length-mapped}
+use Rattle.laws.specs.Loops.{length-mapped}
 use Rattle.extent.specs.Rank.{ranked}
 use Rattle.paper.specs.Limits.{mostAxes}
 use Rattle.extent.proofs.rank_of.Statement.{statement}

@@ -59,13 +59,5 @@ pub cells-length-spec : {M : Type 1} → statement M
 cells-length-spec =
     tie.close
     (tie.spec
-    Inv-loop
-    μ-loop
-    loop-holds
-    held-cell-requires
-    (λ c κs. search needs)
-    add-long
-    add-i
-    (λ c. omega arith)
-    loop-again
+    Inv-loop μ-loop loop-holds held-cell-requires (λ c κs. search needs) add-long add-i (λ c. omega arith) loop-again
     returns)

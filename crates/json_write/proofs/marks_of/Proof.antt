@@ -4,8 +4,8 @@ use mathlib.Core.Path.{_≡_, ap, ap₂, subst, sym, _∙_}
 use native.Mathlib.Omega.{arith}
 use borrow.Author.Needs.{needs}
 use lib.ListN.{drop, take}
-use Rattle.coordinates.specs.Limits.{Sound}
-use Rattle.coordinates.specs.Loops.{drop-none, sound-first}
+use Rattle.laws.specs.Limits.{Sound}
+use Rattle.laws.specs.Loops.{drop-none, sound-first}
 use Rattle.paper.specs.Axes.{cells, noAxis}
 use Rattle.paper.specs.Limits.{mostAxes, mostCells}
 use Rattle.json_write.specs.Lengths.{marks, marks-end, marks-down, marks-bound}
@@ -59,17 +59,5 @@ pub marks-of-spec : {M : Type 1} → statement M
 marks-of-spec =
     tie.close
     (tie.spec
-    Inv-loop
-    μ-loop
-    (λ c κs. search needs)
-    loop-holds
-    (λ c. search needs)
-    (λ c. search needs)
-    (λ c. search needs)
-    width-of-requires
-    add-n
-    mul-n
-    add-n-2
-    (λ c. omega arith)
-    loop-again
-    returns)
+    Inv-loop μ-loop (λ c κs. search needs) loop-holds (λ c. search needs) (λ c. search needs) (λ c. search needs)
+    width-of-requires add-n mul-n add-n-2 (λ c. omega arith) loop-again returns)

@@ -67,23 +67,7 @@ pub put-cell-spec : {M : Type 1} → statement M
 put-cell-spec =
     tie.close
     (tie.spec
-    (λ c. search needs)
-    (λ c. search needs)
-    put-text-requires
-    (λ c. search needs)
-    put-int-requires
-    (λ c. search needs)
-    (λ c. search needs)
-    (λ c. search needs)
-    put-text-requires-2
-    (λ c. search needs)
-    put-text-requires-3
-    (λ c. search needs)
-    returns
-    (λ c. search needs)
-    returns-2
-    returns-3
-    (λ c. search needs)
-    returns-4
-    (λ c. search needs)
-    returns-5)
+    (λ c. search needs) (λ c. search needs) put-text-requires (λ c. search needs) put-int-requires (λ c. search needs)
+    (λ c. search needs) (λ c. search needs) put-text-requires-2 (λ c. search needs) put-text-requires-3
+    (λ c. search needs) returns (λ c. search needs) returns-2 returns-3 (λ c. search needs) returns-4
+    (λ c. search needs) returns-5)

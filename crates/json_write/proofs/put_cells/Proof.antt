@@ -69,17 +69,5 @@ pub put-cells-spec : {M : Type 1} → statement M
 put-cells-spec =
     tie.close
     (tie.spec
-    Inv-loop
-    μ-loop
-    put-requires
-    loop-holds
-    (λ c. search needs)
-    held-cell-requires
-    put-cell-requires
-    put-comma-requires
-    add-cell
-    (λ c. omega arith)
-    loop-again
-    put-requires-2
-    same-length
-    returns)
+    Inv-loop μ-loop put-requires loop-holds (λ c. search needs) held-cell-requires put-cell-requires
+    put-comma-requires add-cell (λ c. omega arith) loop-again put-requires-2 same-length returns)

@@ -17,4 +17,5 @@ pub left-on-spec : {M : Type 1} → statement M
 left-on-spec =
     tie.close
     (tie.spec
-    (λ c. search needs) (λ c. search needs) (λ c. search needs) (λ c. search needs) sub-result-2 (λ c. search needs) returns-2)
+    (λ c. search needs) (λ c. search needs) (λ c. search needs) (λ c. search needs) sub-result-2 (λ c. search needs)
+    returns-2)

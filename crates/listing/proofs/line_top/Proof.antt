@@ -7,7 +7,7 @@ use Rattle.paper.specs.declared.Axis.{Axis}
 use Rattle.paper.specs.Answers.{axesOf}
 use Rattle.paper.specs.Axes.{noAxis, axisAt}
 use Rattle.paper.specs.Limits.{reach}
-use Rattle.coordinates.specs.Limits.{sound-at}
+use Rattle.laws.specs.Limits.{sound-at}
 use Rattle.extent.specs.Rank.{axisNo, axis-first}
 use Rattle.listing.proofs.line_top.Statement.{statement}
 use Rattle.listing.proofs.line_top.Tie as tie

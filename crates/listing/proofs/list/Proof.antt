@@ -198,7 +198,7 @@ pub list-spec : {M : Type 1} → statement M
 list-spec =
     tie.close
     (tie.spec
-    Inv-loop μ-loop (λ c κs. search needs) line-top-requires mul-size add-size (λ c. search needs) (λ c. search needs) (λ c. search needs)
-    loop-holds mul-is-true add-is-true is-true-requires cast-write-row add-write-row coordinate-of-requires left-on-requires add-end
-    mul-write-row sub-write-row cast-write-row-2 sub-write-row-2 write-row-requires add-written add-k (λ c. search needs) loop-again
-    cast-t32 cast-t33 add-t34 same-length returns)
+    Inv-loop μ-loop (λ c κs. search needs) line-top-requires mul-size add-size (λ c. search needs) (λ c. search needs)
+    (λ c. search needs) loop-holds mul-is-true add-is-true is-true-requires cast-write-row add-write-row
+    coordinate-of-requires left-on-requires add-end mul-write-row sub-write-row cast-write-row-2 sub-write-row-2
+    write-row-requires add-written add-k (λ c. search needs) loop-again cast-t32 cast-t33 add-t34 same-length returns)

@@ -49,9 +49,6 @@ put4-requires c κs = let s = c .before .before .before .before .before .before 
 add-i : tie.Need-add-i Inv-loop μ-loop
 add-i c = omega (arith, c .before .before .before .before .before .before .before .before .before .pre .0)
 
-loop-less : tie.Need-loop-less Inv-loop μ-loop
-loop-less c = omega arith
-
 loop-again : tie.Need-loop-again Inv-loop μ-loop
 loop-again c =
     let s = c .before .before .before .before .before .before .before .before .before in
@@ -75,5 +72,5 @@ pub put-positions-spec : {M : Type 1} → statement M
 put-positions-spec =
     tie.close
     (tie.spec
-    Inv-loop μ-loop loop-holds mul-put4 add-put4 mul-put4 element-copy-out-bits-of
-    (λ c κs. search needs) put4-requires add-i loop-less loop-again same-length returns)
+    Inv-loop μ-loop loop-holds mul-put4 add-put4 mul-put4 element-copy-out-bits-of (λ c κs. search needs)
+    put4-requires add-i (λ c. omega arith) loop-again same-length returns)

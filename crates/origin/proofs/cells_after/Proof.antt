@@ -4,8 +4,8 @@ use mathlib.Core.Path.{ap, ap₂, subst, sym, _∙_, _≡_}
 use native.Mathlib.Omega.{arith}
 use borrow.Author.Needs.{needs}
 use lib.ListN.{drop, take}
-use Rattle.coordinates.specs.Limits.{Sound, cells-drop, cells-pos, sound-drop}
-use Rattle.coordinates.specs.Loops.{cells-down, cells-none, sound-first}
+use Rattle.laws.specs.Limits.{Sound, cells-drop, cells-pos, sound-drop}
+use Rattle.laws.specs.Loops.{cells-down, cells-none, sound-first}
 use Rattle.paper.specs.Axes.{cells, noAxis}
 use Rattle.paper.specs.Limits.{mostCells}
 use Rattle.origin.proofs.cells_after.Statement.{statement}
@@ -59,7 +59,5 @@ pub cells-after-spec : {M : Type 1} → statement M
 cells-after-spec =
     tie.close
     (tie.spec
-    Inv-loop
-    μ-loop
-    (λ c κs. search needs) loop-holds (λ c. search needs) (λ c. search needs) (λ c. search needs) width-of-requires mul-n
-    (λ c. omega arith) loop-again returns)
+    Inv-loop μ-loop (λ c κs. search needs) loop-holds (λ c. search needs) (λ c. search needs) (λ c. search needs)
+    width-of-requires mul-n (λ c. omega arith) loop-again returns)

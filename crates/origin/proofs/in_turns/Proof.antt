@@ -20,5 +20,5 @@ pub in-turns-spec : {M : Type 1} → statement M
 in-turns-spec =
     tie.close
     (tie.spec
-    (λ c. search needs) (λ c. search needs) (λ c. search needs) (λ c. search needs) counted-requires returns counted-requires-2
-    returns-2)
+    (λ c. search needs) (λ c. search needs) (λ c. search needs) (λ c. search needs) counted-requires returns
+    counted-requires-2 returns-2)

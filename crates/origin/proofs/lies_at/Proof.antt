@@ -2,7 +2,7 @@
 use mathlib.Core.Path.{_≡_, ap, sym, _∙_}
 use borrow.Author.Needs.{needs}
 use borrow.Author.Tests.{not-true, not-false}
-use Rattle.coordinates.specs.Places.{inside-true}
+use Rattle.laws.specs.Places.{inside-true}
 use Rattle.paper.specs.Answers.{axesOf}
 use Rattle.paper.specs.Axes.{atOffset, inside}
 use Rattle.place.specs.Positions.{positionsOf}
@@ -37,5 +37,5 @@ pub lies-at-spec : {M : Type 1} → statement M
 lies-at-spec =
     tie.close
     (tie.spec
-    (λ c. search needs) (λ c. search needs) (λ c κs. search needs) (λ c κs. search needs) returns ordinality-of-requires
-    (λ c. search needs) (λ c. search needs) returns-2)
+    (λ c. search needs) (λ c. search needs) (λ c κs. search needs) (λ c κs. search needs) returns
+    ordinality-of-requires (λ c. search needs) (λ c. search needs) returns-2)

@@ -74,6 +74,7 @@ origin-of-spec =
     (tie.spec
     (λ c. search needs) (λ c. search needs) in-first-requires returns (λ c. search needs) (λ c κs. search needs)
     sliced-requires returns-2 (λ c. search needs) in-first-requires-2 returns-3 (λ c. search needs) returns-4
-    (λ c. search needs) returns-5 (λ c. search needs) laid-over-requires returns-6 (λ c. search needs) (λ c κs. search needs)
-    patched-requires returns-7 (λ c. search needs) block-of-requires block-of-requires-2 (λ c κs. search needs) returns-8
-    (λ c. search needs) returns-9 (λ c. search needs) returns-10 (λ c. search needs) returns-11 (λ c. search needs) returns-12)
+    (λ c. search needs) returns-5 (λ c. search needs) laid-over-requires returns-6 (λ c. search needs)
+    (λ c κs. search needs) patched-requires returns-7 (λ c. search needs) block-of-requires block-of-requires-2
+    (λ c κs. search needs) returns-8 (λ c. search needs) returns-9 (λ c. search needs) returns-10 (λ c. search needs)
+    returns-11 (λ c. search needs) returns-12)

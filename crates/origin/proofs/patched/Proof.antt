@@ -32,5 +32,5 @@ patched-spec =
     tie.close
     (tie.spec
     (λ c κs. search needs) (λ c κs. search needs) (λ c κs. search needs) (λ c. search needs) (λ c. search needs)
-    (λ c. search needs) add-if1 returns (λ c κs. search needs) (λ c. search needs) (λ c. search needs) counted-requires
-    laid-over-requires returns-2)
+    (λ c. search needs) add-if1 returns (λ c κs. search needs) (λ c. search needs) (λ c. search needs)
+    counted-requires laid-over-requires returns-2)

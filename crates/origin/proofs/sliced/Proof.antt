@@ -24,5 +24,5 @@ pub sliced-spec : {M : Type 1} → statement M
 sliced-spec =
     tie.close
     (tie.spec
-    (λ c κs. search needs) (λ c κs. search needs) (λ c κs. search needs) sub-layers (λ c. search needs) (λ c. search needs)
-    (λ c. search needs) counted-requires counted-requires-2 returns)
+    (λ c κs. search needs) (λ c κs. search needs) (λ c κs. search needs) sub-layers (λ c. search needs)
+    (λ c. search needs) (λ c. search needs) counted-requires counted-requires-2 returns)

@@ -7,8 +7,8 @@ use native.Mathlib.Nat.{mod-lt}
 use native.Mathlib.Omega.{arith}
 use borrow.Author.Needs.{needs}
 use lib.ListN.{drop, length, length-set, replicate, take}
-use Rattle.coordinates.specs.Limits.{Sound}
-use Rattle.coordinates.specs.Loops.{atOffset-down, atOffset-none, atOffset-whole, drop-first, drop-none, left-down, left-none, set-down, sound-first}
+use Rattle.laws.specs.Limits.{Sound}
+use Rattle.laws.specs.Loops.{atOffset-down, atOffset-none, atOffset-whole, drop-first, drop-none, left-down, left-none, set-down, sound-first}
 use Rattle.extent.specs.Rank.{axisNo}
 use Rattle.paper.specs.Axes.{at, atOffset, cells, noAxis}
 use Rattle.paper.specs.Limits.{mostAxes, reach}
@@ -44,27 +44,9 @@ module _ (c : tie.After-rank-of Inv-loop μ-loop) where
 limits : (c : tie.After-a Inv-loop μ-loop) → (axisNo (c .before .before .before .before .before .args .t1) (c .before .before .loop .i - 1) .lo ≤ axisNo (c .before .before .before .before .before .args .t1) (c .before .before .loop .i - 1) .hi) × (axisNo (c .before .before .before .before .before .args .t1) (c .before .before .loop .i - 1) .hi ≤ 2 * reach)
 limits c = sound-first (l (c .before .before .before)) (r (c .before .before .before)) (room (c .before .before .before)) (c .before .before .loop .i - 1) noAxis (sound (c .before .before .before)) (omega arith)
 
-cast-left : tie.Need-cast-left Inv-loop μ-loop
-cast-left c = search needs
-
-sub-left : tie.Need-sub-left Inv-loop μ-loop
-sub-left c = search needs
-
-rank-of-requires : tie.Need-rank-of-requires Inv-loop μ-loop
-rank-of-requires c κs = search needs
-
 loop-holds : tie.Need-loop-holds Inv-loop μ-loop
 loop-holds c =
     (omega arith, refl, left-none (l c) (r c) (room c) (sound c) (k c), drop-first (replicate mostAxes 0) (r c) (c .rank-of .ensures .few) ∙ sym (atOffset-none (l c) (r c) (room c) (sound c) (k c)))
-
-sub-i : tie.Need-sub-i Inv-loop μ-loop
-sub-i c = search needs
-
-mul-a : tie.Need-mul-a Inv-loop μ-loop
-mul-a c = search needs
-
-element-copy-out-a : tie.Need-element-copy-out-a Inv-loop μ-loop
-element-copy-out-a c = search needs
 
 width-of-requires : tie.Need-width-of-requires Inv-loop μ-loop
 width-of-requires c κs = limits c
@@ -75,17 +57,8 @@ rem-risen c = omega (arith, limits (c .before))
 risen-requires : tie.Need-risen-requires Inv-loop μ-loop
 risen-requires c κs = omega (arith, limits (c .before), mod-lt (c .before .before .before .loop .left) {m = c .width-of .result} (omega (arith, limits (c .before))))
 
-mul-at : tie.Need-mul-at Inv-loop μ-loop
-mul-at c = search needs
-
-array-write-at : tie.Need-array-write-at Inv-loop μ-loop
-array-write-at c = search needs
-
 div-left : tie.Need-div-left Inv-loop μ-loop
 div-left c = omega (arith, limits (c .before .before))
-
-loop-less : tie.Need-loop-less Inv-loop μ-loop
-loop-less c = omega arith
 
 loop-again : tie.Need-loop-again Inv-loop μ-loop
 loop-again c =
@@ -116,21 +89,6 @@ pub coordinate-of-spec : {M : Type 1} → statement M
 coordinate-of-spec =
     tie.close
     (tie.spec
-    Inv-loop
-    μ-loop
-    cast-left
-    sub-left
-    rank-of-requires
-    loop-holds
-    sub-i
-    mul-a
-    element-copy-out-a
-    width-of-requires
-    rem-risen
-    risen-requires
-    mul-at
-    array-write-at
-    div-left
-    loop-less
-    loop-again
-    returns)
+    Inv-loop μ-loop (λ c. search needs) (λ c. search needs) (λ c κs. search needs) loop-holds (λ c. search needs)
+    (λ c. search needs) (λ c. search needs) width-of-requires rem-risen risen-requires (λ c. search needs)
+    (λ c. search needs) div-left (λ c. omega arith) loop-again returns)

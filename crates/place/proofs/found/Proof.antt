@@ -6,7 +6,7 @@ use mathlib.Core.Path.{ap, sym, _∙_, _≡_}
 use native.Mathlib.Omega.{arith}
 use borrow.Author.Needs.{needs}
 use lib.ListN.{length, length-take, take}
-use Rattle.coordinates.specs.Places.{inside-true}
+use Rattle.laws.specs.Places.{inside-true}
 use Rattle.paper.specs.Answers.{axesOf}
 use Rattle.paper.specs.Axes.{inside}
 use Rattle.paper.specs.Limits.{mostAxes}
@@ -28,9 +28,6 @@ same-room c =
     let n : length (axesOf (s .args .e)) ≡ length (axesOf (s .args .maximum)) = omega (arith, c .before .if2 .left, c .before .before .before .rank-of .ensures .number, c .before .before .rank-of2 .ensures .number) in
     ap (λ (r : ℕ). inside (axesOf (s .args .maximum)) (take r (s .args .p .at))) n ∙ sym (c .is-inside2 .ensures)
 
-is-inside-requires : tie.Need-is-inside-requires
-is-inside-requires c κs = search needs
-
 ordinality-of-requires : tie.Need-ordinality-of-requires
 ordinality-of-requires c κs =
     let s = c .before .before in
@@ -41,19 +38,10 @@ returns c t =
     let a = c .before .before .before .args in
     at-ordinality t (axesOf (a .e)) (axesOf (a .maximum)) (positionsOf (axesOf (a .e)) (a .p)) (c .ordinality-of .result .0) (sym (c .before .before .is-inside .ensures) ∙ c .before .if1 .taken) (c .ordinality-of .ensures)
 
-rank-of-requires : tie.Need-rank-of-requires
-rank-of-requires c κs = search needs
-
-rank-of-requires-2 : tie.Need-rank-of-requires-2
-rank-of-requires-2 c κs = search needs
-
 returns-2 : tie.Need-returns-2
 returns-2 c t =
     let a = c .before .before .before .before .before .args in
     beyond t (axesOf (a .e)) (axesOf (a .maximum)) (positionsOf (axesOf (a .e)) (a .p)) (sym (c .before .before .before .before .is-inside .ensures) ∙ c .before .before .before .if1 .left) (no-room c)
-
-is-inside-requires-2 : tie.Need-is-inside-requires-2
-is-inside-requires-2 c κs = search needs
 
 returns-3 : tie.Need-returns-3
 returns-3 c t =
@@ -69,12 +57,5 @@ pub found-spec : {M : Type 1} → statement M
 found-spec =
     tie.close
     (tie.spec
-    is-inside-requires
-    ordinality-of-requires
-    returns
-    rank-of-requires
-    rank-of-requires-2
-    returns-2
-    is-inside-requires-2
-    returns-3
-    returns-4)
+    (λ c κs. search needs) ordinality-of-requires returns (λ c κs. search needs) (λ c κs. search needs) returns-2
+    (λ c κs. search needs) returns-3 returns-4)

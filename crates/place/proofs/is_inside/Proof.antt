@@ -7,7 +7,7 @@ use native.Mathlib.Omega.{arith}
 use borrow.Author.Needs.{needs}
 use borrow.Author.Tests.{not-false, not-true}
 use lib.ListN.{drop, getD, length, take}
-use Rattle.coordinates.specs.Loops.{inside-end, inside-up}
+use Rattle.laws.specs.Loops.{inside-end, inside-up}
 use Rattle.extent.specs.Rank.{axisNo}
 use Rattle.paper.specs.Answers.{axesOf}
 use Rattle.paper.specs.Axes.{inside, noAxis, onAxis}
@@ -40,35 +40,11 @@ module _ (c : tie.In-loop Inv-loop μ-loop) where
   turn : inside (axesOf e) (positionsOf (axesOf e) p) ≡ (onAxis (axisNo e (c .before .loop .i)) (getD (p .at) (c .before .loop .i) 0) && inside (drop (c .before .loop .i + 1) (take r (e .axes))) (drop (c .before .loop .i + 1) (take r (p .at))))
   turn = sym (c .before .loop .inv .1) ∙ inside-up (e .axes) (p .at) r (c .before .before .rank-of .ensures .room) (room (c .before .before)) (c .before .loop .i) noAxis 0 (c .loop-test .taken)
 
-rank-of-requires : tie.Need-rank-of-requires Inv-loop μ-loop
-rank-of-requires c κs = search needs
-
 loop-holds : tie.Need-loop-holds Inv-loop μ-loop
 loop-holds c = (omega arith, ap₂ inside (c .rank-of .ensures .first) (first-positions (c .before .args .t1) (c .rank-of .result) (c .before .args .t2) (c .rank-of .ensures)))
 
-mul-on-axis : tie.Need-mul-on-axis Inv-loop μ-loop
-mul-on-axis c = search needs
-
-element-copy-out-on-axis : tie.Need-element-copy-out-on-axis Inv-loop μ-loop
-element-copy-out-on-axis c = search needs
-
-mul-on-axis-2 : tie.Need-mul-on-axis-2 Inv-loop μ-loop
-mul-on-axis-2 c = search needs
-
-element-copy-out-on-axis-2 : tie.Need-element-copy-out-on-axis-2 Inv-loop μ-loop
-element-copy-out-on-axis-2 c = search needs
-
-on-axis-requires : tie.Need-on-axis-requires Inv-loop μ-loop
-on-axis-requires c κs = search needs
-
 returns : tie.Need-returns Inv-loop μ-loop
 returns c = sym (turn (c .before .before .before .before) ∙ rw (sym (c .before .on-axis .ensures) ∙ not-true _ (c .if1 .taken)))
-
-add-i : tie.Need-add-i Inv-loop μ-loop
-add-i c = search needs
-
-loop-less : tie.Need-loop-less Inv-loop μ-loop
-loop-less c = omega arith
 
 loop-again : tie.Need-loop-again Inv-loop μ-loop
 loop-again c = (omega arith, sym (turn (c .before .before .before .before) ∙ rw (sym (c .before .on-axis .ensures) ∙ not-false _ (c .if1 .left))))
@@ -82,17 +58,5 @@ pub is-inside-spec : {M : Type 1} → statement M
 is-inside-spec =
     tie.close
     (tie.spec
-    Inv-loop
-    μ-loop
-    rank-of-requires
-    loop-holds
-    mul-on-axis
-    element-copy-out-on-axis
-    mul-on-axis-2
-    element-copy-out-on-axis-2
-    on-axis-requires
-    returns
-    add-i
-    loop-less
-    loop-again
-    returns-2)
+    Inv-loop μ-loop (λ c κs. search needs) loop-holds (λ c. search needs) (λ c. search needs) (λ c. search needs)
+    (λ c. search needs) (λ c κs. search needs) returns (λ c. search needs) (λ c. omega arith) loop-again returns-2)

@@ -6,9 +6,9 @@ use mathlib.Core.Path.{ap, ap₂, sym, _∙_, _≡_}
 use native.Mathlib.Omega.{arith}
 use borrow.Author.Needs.{needs}
 use lib.ListN.{drop, length, take}
-use Rattle.coordinates.specs.Limits.{Sound, cells-drop}
-use Rattle.coordinates.specs.Loops.{cells-down, cells-none, drop-none, inside-first, offset-down, offset-few, offset-none, sound-first}
-use Rattle.coordinates.specs.Places.{Inside}
+use Rattle.laws.specs.Limits.{Sound, cells-drop}
+use Rattle.laws.specs.Loops.{cells-down, cells-none, drop-none, inside-first, offset-down, offset-few, offset-none, sound-first}
+use Rattle.laws.specs.Places.{Inside}
 use Rattle.paper.specs.Answers.{axesOf}
 use Rattle.paper.specs.Axes.{cells, noAxis, offset}
 use Rattle.paper.specs.Limits.{mostAxes, mostCells}
@@ -75,26 +75,8 @@ turn-later c =
     let v = c .before .before .before .before .before .loop in
     ap₂ _*_ (c .width-of .ensures .0) (v .inv .2) ∙ sym (cells-down (l s) (r s) (s .rank-of .ensures .room) (v .i) noAxis (omega arith) (omega arith))
 
-rank-of-requires : tie.Need-rank-of-requires Inv-loop μ-loop
-rank-of-requires c κs = search needs
-
 loop-holds : tie.Need-loop-holds Inv-loop μ-loop
 loop-holds c = (omega arith, offset-none (l c) (p c) (r c) (c .rank-of .ensures .room) (room c), cells-none (l c) (r c) (c .rank-of .ensures .room))
-
-sub-i : tie.Need-sub-i Inv-loop μ-loop
-sub-i c = search needs
-
-mul-a : tie.Need-mul-a Inv-loop μ-loop
-mul-a c = search needs
-
-element-copy-out-a : tie.Need-element-copy-out-a Inv-loop μ-loop
-element-copy-out-a c = search needs
-
-mul-above : tie.Need-mul-above Inv-loop μ-loop
-mul-above c = search needs
-
-element-copy-out-above : tie.Need-element-copy-out-above Inv-loop μ-loop
-element-copy-out-above c = search needs
 
 above-requires : tie.Need-above-requires Inv-loop μ-loop
 above-requires c κs =
@@ -115,9 +97,6 @@ width-of-requires c κs =
 mul-later : tie.Need-mul-later Inv-loop μ-loop
 mul-later c = omega (arith, turn-later c, product (c .before .before .before .before .before .before) (c .before .before .before .before .before .loop .i - 1))
 
-loop-less : tie.Need-loop-less Inv-loop μ-loop
-loop-less c = omega arith
-
 loop-again : tie.Need-loop-again Inv-loop μ-loop
 loop-again c = (omega arith, turn-sum (c .before), turn-later c)
 
@@ -137,22 +116,6 @@ pub ordinality-of-spec : {M : Type 1} → statement M
 ordinality-of-spec =
     tie.close
     (tie.spec
-    Inv-loop
-    μ-loop
-    rank-of-requires
-    loop-holds
-    sub-i
-    mul-a
-    element-copy-out-a
-    mul-above
-    element-copy-out-above
-    above-requires
-    mul-sum
-    add-sum
-    width-of-requires
-    mul-later
-    loop-less
-    loop-again
-    add-t20
-    cast-t21
-    returns)
+    Inv-loop μ-loop (λ c κs. search needs) loop-holds (λ c. search needs) (λ c. search needs) (λ c. search needs)
+    (λ c. search needs) (λ c. search needs) above-requires mul-sum add-sum width-of-requires mul-later
+    (λ c. omega arith) loop-again add-t20 cast-t21 returns)

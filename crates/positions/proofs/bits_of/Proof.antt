@@ -5,9 +5,6 @@ use Rattle.positions.specs.Moves.{bits-below, bits-from}
 use Rattle.positions.proofs.bits_of.Statement.{statement}
 use Rattle.positions.proofs.bits_of.Tie as tie
 
-add-result : tie.Need-add-result
-add-result c = search needs
-
 returns : tie.Need-returns
 returns c = bits-below (c .before .args .d) (c .if1 .taken)
 
@@ -15,4 +12,4 @@ returns-2 : tie.Need-returns-2
 returns-2 c = bits-from (c .before .args .d) (c .if1 .left)
 
 pub bits-of-spec : {M : Type 1} → statement M
-bits-of-spec = tie.close (tie.spec add-result returns returns-2)
+bits-of-spec = tie.close (tie.spec (λ c. search needs) returns returns-2)

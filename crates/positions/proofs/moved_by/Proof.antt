@@ -6,24 +6,14 @@ use Rattle.positions.specs.Moves.{moved-down, moved-up}
 use Rattle.positions.proofs.moved_by.Statement.{statement}
 use Rattle.positions.proofs.moved_by.Tie as tie
 
-add-result : tie.Need-add-result
-add-result c = search needs
-
 returns : tie.Need-returns
 returns c = moved-up (c .before .args .d) (c .before .args .n) (c .if1 .taken)
-
-sub-lowered : tie.Need-sub-lowered
-sub-lowered c = search needs
-
-add-lowered : tie.Need-add-lowered
-add-lowered c = search needs
-
-lowered-requires : tie.Need-lowered-requires
-lowered-requires c κs = search needs
 
 returns-2 : tie.Need-returns-2
 returns-2 c = c .lowered .ensures ∙ moved-down (c .before .before .args .d) (c .before .before .args .n) (c .before .if1 .left) (c .before .before .fits .n .fits)
 
 pub moved-by-spec : {M : Type 1} → statement M
 moved-by-spec =
-    tie.close (tie.spec add-result returns sub-lowered add-lowered lowered-requires returns-2)
+    tie.close
+    (tie.spec
+    (λ c. search needs) returns (λ c. search needs) (λ c. search needs) (λ c κs. search needs) returns-2)

@@ -9,14 +9,8 @@ use Rattle.paper.specs.Numbers.{distance}
 use Rattle.positions.proofs.position_at.Statement.{statement}
 use Rattle.positions.proofs.position_at.Tie as tie
 
-half-requires : tie.Need-half-requires
-half-requires c κs = search needs
-
-distance-of-requires : tie.Need-distance-of-requires
-distance-of-requires c κs = search needs
-
 returns : tie.Need-returns
 returns c = c .distance-of .ensures ∙ ap (λ (n : ℕ). distance (toZ w32 n)) (c .before .half .ensures)
 
 pub position-at-spec : {M : Type 1} → statement M
-position-at-spec = tie.close (tie.spec half-requires distance-of-requires returns)
+position-at-spec = tie.close (tie.spec (λ c κs. search needs) (λ c κs. search needs) returns)

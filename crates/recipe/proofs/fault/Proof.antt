@@ -73,5 +73,5 @@ pub fault-spec : {M : Type 1} → statement M
 fault-spec =
     tie.close
     (tie.spec
-    (λ c κs. search needs) (λ c κs. search needs) returns (λ c κs. search needs) returns-2 (λ c κs. search needs) returns-3
-    (λ c. search needs) (λ c κs. search needs) returns-4 (λ c κs. search needs) returns-5 returns-6)
+    (λ c κs. search needs) (λ c κs. search needs) returns (λ c κs. search needs) returns-2 (λ c κs. search needs)
+    returns-3 (λ c. search needs) (λ c κs. search needs) returns-4 (λ c κs. search needs) returns-5 returns-6)

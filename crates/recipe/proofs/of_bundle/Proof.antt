@@ -2,7 +2,7 @@
 -- Each way out by its law. Assumes nothing.
 use lib.ListN.{length}
 use Rattle.paper.specs.Limits.{mostArrays}
-use Rattle.coordinates.specs.Loops.{length-mapped}
+use Rattle.laws.specs.Loops.{length-mapped}
 use mathlib.Core.Path.{_≡_, refl}
 use native.Mathlib.Omega.{arith}
 use Rattle.recipe.specs.Plans.{none-stands, none-at, none-past, of-bundle-stands}

@@ -5,21 +5,12 @@ use borrow.Author.Needs.{needs}
 use Rattle.recipe.proofs.operand_of.Statement.{statement}
 use Rattle.recipe.proofs.operand_of.Tie as tie
 
-of-bundle-requires : tie.Need-of-bundle-requires
-of-bundle-requires c κs = search needs
-
 returns : tie.Need-returns
 returns c = let a = c .before .before .args in by-bundle (arraysOf (a .reading)) (resultsOf (a .plan)) (a .n) _ (c .before .if1 .taken) (c .of-bundle .ensures)
-
-sub-of-steps : tie.Need-sub-of-steps
-sub-of-steps c = search needs
-
-of-steps-requires : tie.Need-of-steps-requires
-of-steps-requires c κs = search needs
 
 returns-2 : tie.Need-returns-2
 returns-2 c = let a = c .before .before .args in by-steps (arraysOf (a .reading)) (resultsOf (a .plan)) (a .n) _ (c .before .if1 .left) (c .of-steps .ensures)
 
 pub operand-of-spec : {M : Type 1} → statement M
 operand-of-spec =
-    tie.close (tie.spec of-bundle-requires returns sub-of-steps of-steps-requires returns-2)
+    tie.close (tie.spec (λ c κs. search needs) returns (λ c. search needs) (λ c κs. search needs) returns-2)

@@ -11,11 +11,8 @@ use borrow.Author.Needs.{needs}
 use Rattle.recipe.proofs.stand_in.Statement.{statement}
 use Rattle.recipe.proofs.stand_in.Tie as tie
 
-empty-requires : tie.Need-empty-requires
-empty-requires c κs = search needs
-
 returns : tie.Need-returns
 returns c = (refl, subst (λ (x : Extent). Small (axesOf x)) (sym (c .empty .ensures)) small-none, ap (λ (x : Extent). shaped 0 (axesOf x) []) (c .empty .ensures))
 
 pub stand-in-spec : {M : Type 1} → statement M
-stand-in-spec = tie.close (tie.spec empty-requires returns)
+stand-in-spec = tie.close (tie.spec (λ c κs. search needs) returns)

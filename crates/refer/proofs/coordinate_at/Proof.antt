@@ -25,24 +25,6 @@ abbrev μ-loop : tie.MeasureT-loop
 loop-holds : tie.Need-loop-holds Inv-loop μ-loop
 loop-holds c = (omega arith, refl, refl)
 
-mul-distance-to : tie.Need-mul-distance-to Inv-loop μ-loop
-mul-distance-to c = omega arith
-
-shared-slice-copy-out-distance-to : tie.Need-shared-slice-copy-out-distance-to Inv-loop μ-loop
-shared-slice-copy-out-distance-to c = omega arith
-
-mul-at : tie.Need-mul-at Inv-loop μ-loop
-mul-at c = omega arith
-
-array-write-at : tie.Need-array-write-at Inv-loop μ-loop
-array-write-at c = omega arith
-
-add-i : tie.Need-add-i Inv-loop μ-loop
-add-i c = omega arith
-
-loop-less : tie.Need-loop-less Inv-loop μ-loop
-loop-less c = omega arith
-
 loop-again : tie.Need-loop-again Inv-loop μ-loop
 loop-again c =
     let l = c .before .before .before .loop in
@@ -57,5 +39,5 @@ pub coordinate-at-spec : {M : Type 1} → statement M
 coordinate-at-spec =
     tie.close
     (tie.spec
-    Inv-loop μ-loop loop-holds mul-distance-to shared-slice-copy-out-distance-to (λ c κs. search needs) mul-at
-    array-write-at add-i loop-less loop-again returns)
+    Inv-loop μ-loop loop-holds (λ c. omega arith) (λ c. omega arith) (λ c κs. search needs) (λ c. omega arith)
+    (λ c. omega arith) (λ c. omega arith) (λ c. omega arith) loop-again returns)

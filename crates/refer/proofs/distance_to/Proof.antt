@@ -10,12 +10,6 @@ use borrow.Author.Needs.{needs}
 use Rattle.refer.proofs.distance_to.Statement.{statement}
 use Rattle.refer.proofs.distance_to.Tie as tie
 
-bits-of-requires : tie.Need-bits-of-requires
-bits-of-requires c κs = search needs
-
-distance-of-requires : tie.Need-distance-of-requires
-distance-of-requires c κs = search needs
-
 returns : tie.Need-returns
 returns c =
     let s = c .before .before in
@@ -23,4 +17,4 @@ returns c =
     c .distance-of .ensures ∙ ap (λ (n : ℕ). distance (toZ w32 n)) (c .before .bits-of .ensures) ∙ ap (λ (x : ℤ). distance (toZ w32 (ofZ w32 x))) f ∙ ap distance f
 
 pub distance-to-spec : {M : Type 1} → statement M
-distance-to-spec = tie.close (tie.spec bits-of-requires distance-of-requires returns)
+distance-to-spec = tie.close (tie.spec (λ c κs. search needs) (λ c κs. search needs) returns)

@@ -48,4 +48,5 @@ pub put-rows-spec : {M : Type 1} → statement M
 put-rows-spec =
     tie.close
     (tie.spec
-    Inv-loop μ-loop (λ c. search needs) (λ c. search needs) loop-holds mul-put-row put-row-requires (λ c. search needs) (λ c. search needs) loop-again same-length returns)
+    Inv-loop μ-loop (λ c. search needs) (λ c. search needs) loop-holds mul-put-row put-row-requires
+    (λ c. search needs) (λ c. search needs) loop-again same-length returns)

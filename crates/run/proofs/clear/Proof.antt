@@ -39,12 +39,4 @@ pub clear-spec : {M : Type 1} → statement M
 clear-spec =
     tie.close
     (tie.spec
-    Inv-loop
-    μ-loop
-    loop-holds
-    slice-write-work
-    (λ c. search needs)
-    (λ c. search needs)
-    loop-again
-    same-length
-    returns)
+    Inv-loop μ-loop loop-holds slice-write-work (λ c. search needs) (λ c. search needs) loop-again same-length returns)

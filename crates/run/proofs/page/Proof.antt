@@ -41,17 +41,5 @@ pub page-spec : {M : Type 1} → statement M
 page-spec =
     tie.close
     (tie.spec
-    (λ c κs. search needs)
-    returns
-    page-refusal-requires
-    returns-2
-    settle-requires
-    (λ c. search needs)
-    returns-3
-    sub-last
-    mul-last
-    array-copy-out-last
-    list-requires
-    (λ c. search needs)
-    (λ c. search needs)
-    returns-4)
+    (λ c κs. search needs) returns page-refusal-requires returns-2 settle-requires (λ c. search needs) returns-3
+    sub-last mul-last array-copy-out-last list-requires (λ c. search needs) (λ c. search needs) returns-4)

@@ -32,14 +32,5 @@ pub run-spec : {M : Type 1} → statement M
 run-spec =
     tie.close
     (tie.spec
-    (λ c κs. search needs)
-    returns
-    mul-if2
-    (λ c κs. search needs)
-    returns-2
-    settle-requires
-    (λ c. search needs)
-    returns-3
-    cast-t14
-    (λ c. search needs)
-    returns-4)
+    (λ c κs. search needs) returns mul-if2 (λ c κs. search needs) returns-2 settle-requires (λ c. search needs)
+    returns-3 cast-t14 (λ c. search needs) returns-4)

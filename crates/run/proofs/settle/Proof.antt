@@ -22,10 +22,4 @@ pub settle-spec : {M : Type 1} → statement M
 settle-spec =
     tie.close
     (tie.spec
-    run-steps-requires
-    (λ c. search needs)
-    returns
-    mul-clear
-    (λ c κs. search needs)
-    (λ c. search needs)
-    returns-2)
+    run-steps-requires (λ c. search needs) returns mul-clear (λ c κs. search needs) (λ c. search needs) returns-2)

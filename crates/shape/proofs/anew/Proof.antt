@@ -47,23 +47,8 @@ module _ (c : tie.In-loop Inv-loop μ-loop) where
   place : c .before .loop .i * c .before .before .before .before .bytes-for .result ≡ c .before .loop .i * bytesFor (c .before .before .before .before .before .before .args .how)
   place = ap (λ (w : ℕ). c .before .loop .i * w) (c .before .before .before .before .bytes-for .ensures)
 
-bytes-for-requires : tie.Need-bytes-for-requires Inv-loop μ-loop
-bytes-for-requires c κs = search needs
-
-rank-of-requires : tie.Need-rank-of-requires Inv-loop μ-loop
-rank-of-requires c κs = search needs
-
-empty-requires : tie.Need-empty-requires Inv-loop μ-loop
-empty-requires c κs = search needs
-
 loop-holds : tie.Need-loop-holds Inv-loop μ-loop
 loop-holds c = (omega arith, c .empty .ensures)
-
-mul-axis-anew : tie.Need-mul-axis-anew Inv-loop μ-loop
-mul-axis-anew c = search needs
-
-element-copy-out-axis-anew : tie.Need-element-copy-out-axis-anew Inv-loop μ-loop
-element-copy-out-axis-anew c = search needs
 
 mul-axis-anew-2 : tie.Need-mul-axis-anew-2 Inv-loop μ-loop
 mul-axis-anew-2 c = let t = c .before in omega (arith, place t, room t)
@@ -82,12 +67,6 @@ with-axis-requires : tie.Need-with-axis-requires Inv-loop μ-loop
 with-axis-requires c κs =
     let t = c .before .before in
     room-for (W t) (t .before .loop .i) (omega (arith, all t, here t)) (omega (arith, all t, t .before .before .before .rank-of .ensures .number, t .before .before .before .rank-of .ensures .few)) (t .before .loop .new) (t .before .loop .inv .1)
-
-add-i : tie.Need-add-i Inv-loop μ-loop
-add-i c = search needs
-
-loop-less : tie.Need-loop-less Inv-loop μ-loop
-loop-less c = omega arith
 
 loop-again : tie.Need-loop-again Inv-loop μ-loop
 loop-again c =
@@ -114,19 +93,6 @@ pub anew-spec : {M : Type 1} → statement M
 anew-spec =
     tie.close
     (tie.spec
-    Inv-loop
-    μ-loop
-    bytes-for-requires
-    rank-of-requires
-    empty-requires
-    loop-holds
-    mul-axis-anew
-    element-copy-out-axis-anew
-    mul-axis-anew-2
-    add-axis-anew
-    axis-anew-requires
-    with-axis-requires
-    add-i
-    loop-less
-    loop-again
-    returns)
+    Inv-loop μ-loop (λ c κs. search needs) (λ c κs. search needs) (λ c κs. search needs) loop-holds
+    (λ c. search needs) (λ c. search needs) mul-axis-anew-2 add-axis-anew axis-anew-requires with-axis-requires
+    (λ c. search needs) (λ c. omega arith) loop-again returns)

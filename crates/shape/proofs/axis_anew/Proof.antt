@@ -18,26 +18,17 @@ module _ (c : tie.Start) where
   told : (h : Change) → c .args .how ≡ h → fresh h (c .args .a) (drop (c .args .at) (now (c .args .s))) ≡ fresh (c .args .how) (c .args .a) (drop (c .args .at) (now (c .args .s)))
   told h e = ap (λ (x : Change). fresh x (c .args .a) (drop (c .args .at) (now (c .args .s)))) (sym e)
 
-enum-told : tie.Need-enum-told
-enum-told c = search needs
-
 limits-at-requires : tie.Need-limits-at-requires
 limits-at-requires c κs = holds (c .before .before .before) Limits (c .enum-told .given .1)
 
 returns : tie.Need-returns
 returns c = c .limits-at .ensures ∙ told (c .before .before .before .before) Limits (c .before .enum-told .given .1)
 
-enum-told-2 : tie.Need-enum-told-2
-enum-told-2 c = search needs
-
 moved-at-requires : tie.Need-moved-at-requires
 moved-at-requires c κs = (c .before .before .before .pre .0, holds (c .before .before .before) Moved (c .enum-told2 .given .1))
 
 returns-2 : tie.Need-returns-2
 returns-2 c = c .moved-at .ensures ∙ told (c .before .before .before .before) Moved (c .before .enum-told2 .given .1)
-
-enum-told-3 : tie.Need-enum-told-3
-enum-told-3 c = search needs
 
 named-at-requires : tie.Need-named-at-requires
 named-at-requires c κs = holds (c .before .before .before) Named (c .enum-told3 .given .1)
@@ -49,12 +40,5 @@ pub axis-anew-spec : {M : Type 1} → statement M
 axis-anew-spec =
     tie.close
     (tie.spec
-    enum-told
-    limits-at-requires
-    returns
-    enum-told-2
-    moved-at-requires
-    returns-2
-    enum-told-3
-    named-at-requires
-    returns-3)
+    (λ c. search needs) limits-at-requires returns (λ c. search needs) moved-at-requires returns-2 (λ c. search needs)
+    named-at-requires returns-3)

@@ -5,7 +5,7 @@ use mathlib.Core.Path.{ap, _≡_}
 use native.Mathlib.Omega.{arith}
 use borrow.Author.Needs.{needs}
 use lib.ListN.{length, length-take}
-use Rattle.coordinates.specs.Loops.{length-mapped}
+use Rattle.laws.specs.Loops.{length-mapped}
 use Rattle.extent.specs.Tests.{sound-axis}
 use Rattle.paper.specs.Answers.{axesOf}
 use Rattle.paper.specs.Limits.{mostAxes}
@@ -19,31 +19,16 @@ few c =
     let l : length (c .args .e .axes) ≡ mostAxes = search (needs, length-mapped) in
     omega (arith, length-take (c .args .e .rank) (c .args .e .axes), c .pre .one, c .pre .last)
 
-axis-of-requires : tie.Need-axis-of-requires
-axis-of-requires c κs = search needs
-
-axis-of-requires-2 : tie.Need-axis-of-requires-2
-axis-of-requires-2 c κs = search needs
-
 width-of-requires : tie.Need-width-of-requires
 width-of-requires c κs = rw (c .axis-of2 .ensures) (sound-axis (axesOf (c .before .before .args .f)) (c .before .before .args .k .0 - 1) (c .before .before .pre .second))
-
-cast-hi : tie.Need-cast-hi
-cast-hi c = search needs
 
 add-hi : tie.Need-add-hi
 add-hi c =
     let r = sound-axis (axesOf (c .before .before .before .before .args .e)) (c .before .before .before .before .args .k .0 - 1) (c .before .before .before .before .pre .first) in
     omega (arith, r, ap (λ (a : Axis). a .hi) (c .before .before .before .axis-of .ensures), c .before .width-of .ensures .1)
 
-cast-i : tie.Need-cast-i
-cast-i c = search needs
-
 sub-i : tie.Need-sub-i
 sub-i c = omega (arith, c .before .before .before .before .before .pre .one)
-
-mul-t11 : tie.Need-mul-t11
-mul-t11 c = search needs
 
 element-set-from-new : tie.Need-element-set-from-new
 element-set-from-new c = few (c .before .before .before .before .before)
@@ -59,13 +44,5 @@ pub glued-along-spec : {M : Type 1} → statement M
 glued-along-spec =
     tie.close
     (tie.spec
-    axis-of-requires
-    axis-of-requires-2
-    width-of-requires
-    cast-hi
-    add-hi
-    cast-i
-    sub-i
-    mul-t11
-    element-set-from-new
-    returns)
+    (λ c κs. search needs) (λ c κs. search needs) width-of-requires (λ c. search needs) add-hi (λ c. search needs)
+    sub-i (λ c. search needs) element-set-from-new returns)

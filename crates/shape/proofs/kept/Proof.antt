@@ -7,11 +7,8 @@ use Rattle.shape.proofs.kept.Tie as tie
 returns : tie.Need-returns
 returns c = rw (c .if1 .taken)
 
-with-axis-requires : tie.Need-with-axis-requires
-with-axis-requires c κs = search needs
-
 returns-2 : tie.Need-returns-2
 returns-2 c = rw (c .before .if1 .left) (c .with-axis .ensures)
 
 pub kept-spec : {M : Type 1} → statement M
-kept-spec = tie.close (tie.spec returns with-axis-requires returns-2)
+kept-spec = tie.close (tie.spec returns (λ c κs. search needs) returns-2)

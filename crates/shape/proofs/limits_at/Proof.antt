@@ -15,15 +15,6 @@ use Rattle.paper.specs.Numbers.{distance, leOf}
 use Rattle.shape.proofs.limits_at.Statement.{statement}
 use Rattle.shape.proofs.limits_at.Tie as tie
 
-position-at-requires : tie.Need-position-at-requires
-position-at-requires c κs = search needs
-
-add-position-at : tie.Need-add-position-at
-add-position-at c = search needs
-
-position-at-requires-2 : tie.Need-position-at-requires-2
-position-at-requires-2 c κs = search needs
-
 returns : tie.Need-returns
 returns c =
     let s = now (c .before .before .before .args .s) in
@@ -31,4 +22,4 @@ returns c =
 
 pub limits-at-spec : {M : Type 1} → statement M
 limits-at-spec =
-    tie.close (tie.spec position-at-requires add-position-at position-at-requires-2 returns)
+    tie.close (tie.spec (λ c κs. search needs) (λ c. search needs) (λ c κs. search needs) returns)

@@ -10,15 +10,6 @@ use Rattle.paper.specs.Numbers.{moved}
 use Rattle.shape.proofs.moved_at.Statement.{statement}
 use Rattle.shape.proofs.moved_at.Tie as tie
 
-half-requires : tie.Need-half-requires
-half-requires c κs = search needs
-
-moved-by-requires : tie.Need-moved-by-requires
-moved-by-requires c κs = search needs
-
-moved-by-requires-2 : tie.Need-moved-by-requires-2
-moved-by-requires-2 c κs = search needs
-
 returns : tie.Need-returns
 returns c =
     let a = c .before .before .before .before .args .a in
@@ -26,4 +17,4 @@ returns c =
     ap₂ (limited a) (c .before .moved-by .ensures ∙ ap (λ (n : ℕ). moved (a .lo) (toZ w32 n)) e) (c .moved-by2 .ensures ∙ ap (λ (n : ℕ). moved (a .hi) (toZ w32 n)) e)
 
 pub moved-at-spec : {M : Type 1} → statement M
-moved-at-spec = tie.close (tie.spec half-requires moved-by-requires moved-by-requires-2 returns)
+moved-at-spec = tie.close (tie.spec (λ c κs. search needs) (λ c κs. search needs) (λ c κs. search needs) returns)

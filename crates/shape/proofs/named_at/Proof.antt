@@ -7,11 +7,8 @@ use Rattle.paper.specs.declared.Axis.{Axis}
 use Rattle.shape.proofs.named_at.Statement.{statement}
 use Rattle.shape.proofs.named_at.Tie as tie
 
-word-requires : tie.Need-word-requires
-word-requires c κs = search needs
-
 returns : tie.Need-returns
 returns c = ap {B = Axis} (λ (n : ℕ). record { name = n; lo = c .before .before .args .a .lo; hi = c .before .before .args .a .hi }) (c .word .ensures)
 
 pub named-at-spec : {M : Type 1} → statement M
-named-at-spec = tie.close (tie.spec word-requires returns)
+named-at-spec = tie.close (tie.spec (λ c κs. search needs) returns)

@@ -32,37 +32,13 @@ module _ (c : tie.In-loop Inv-loop μ-loop) where
   few : length E ≤ mostAxes
   few = omega (arith, c .before .before .before .rank-of .ensures .number, c .before .before .before .rank-of .ensures .few)
 
-cast-out : tie.Need-cast-out Inv-loop μ-loop
-cast-out c = search needs
-
-rank-of-requires : tie.Need-rank-of-requires Inv-loop μ-loop
-rank-of-requires c κs = search needs
-
-empty-requires : tie.Need-empty-requires Inv-loop μ-loop
-empty-requires c κs = search needs
-
 loop-holds : tie.Need-loop-holds Inv-loop μ-loop
 loop-holds c = (omega arith, c .empty .ensures ∙ ap extentOf (sym (without-none (c .before .before .before .args .k .0))))
-
-mul-kept : tie.Need-mul-kept Inv-loop μ-loop
-mul-kept c = search needs
-
-element-copy-out-kept : tie.Need-element-copy-out-kept Inv-loop μ-loop
-element-copy-out-kept c = search needs
-
-add-kept : tie.Need-add-kept Inv-loop μ-loop
-add-kept c = search needs
 
 kept-requires : tie.Need-kept-requires Inv-loop μ-loop
 kept-requires c κs =
     let t = c .before in
     room-without (t .before .before .before .before .before .args .k .0) (E t) (t .before .loop .i) (here t) (few t) (t .before .loop .new) (t .before .loop .inv .1)
-
-add-i : tie.Need-add-i Inv-loop μ-loop
-add-i c = search needs
-
-loop-less : tie.Need-loop-less Inv-loop μ-loop
-loop-less c = omega arith
 
 loop-again : tie.Need-loop-again Inv-loop μ-loop
 loop-again c =
@@ -79,17 +55,5 @@ pub removed-spec : {M : Type 1} → statement M
 removed-spec =
     tie.close
     (tie.spec
-    Inv-loop
-    μ-loop
-    cast-out
-    rank-of-requires
-    empty-requires
-    loop-holds
-    mul-kept
-    element-copy-out-kept
-    add-kept
-    kept-requires
-    add-i
-    loop-less
-    loop-again
-    returns)
+    Inv-loop μ-loop (λ c. search needs) (λ c κs. search needs) (λ c κs. search needs) loop-holds (λ c. search needs)
+    (λ c. search needs) (λ c. search needs) kept-requires (λ c. search needs) (λ c. omega arith) loop-again returns)

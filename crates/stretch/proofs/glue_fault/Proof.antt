@@ -80,5 +80,5 @@ pub glue-fault-spec : {M : Type 1} → statement M
 glue-fault-spec =
     tie.close
     (tie.spec
-    (λ c. search needs) (λ c κs. search needs) (λ c κs. search needs) returns returns-2 (λ c κs. search needs) returns-3
-    glued-along-requires (λ c κs. search needs) returns-4 returns-5)
+    (λ c. search needs) (λ c κs. search needs) (λ c κs. search needs) returns returns-2 (λ c κs. search needs)
+    returns-3 glued-along-requires (λ c κs. search needs) returns-4 returns-5)

@@ -8,7 +8,7 @@ use borrow.Author.Tests.{leb-true}
 use Rattle.paper.specs.Limits.{mostAxes}
 use Rattle.paper.specs.Refusals.{between}
 use Rattle.laws.specs.Tests.{and-right}
-use Rattle.coordinates.specs.Loops.{length-mapped}
+use Rattle.laws.specs.Loops.{length-mapped}
 use Rattle.stretch.specs.Sides.{length-told, told-axes}
 use Rattle.stretch.proofs.good_rank.Statement.{statement}
 use Rattle.stretch.proofs.good_rank.Tie as tie

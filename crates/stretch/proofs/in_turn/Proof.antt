@@ -20,11 +20,11 @@ in-turn-spec =
     tie.close
     (tie.spec
     (λ c. search needs) (λ c. search needs) (λ c. search needs) (λ c. search needs)
-    (λ c. omega (arith, fits (c .before))) (λ c. omega (arith, fits (c .before))) (λ c. omega (arith, fits (c .before)))
-    (λ c. omega (arith, fits (c .before))) (λ c. omega (arith, fits (c .before))) (λ c. omega (arith, fits (c .before)))
     (λ c. omega (arith, fits (c .before))) (λ c. omega (arith, fits (c .before)))
-    returns
-    (λ c. omega (arith, fits (c .before))) (λ c. omega (arith, fits (c .before))) (λ c. omega (arith, fits (c .before)))
-    (λ c. omega (arith, fits (c .before))) (λ c. omega (arith, fits (c .before))) (λ c. omega (arith, fits (c .before)))
     (λ c. omega (arith, fits (c .before))) (λ c. omega (arith, fits (c .before)))
-    returns-2)
+    (λ c. omega (arith, fits (c .before))) (λ c. omega (arith, fits (c .before)))
+    (λ c. omega (arith, fits (c .before))) (λ c. omega (arith, fits (c .before))) returns
+    (λ c. omega (arith, fits (c .before))) (λ c. omega (arith, fits (c .before)))
+    (λ c. omega (arith, fits (c .before))) (λ c. omega (arith, fits (c .before)))
+    (λ c. omega (arith, fits (c .before))) (λ c. omega (arith, fits (c .before)))
+    (λ c. omega (arith, fits (c .before))) (λ c. omega (arith, fits (c .before))) returns-2)

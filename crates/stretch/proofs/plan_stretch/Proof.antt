@@ -89,5 +89,5 @@ plan-stretch-spec =
     (tie.spec
     (λ c κs. search needs) (λ c κs. search needs) returns (λ c κs. search needs) (λ c κs. search needs) returns-2
     glue-fault-requires (λ c κs. search needs) returns-3 (λ c. search needs) (λ c. omega (arith, few (c .before)))
-    (λ c κs. search needs) (λ c κs. search needs) returns-4 block-of-requires block-of-requires-2 (λ c. search needs) sub-in-turn
-    in-turn-requires returns-5)
+    (λ c κs. search needs) (λ c κs. search needs) returns-4 block-of-requires block-of-requires-2 (λ c. search needs)
+    sub-in-turn in-turn-requires returns-5)

@@ -26,9 +26,6 @@ held-cell-requires c κs = omega (arith, c .before .before .before .pre .room, c
 add-i : tie.Need-add-i Inv-loop μ-loop
 add-i c = omega (arith, c .before .before .before .before .before .pre .few)
 
-loop-less : tie.Need-loop-less Inv-loop μ-loop
-loop-less c = omega arith
-
 loop-again : tie.Need-loop-again Inv-loop μ-loop
 loop-again c =
     let a = c .before .before .before .before .before .args in
@@ -49,4 +46,4 @@ pub best-cell-spec : {M : Type 1} → statement M
 best-cell-spec =
     tie.close
     (tie.spec
-    Inv-loop μ-loop loop-holds held-cell-requires (λ c κs. search needs) add-i loop-less loop-again returns)
+    Inv-loop μ-loop loop-holds held-cell-requires (λ c κs. search needs) add-i (λ c. omega arith) loop-again returns)

@@ -44,9 +44,6 @@ returns c =
 add-i : tie.Need-add-i Inv-loop μ-loop
 add-i c = omega (arith, c .before .before .before .before .before .before .before .before .before .pre .few)
 
-loop-less : tie.Need-loop-less Inv-loop μ-loop
-loop-less c = omega arith
-
 loop-again : tie.Need-loop-again Inv-loop μ-loop
 loop-again c =
     let a = c .before .before .before .before .before .before .before .before .before .args in
@@ -72,4 +69,4 @@ float-run-spec =
     tie.close
     (tie.spec
     Inv-loop μ-loop (λ c κs. search needs) loop-holds held-cell-requires (λ c κs. search needs) (λ c. search needs)
-    (λ c. search needs) add-t11 returns add-i loop-less loop-again returns-2)
+    (λ c. search needs) add-t11 returns add-i (λ c. omega arith) loop-again returns-2)

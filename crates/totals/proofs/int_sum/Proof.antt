@@ -26,9 +26,6 @@ held-cell-requires c κs = omega (arith, c .before .before .before .before .pre 
 add-i : tie.Need-add-i Inv-loop μ-loop
 add-i c = omega (arith, c .before .before .before .before .before .before .pre .few)
 
-loop-less : tie.Need-loop-less Inv-loop μ-loop
-loop-less c = omega arith
-
 loop-again : tie.Need-loop-again Inv-loop μ-loop
 loop-again c =
     let a = c .before .before .before .before .before .before .args in
@@ -45,5 +42,5 @@ pub int-sum-spec : {M : Type 1} → statement M
 int-sum-spec =
     tie.close
     (tie.spec
-    Inv-loop μ-loop (λ c κs. search needs) loop-holds held-cell-requires (λ c κs. search needs) add-i loop-less loop-again
-    (λ c κs. search needs) returns)
+    Inv-loop μ-loop (λ c κs. search needs) loop-holds held-cell-requires (λ c κs. search needs) add-i
+    (λ c. omega arith) loop-again (λ c κs. search needs) returns)

@@ -4,7 +4,6 @@ use lib.Ieee.{div, ofBits}
 use Rattle.totals.proofs.no_number.Statement.{statement}
 use Rattle.totals.proofs.no_number.Tie as tie
 
--- src/lib.rt:175:1
 returns : tie.Need-returns
 unfolding div ofBits
 returns c = refl

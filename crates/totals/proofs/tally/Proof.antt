@@ -4,17 +4,14 @@ use borrow.Author.Needs.{needs}
 use Rattle.totals.proofs.tally.Statement.{statement}
 use Rattle.totals.proofs.tally.Tie as tie
 
--- src/lib.rt:43:8
-is-empty-requires : tie.Need-is-empty-requires
-is-empty-requires c κs = search needs
-
--- src/lib.rt:44:9
 returns : tie.Need-returns
-returns c = rw (sym (c .before .is-empty .ensures) ∙ c .if1 .taken) refl
+returns c = rw (c .before .if1 .taken) (c .tally-true .ensures)
 
--- src/lib.rt:40:1
 returns-2 : tie.Need-returns-2
-returns-2 c = rw (sym (c .before .is-empty .ensures) ∙ c .if1 .left) refl
+returns-2 c = rw (c .before .before .if1 .left, sym (c .before .is-empty .ensures) ∙ c .if2 .taken) refl
+
+returns-3 : tie.Need-returns-3
+returns-3 c = rw (c .before .before .if1 .left, sym (c .before .is-empty .ensures) ∙ c .if2 .left) refl
 
 pub tally-spec : {M : Type 1} → statement M
-tally-spec = tie.close (tie.spec is-empty-requires returns returns-2)
+tally-spec = tie.close (tie.spec (λ c κs. search needs) returns (λ c κs. search needs) returns-2 returns-3)

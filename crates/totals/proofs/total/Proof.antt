@@ -1,26 +1,36 @@
--- `totals::total` meets its contract.
-use denote.Ref.{now}
+-- `totals::total` meets its contract: each way out by the law of its test.
 use mathlib.Core.Path.{sym, _∙_}
-use borrow.Author.Tests.{not-false, not-true}
-use Rattle.totals.specs.Whole.{total-refused, total-unfit, lying, total-is}
 use borrow.Author.Needs.{needs}
+use borrow.Author.Tests.{not-false, not-true}
+use Rattle.paper.specs.declared.Total.{Total}
+use Rattle.totals.specs.Whole.{total-refused, total-unfit, lying, total-is}
 use Rattle.totals.proofs.total.Statement.{statement}
 use Rattle.totals.proofs.total.Tie as tie
 
+-- an array was chosen, and not refused
+module _ (c : tie.Else1) where
+  abbrev had : tie.After-choose
+  had = c .before .before .before
+
+  abbrev which : Total
+  which = had .before .before .args .which
+
 returns : tie.Need-returns
-returns c = let a = c .before .before .before .before .before .args in total-refused (now (a .s)) (a .k) (c .before .before .before .choose .result) (c .before .before .before .choose .ensures) (a .which) (c .if1 .taken)
+returns c = let h = c .before .before .before in total-refused (h .choose .ensures) (h .before .before .args .which) (c .if1 .taken)
 
 returns-2 : tie.Need-returns-2
-returns-2 c = let a = c .before .before .before .before .before .before .before .before .before .args in total-unfit (now (a .s)) (a .k) (c .before .before .before .before .before .before .before .choose .result) (c .before .before .before .before .before .before .before .choose .ensures) (a .which) (c .before .before .before .before .if1 .left) (sym (c .before .has-total .ensures) ∙ not-true _ (c .if2 .taken))
+returns-2 c =
+    let q = c .before .before .before .before in
+    total-unfit (had q .choose .ensures) (which q) (q .if1 .left) (sym (c .before .has-total .ensures) ∙ not-true _ (c .if2 .taken))
 
 total-of-requires : tie.Need-total-of-requires
-total-of-requires c κs = let a = c .before .before .before .before .before .before .before .before .before .before .before .args in lying (now (a .s)) (a .k) (c .before .before .before .before .before .before .before .before .before .choose .result) (c .before .before .before .before .before .before .before .before .before .choose .ensures) (a .which) (c .before .before .before .before .before .before .if1 .left) (c .good-extent .result) (c .good-extent .ensures .0) (c .good-extent .ensures .1)
+total-of-requires c κs = let q = c .before .before .before .before in lying (had q .choose .ensures) (which q) (q .if1 .left)
 
 returns-3 : tie.Need-returns-3
-returns-3 c = let a = c .before .before .before .before .before .before .before .before .before .before .before .before .args in c .total-of .ensures ∙ total-is (now (a .s)) (a .k) (c .before .before .before .before .before .before .before .before .before .before .choose .result) (c .before .before .before .before .before .before .before .before .before .before .choose .ensures) (a .which) (c .before .before .before .before .before .before .before .if1 .left) (sym (c .before .before .before .before .has-total .ensures) ∙ not-false _ (c .before .before .before .if2 .left)) (c .before .good-extent .result) (c .before .good-extent .ensures .0)
+returns-3 c =
+    let q = c .before .before .before .before .before in
+    c .total-of .ensures
+    ∙ total-is (had q .choose .ensures) (which q) (q .if1 .left) (sym (c .before .before .has-total .ensures) ∙ not-false _ (c .before .if2 .left))
 
 pub total-spec : {M : Type 1} → statement M
-total-spec =
-    tie.close
-    (tie.spec
-    (λ c κs. search needs) returns (λ c κs. search needs) returns-2 (λ c κs. search needs) total-of-requires returns-3)
+total-spec = tie.close (tie.spec (λ c κs. search needs) returns (λ c κs. search needs) returns-2 total-of-requires returns-3)

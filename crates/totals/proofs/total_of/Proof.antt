@@ -1,20 +1,21 @@
 -- `totals::total_of` meets its contract.
-use mathlib.Core.Path.{ap}
+use mathlib.Core.Path.{ap, _∙_}
 use Rattle.paper.specs.Totals.{totalOf}
 use Rattle.paper.specs.Refusals.{got}
 use Rattle.paper.specs.declared.Totalled.the-variants.{Count, Is}
 use borrow.Author.Tests.{eq-eqb, ne-eqb}
 use borrow.Author.Needs.{needs}
+use Rattle.totals.specs.Cells.{counted-true, counted-filled}
 use Rattle.totals.proofs.total_of.Statement.{statement}
 use Rattle.totals.proofs.total_of.Tie as tie
 
 returns : tie.Need-returns
 unfolding totalOf
-returns c = rw (c .before .enum-told .given .1) (ap (λ n. got (Count n)) (c .count-filled .ensures))
+returns c = rw (c .before .enum-told .given .1) (ap (λ n. got (Count n)) (c .count-cells .ensures ∙ counted-filled 1 _))
 
 returns-2 : tie.Need-returns-2
 unfolding totalOf
-returns-2 c = rw (c .before .enum-told2 .given .1) (ap (λ n. got (Count n)) (c .count-true .ensures))
+returns-2 c = rw (c .before .enum-told2 .given .1) (ap (λ n. got (Count n)) (c .count-cells2 .ensures ∙ counted-true 1 _))
 
 returns-3 : tie.Need-returns-3
 unfolding totalOf

@@ -25,11 +25,5 @@ pub fetched-spec : {M : Type 1} → statement M
 fetched-spec =
     tie.close
     (tie.spec
-    (λ c. search needs)
-    returns
-    (λ c. search needs)
-    raw-of-requires
-    returns-2
-    (λ c. search needs)
-    raw-of-requires-2
+    (λ c. search needs) returns (λ c. search needs) raw-of-requires returns-2 (λ c. search needs) raw-of-requires-2
     returns-3)

@@ -3,7 +3,7 @@ use Rattle.paper.specs.declared.Head.{Head}
 use Rattle.quick.specs.Operands.{source, bundleSide}
 use Rattle.recipe.specs.Given.{getD-any}
 use Rattle.paper.specs.Limits.{mostArrays}
-use Rattle.coordinates.specs.Loops.{length-mapped}
+use Rattle.laws.specs.Loops.{length-mapped}
 use lib.ListN.{length}
 use native.Mathlib.Omega.{arith}
 use mathlib.Core.Path.{_≡_, ap}

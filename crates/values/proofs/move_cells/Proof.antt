@@ -86,9 +86,6 @@ put9-requires c κs = omega (arith, here (c .before .before .before .before) (a 
 add-k : tie.Need-add-k Inv-loop μ-loop
 add-k c = omega (arith, few (c .before .before .before .before .before .before .before) (a (c .before .before .before .before .before .before .before) .pre), some (c .before .before .before .before .before .before .before) .1)
 
-loop-less : tie.Need-loop-less Inv-loop μ-loop
-loop-less c = omega arith
-
 loop-again : tie.Need-loop-again Inv-loop μ-loop
 loop-again c = (omega arith, λ m. moved-on (now (a (c .before .before .before .before .before .before .before) .args .bundle)) (now (a (c .before .before .before .before .before .before .before) .args .recipe)) (m .reading) (m .plan) (m .setting) (m .area) (m .step) (a (c .before .before .before .before .before .before .before) .args .base) (k (c .before .before .before .before .before .before .before)) (work (c .before .before .before .before .before .before .before)) (fill (c .before .before .before .before .before .before .before) m) (j (c .before .before .before .before .before .before .before)) (m .job) (some (c .before .before .before .before .before .before .before) .1) (c .before .before .before .before .before .before .origin-of .result) (c .before .before .before .before .before .before .origin-of .ensures) _ _ (c .before .before .before .before .fetched .ensures .0) (c .before .before .before .before .fetched .ensures .1) (search needs) _ (c .before .before .put9 .ensures))
 
@@ -102,19 +99,6 @@ pub move-cells-spec : {M : Type 1} → statement M
 move-cells-spec =
     tie.close
     (tie.spec
-    Inv-loop
-    μ-loop
-    moved-count-requires
-    loop-holds
-    origin-of-requires
-    slice-reshare-prefix-fetched
-    slice-aggregate-fetched
-    fetched-requires
-    mul-put9
-    add-put9
-    put9-requires
-    add-k
-    loop-less
-    loop-again
-    same-length
-    returns)
+    Inv-loop μ-loop moved-count-requires loop-holds origin-of-requires slice-reshare-prefix-fetched
+    slice-aggregate-fetched fetched-requires mul-put9 add-put9 put9-requires add-k (λ c. omega arith) loop-again
+    same-length returns)

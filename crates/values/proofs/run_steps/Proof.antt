@@ -15,7 +15,7 @@ use lib.Seq.{length-take-le}
 use Rattle.paper.specs.declared.Refusal.{Refusal}
 use Rattle.paper.specs.Limits.{cellBytes, mostCells, mostSteps}
 use Rattle.paper.specs.Refusals.{refusal}
-use Rattle.hot.specs.Codes.{NoNan}
+use Rattle.coded.specs.Codes.{NoNan}
 use Rattle.recipe.specs.Whole.{stepsOf}
 use Rattle.origin.specs.Origins.{moves}
 use Rattle.values.specs.declared.Job.{Job}
@@ -155,9 +155,6 @@ refusing-requires c κs = (steps-few (c .before .before .before .before .before 
 add-k : tie.Need-add-k Inv-cells μ-cells Inv-steps μ-steps
 add-k c = omega (arith, few (c .before .before .before .before .before .before .before .before .before .before .before .before) (W (b (c .before .before .before .before .before .before .before .before .before .before .before .before))) (moved (c .before .before .before .before .before .before .before .before .before .before .before .before)), c .before .before .before .before .before .before .before .before .before .before .before .cells-test .taken)
 
-cells-less : tie.Need-cells-less Inv-cells μ-cells Inv-steps μ-steps
-cells-less c = omega arith
-
 cells-again : tie.Need-cells-again Inv-cells μ-cells Inv-steps μ-steps
 cells-again c = (omega (arith, c .before .before .before .before .before .before .before .before .before .before .before .before .cells .inv .0), omega (arith, c .before .before .before .before .before .before .before .before .before .before .before .cells-test .taken), (λ X f. worked-on (now (a (b (c .before .before .before .before .before .before .before .before .before .before .before .before)) .args .bundle)) (now (a (b (c .before .before .before .before .before .before .before .before .before .before .before .before)) .args .recipe)) (a (b (c .before .before .before .before .before .before .before .before .before .before .before .before)) .args .reading) (a (b (c .before .before .before .before .before .before .before .before .before .before .before .before)) .args .plan) (a (b (c .before .before .before .before .before .before .before .before .before .before .before .before)) .pre .setting) X (s (c .before .before .before .before .before .before .before .before .before .before .before .before)) (base (c .before .before .before .before .before .before .before .before .before .before .before .before)) (k (c .before .before .before .before .before .before .before .before .before .before .before .before)) (work (c .before .before .before .before .before .before .before .before .before .before .before .before)) (fill (c .before .before .before .before .before .before .before .before .before .before .before .before) X f) (j (c .before .before .before .before .before .before .before .before .before .before .before .before)) (c .before .before .before .before .before .before .before .before .before .before .before .before .before .before .before .before .before .before .job-of .ensures) (none (c .before .before .before .before .before .before .before .before .before .before .before)) (q (c .before .before .before .before .before .before .before .before .before .before .before)) (c .before .before .before .before .before .before .before .before .before .before .before .before .before .before .before .before .before .pairing-of .ensures) (c .before .before .before .before .before .before .before .before .before .before .before .cells-test .taken) _ _ _ _ (c .before .before .before .before .before .before .before .before .before .raw-of .ensures .0) (c .before .before .before .before .before .before .before .before .before .raw-of .ensures .1) (c .before .before .before .before .before .before .before .before .raw-of2 .ensures .0) (c .before .before .before .before .before .before .before .before .raw-of2 .ensures .1) (c .before .before .before .before .before .before .before .computed .result) (c .before .before .before .before .before .before .before .computed .ensures) _ (c .before .before .before .before .before .got .given .1) _ (c .before .before .write-cell .ensures)), c .before .before .before .before .before .before .before .before .before .before .before .before .cells .inv .3)
 
@@ -169,9 +166,6 @@ add-base c = omega (arith, all-room (c .before) (W (b (c .before))) (moved (c .b
 
 add-s : tie.Need-add-s Inv-cells μ-cells Inv-steps μ-steps
 add-s c = omega (arith, steps-few (c .before) (W (b (c .before))) (moved (c .before)))
-
-steps-less : tie.Need-steps-less Inv-cells μ-cells Inv-steps μ-steps
-steps-less c = omega arith
 
 steps-again : tie.Need-steps-again Inv-cells μ-cells Inv-steps μ-steps
 steps-again c = (ended (now (a (b (c .before)) .args .bundle)) (now (a (b (c .before)) .args .recipe)) (a (b (c .before)) .args .reading) (a (b (c .before)) .args .plan) (a (b (c .before)) .pre .setting) (W (b (c .before))) (s (c .before)) (base (c .before)) (k (c .before)) (work (c .before)) (fill (c .before) (W (b (c .before))) (moved (c .before))) (j (c .before)) (c .before .before .before .before .before .before .before .job-of .ensures) (c .cells-test .left) (c .before .cells .inv .1), c .before .cells .inv .3 ∙ c .before .before .before .before .before .before .before .before .before .steps .inv .1)
@@ -197,36 +191,8 @@ pub run-steps-spec : {M : Type 1} → statement M
 run-steps-spec =
     tie.close
     (tie.spec
-    Inv-cells
-    μ-cells
-    Inv-steps
-    μ-steps
-    (λ c κs. search needs)
-    steps-holds
-    job-of-requires
-    pairing-of-requires
-    begin-cells-requires
-    cells-holds
-    slice-reshare-prefix-done
-    slice-aggregate-done
-    raw-of-requires
-    raw-of-requires-2
-    computed-requires
-    (λ c. search needs)
-    mul-write-cell
-    add-write-cell
-    write-cell-requires
-    (λ c. search needs)
-    refusing-requires
-    add-k
-    cells-less
-    cells-again
-    mul-base
-    add-base
-    add-s
-    steps-less
-    steps-again
-    same-length
-    returns
-    same-length-2
-    returns-2)
+    Inv-cells μ-cells Inv-steps μ-steps (λ c κs. search needs) steps-holds job-of-requires pairing-of-requires
+    begin-cells-requires cells-holds slice-reshare-prefix-done slice-aggregate-done raw-of-requires raw-of-requires-2
+    computed-requires (λ c. search needs) mul-write-cell add-write-cell write-cell-requires (λ c. search needs)
+    refusing-requires add-k (λ c. omega arith) cells-again mul-base add-base add-s (λ c. omega arith) steps-again
+    same-length returns same-length-2 returns-2)

@@ -15,23 +15,11 @@ abbrev μ-loop : tie.MeasureT-loop
 loop-holds : tie.Need-loop-holds Inv-loop μ-loop
 loop-holds c = copy-begins (now (c .args .s)) (c .args .from) (now (c .args .d)) (c .args .at) (c .args .n) (c .pre .0) (c .pre .1)
 
-add-d : tie.Need-add-d Inv-loop μ-loop
-add-d c = omega arith
-
 shared-slice-read-d : tie.Need-shared-slice-read-d Inv-loop μ-loop
 shared-slice-read-d c = omega (arith, c .before .before .before .pre)
 
-add-d-2 : tie.Need-add-d-2 Inv-loop μ-loop
-add-d-2 c = omega arith
-
 slice-write-d : tie.Need-slice-write-d Inv-loop μ-loop
 slice-write-d c = omega (arith, c .before .before .loop .inv .long)
-
-add-k : tie.Need-add-k Inv-loop μ-loop
-add-k c = omega arith
-
-loop-less : tie.Need-loop-less Inv-loop μ-loop
-loop-less c = omega arith
 
 loop-again : tie.Need-loop-again Inv-loop μ-loop
 loop-again c = copy-more (now (c .before .before .before .args .s)) (c .before .before .before .args .from) (now (c .before .before .before .args .d)) (c .before .before .before .args .at) (c .before .before .before .args .n) (c .before .before .before .pre .0) (c .before .before .before .pre .1) (c .before .before .loop .d) (c .before .before .loop .k) (c .before .before .loop .inv) (c .before .loop-test .taken)
@@ -46,5 +34,5 @@ pub copy-bytes-spec : {M : Type 1} → statement M
 copy-bytes-spec =
     tie.close
     (tie.spec
-    Inv-loop μ-loop loop-holds add-d shared-slice-read-d add-d-2 slice-write-d add-k loop-less loop-again same-length
-    returns)
+    Inv-loop μ-loop loop-holds (λ c. omega arith) shared-slice-read-d (λ c. omega arith) slice-write-d
+    (λ c. omega arith) (λ c. omega arith) loop-again same-length returns)

@@ -9,18 +9,6 @@ use Rattle.cell.proofs.Runs.{run-cons}
 use Rattle.cell.proofs.bytes.read_cell.Statement.{statement}
 use Rattle.cell.proofs.bytes.read_cell.Tie as tie
 
-shared-slice-read-from-parts : tie.Need-shared-slice-read-from-parts
-shared-slice-read-from-parts c = search needs
-
-add-word : tie.Need-add-word
-add-word c = search needs
-
-word-requires : tie.Need-word-requires
-word-requires c κs = search needs
-
-from-parts-requires : tie.Need-from-parts-requires
-from-parts-requires c κs = search needs
-
 returns : tie.Need-returns
 returns c =
     let a = c .before .before .before .before .args in
@@ -30,5 +18,4 @@ returns c =
 
 pub read-cell-spec : {M : Type 1} → statement M
 read-cell-spec =
-    tie.close
-    (tie.spec shared-slice-read-from-parts add-word word-requires from-parts-requires returns)
+    tie.close (tie.spec (λ c. search needs) (λ c. search needs) (λ c κs. search needs) (λ c κs. search needs) returns)

@@ -13,9 +13,6 @@ use Rattle.cell.proofs.Fit.{fit-back, by-zero, by-other}
 use Rattle.cell.proofs.ints.int_div.Statement.{statement}
 use Rattle.cell.proofs.ints.int_div.Tie as tie
 
-int-neg-requires : tie.Need-int-neg-requires
-int-neg-requires c κs = search needs
-
 div-t7 : tie.Need-div-t7
 div-t7 c =
     let o = c .before .before in
@@ -41,4 +38,4 @@ returns-3 c =
     (fit-back (quotZ (o .args .a) (o .args .b)) f ∙ by-other quotZ (o .args .a) (o .args .b) (λ e. c .before .if1 .left (ap (ofZ w64) e)))
 
 pub int-div-spec : {M : Type 1} → statement M
-int-div-spec = tie.close (tie.spec int-neg-requires div-t7 returns returns-2 returns-3)
+int-div-spec = tie.close (tie.spec (λ c κs. search needs) div-t7 returns returns-2 returns-3)

@@ -94,6 +94,5 @@ pub int-mul-spec : {M : Type 1} → statement M
 int-mul-spec =
     tie.close
     (tie.spec
-    (λ c κs. search needs) (λ c κs. search needs) mul-t8 returns
-    (λ c κs. search needs) (λ c κs. search needs) (λ c κs. search needs) returns-2 mul-p mul-t13
-    returns-3 returns-4 returns-5 returns-6)
+    (λ c κs. search needs) (λ c κs. search needs) mul-t8 returns (λ c κs. search needs) (λ c κs. search needs)
+    (λ c κs. search needs) returns-2 mul-p mul-t13 returns-3 returns-4 returns-5 returns-6)

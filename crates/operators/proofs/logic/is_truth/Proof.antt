@@ -10,5 +10,6 @@ unfolding isTruth
 is-truth-spec =
     tie.close
     (tie.spec
-    (λ c. search needs) (λ c. search needs) (λ c. search needs) (λ c. search needs) (λ c. search needs) (λ c. search needs)
-    (λ c. search needs) (λ c. sym (ap (isTruth (c .before .before .before .args .v)) (c .before .c .given .1))))
+    (λ c. search needs) (λ c. search needs) (λ c. search needs) (λ c. search needs) (λ c. search needs)
+    (λ c. search needs) (λ c. search needs)
+    (λ c. sym (ap (isTruth (c .before .before .before .args .v)) (c .before .c .given .1))))

@@ -23,7 +23,7 @@ unfolding singleCell signed
 absolute-spec =
     tie.close
     (tie.spec
-    (λ c. search needs) (λ c. search needs) (λ c κs. search needs) (λ c. search needs) (λ c κs. search needs) (λ c. search needs)
-    (λ c. sym (ap (singleCell Absolute) (c .enum-told .given .1))) returns-2
+    (λ c. search needs) (λ c. search needs) (λ c κs. search needs) (λ c. search needs) (λ c κs. search needs)
+    (λ c. search needs) (λ c. sym (ap (singleCell Absolute) (c .enum-told .given .1))) returns-2
     (λ c. ap (λ y. Is (Float y)) (c .float-abs .ensures) ∙ sym (ap (singleCell Absolute) (c .before .before .c2 .given .1)))
     (λ c. sym (ap (singleCell Absolute) (c .enum-told2 .given .1))))

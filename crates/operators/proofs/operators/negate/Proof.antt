@@ -23,4 +23,5 @@ negate-spec =
     (tie.spec
     (λ c. search needs) (λ c. search needs) (λ c κs. search needs) (λ c. search needs) (λ c. search needs)
     (λ c. sym (ap (singleCell Negate) (c .enum-told .given .1))) returns-2
-    (λ c. sym (ap (singleCell Negate) (c .before .c2 .given .1))) (λ c. sym (ap (singleCell Negate) (c .enum-told2 .given .1))))
+    (λ c. sym (ap (singleCell Negate) (c .before .c2 .given .1)))
+    (λ c. sym (ap (singleCell Negate) (c .enum-told2 .given .1))))

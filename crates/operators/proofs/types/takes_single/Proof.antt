@@ -14,9 +14,11 @@ unfolding takesOne
 takes-single-spec =
     tie.close
     (tie.spec
-    (λ c. search needs) (λ c. search needs) (λ c. search needs) (λ c. search needs) (λ c. search needs) (λ c. search needs)
-    (λ c. search needs)
-    (λ c. taken (c .before .before) (c .enum-told .given .1)) (λ c. taken (c .before .before) (c .enum-told2 .given .1))
-    (λ c. taken (c .before .before) (c .enum-told3 .given .1)) (λ c. taken (c .before .before) (c .enum-told4 .given .1))
-    (λ c. taken (c .before .before) (c .enum-told5 .given .1)) (λ c. taken (c .before .before) (c .enum-told6 .given .1))
+    (λ c. search needs) (λ c. search needs) (λ c. search needs) (λ c. search needs) (λ c. search needs)
+    (λ c. search needs) (λ c. search needs) (λ c. taken (c .before .before) (c .enum-told .given .1))
+    (λ c. taken (c .before .before) (c .enum-told2 .given .1))
+    (λ c. taken (c .before .before) (c .enum-told3 .given .1))
+    (λ c. taken (c .before .before) (c .enum-told4 .given .1))
+    (λ c. taken (c .before .before) (c .enum-told5 .given .1))
+    (λ c. taken (c .before .before) (c .enum-told6 .given .1))
     (λ c. taken (c .before .before) (c .enum-told7 .given .1)))

@@ -7,13 +7,18 @@ use Rattle.pack.specs.Put.{axis-put}
 
 returns : tie.Need-returns
 returns c =
-    let a = c .before .before .before .before .before .before .before .before .before .before .before .before .before .before .before .before .before .before .before .before .before .before .before .before .before .args in
-    axis-put (now (a .d)) (c .before .before .before .before .before .before .before .before .before .before .before .before .before .before .before .before .before .before .before .before .before .before .put-name .last .0) (c .before .before .before .before .before .before .before .before .before .before .before .before .before .before .before .before .before .put4 .last .0) (c .before .before .before .before .before .before .before .before .before .before .before .before .put42 .last .0) (c .before .before .before .before .before .before .before .put43 .last .0) (c .before .before .put44 .last .0) (a .at) (a .a) (a .m) (c .before .before .before .before .before .before .before .before .before .before .before .before .before .before .before .before .before .before .before .before .before .before .before .before .before .pre)
-    (c .before .before .before .before .before .before .before .before .before .before .before .before .before .before .before .before .before .before .before .before .before .before .put-name .ensures)
-    (record { bits = c .before .before .before .before .before .before .before .before .before .before .before .before .before .before .before .before .before .before .bits-of .result; its = c .before .before .before .before .before .before .before .before .before .before .before .before .before .before .before .before .before .before .bits-of .ensures; four = c .before .before .before .before .before .before .before .before .before .before .before .before .before .before .before .before .before .put4 .ensures })
-    (record { bits = c .before .before .before .before .before .before .before .before .before .before .before .before .before .bits-of2 .result; its = c .before .before .before .before .before .before .before .before .before .before .before .before .before .bits-of2 .ensures; four = c .before .before .before .before .before .before .before .before .before .before .before .before .put42 .ensures })
-    (record { bits = c .before .before .before .before .before .before .before .before .bits-of3 .result; its = c .before .before .before .before .before .before .before .before .bits-of3 .ensures; four = c .before .before .before .before .before .before .before .put43 .ensures })
-    (record { bits = c .before .before .before .bits-of4 .result; its = c .before .before .before .bits-of4 .ensures; four = c .before .before .put44 .ensures })
+    let o₄ = c .before .before in
+    let o₃ = o₄ .before .before .before .before .before in
+    let o₂ = o₃ .before .before .before .before .before in
+    let o₁ = o₂ .before .before .before .before .before in
+    let o₀ = o₁ .before .before .before .before .before in
+    let s = o₀ .before .before .before in
+    axis-put (now (s .args .d)) (o₀ .put-name .last .0) (o₁ .put4 .last .0) (o₂ .put42 .last .0) (o₃ .put43 .last .0) (o₄ .put44 .last .0) (s .args .at) (s .args .a) (s .args .m) (s .pre)
+    (o₀ .put-name .ensures)
+    (record { bits = o₁ .before .bits-of .result; its = o₁ .before .bits-of .ensures; four = o₁ .put4 .ensures })
+    (record { bits = o₂ .before .bits-of2 .result; its = o₂ .before .bits-of2 .ensures; four = o₂ .put42 .ensures })
+    (record { bits = o₃ .before .bits-of3 .result; its = o₃ .before .bits-of3 .ensures; four = o₃ .put43 .ensures })
+    (record { bits = o₄ .before .bits-of4 .result; its = o₄ .before .bits-of4 .ensures; four = o₄ .put44 .ensures })
 
 pub put-axis-spec : {M : Type 1} → statement M
 put-axis-spec =

@@ -7,25 +7,11 @@ use borrow.Author.Needs.{needs}
 use Rattle.step.proofs.operation.of_left.Statement.{statement}
 use Rattle.step.proofs.operation.of_left.Tie as tie
 
--- src/operation.rt:45:9
-pair-op-requires : tie.Need-pair-op-requires
-pair-op-requires c κs = search needs
-
--- src/operation.rt:47:21
-enum-known-got : tie.Need-enum-known-got
-enum-known-got c = search needs
-
--- src/operation.rt:47:27
 returns : tie.Need-returns
 returns c = ap (Option·map LeftScalar) (sym (ap toldPair (c .before .got .given .1)) ∙ c .before .before .before .pair-op .ensures)
 
--- src/operation.rt:48:29
-enum-told : tie.Need-enum-told
-enum-told c = search needs
-
--- src/operation.rt:48:29
 returns-2 : tie.Need-returns-2
 returns-2 c = ap (Option·map LeftScalar) (sym (ap toldPair (c .enum-told .given .1)) ∙ c .before .before .pair-op .ensures)
 
 pub of-left-spec : {M : Type 1} → statement M
-of-left-spec = tie.close (tie.spec pair-op-requires enum-known-got returns enum-told returns-2)
+of-left-spec = tie.close (tie.spec (λ c κs. search needs) (λ c. search needs) returns (λ c. search needs) returns-2)

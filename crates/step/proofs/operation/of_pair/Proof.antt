@@ -7,25 +7,11 @@ use borrow.Author.Needs.{needs}
 use Rattle.step.proofs.operation.of_pair.Statement.{statement}
 use Rattle.step.proofs.operation.of_pair.Tie as tie
 
--- src/operation.rt:23:9
-pair-op-requires : tie.Need-pair-op-requires
-pair-op-requires c κs = search needs
-
--- src/operation.rt:25:21
-enum-known-got : tie.Need-enum-known-got
-enum-known-got c = search needs
-
--- src/operation.rt:25:27
 returns : tie.Need-returns
 returns c = ap (Option·map Pair) (sym (ap toldPair (c .before .got .given .1)) ∙ c .before .before .before .pair-op .ensures)
 
--- src/operation.rt:26:29
-enum-told : tie.Need-enum-told
-enum-told c = search needs
-
--- src/operation.rt:26:29
 returns-2 : tie.Need-returns-2
 returns-2 c = ap (Option·map Pair) (sym (ap toldPair (c .enum-told .given .1)) ∙ c .before .before .pair-op .ensures)
 
 pub of-pair-spec : {M : Type 1} → statement M
-of-pair-spec = tie.close (tie.spec pair-op-requires enum-known-got returns enum-told returns-2)
+of-pair-spec = tie.close (tie.spec (λ c κs. search needs) (λ c. search needs) returns (λ c. search needs) returns-2)

@@ -13,23 +13,9 @@ use borrow.Author.Needs.{needs}
 use Rattle.step.proofs.tests.put_fits.Statement.{statement}
 use Rattle.step.proofs.tests.put_fits.Tie as tie
 
--- src/tests.rt:115:9
-slice-fits-requires : tie.Need-slice-fits-requires
-slice-fits-requires c κs = search needs
-
--- src/tests.rt:116:9
 returns : tie.Need-returns
 returns c = and-no _ _ (sym (c .before .slice-fits .ensures) ∙ not-true _ (c .if1 .taken))
 
--- src/tests.rt:118:16
-removed-requires : tie.Need-removed-requires
-removed-requires c κs = search needs
-
--- src/tests.rt:118:5
-covers-all-requires : tie.Need-covers-all-requires
-covers-all-requires c κs = search needs
-
--- src/tests.rt:111:1
 returns-2 : tie.Need-returns-2
 returns-2 c =
     let F = axesOf (c .before .before .before .before .before .args .f) in
@@ -39,4 +25,4 @@ returns-2 c =
 
 pub put-fits-spec : {M : Type 1} → statement M
 put-fits-spec =
-    tie.close (tie.spec slice-fits-requires returns removed-requires covers-all-requires returns-2)
+    tie.close (tie.spec (λ c κs. search needs) returns (λ c κs. search needs) (λ c κs. search needs) returns-2)

@@ -13,15 +13,6 @@ use borrow.Author.Needs.{needs}
 use Rattle.step.proofs.tests.trim_fits.Statement.{statement}
 use Rattle.step.proofs.tests.trim_fits.Tie as tie
 
--- src/tests.rt:99:19
-with-limits-requires : tie.Need-with-limits-requires
-with-limits-requires c κs = search needs
-
--- src/tests.rt:99:5
-covers-all-requires : tie.Need-covers-all-requires
-covers-all-requires c κs = search needs
-
--- src/tests.rt:94:1
 returns : tie.Need-returns
 returns c =
     let E = axesOf (c .before .before .before .args .e) in
@@ -29,4 +20,4 @@ returns c =
     ∙ ap (λ (l : List Axis). covers E l) (extent-axes (withLimits E (part (c .before .before .before .args .at) detailBytes (now (c .before .before .before .args .s)))))
 
 pub trim-fits-spec : {M : Type 1} → statement M
-trim-fits-spec = tie.close (tie.spec with-limits-requires covers-all-requires returns)
+trim-fits-spec = tie.close (tie.spec (λ c κs. search needs) (λ c κs. search needs) returns)

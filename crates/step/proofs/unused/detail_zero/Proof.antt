@@ -20,5 +20,5 @@ pub detail-zero-spec : {M : Type 1} → statement M
 detail-zero-spec =
     tie.close
     (tie.spec
-    (λ c. search needs) (λ c. search needs) (λ c κs. search needs) returns returns-2 (λ c. search needs) (λ c. search needs)
-    (λ c κs. search needs) returns-3)
+    (λ c. search needs) (λ c. search needs) (λ c κs. search needs) returns returns-2 (λ c. search needs)
+    (λ c. search needs) (λ c κs. search needs) returns-3)

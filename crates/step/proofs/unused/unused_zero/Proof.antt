@@ -28,4 +28,5 @@ pub unused-zero-spec : {M : Type 1} → statement M
 unused-zero-spec =
     tie.close
     (tie.spec
-    (λ c κs. search needs) (λ c κs. search needs) returns (λ c κs. search needs) returns-2 detail-zero-requires returns-3)
+    (λ c κs. search needs) (λ c κs. search needs) returns (λ c κs. search needs) returns-2 detail-zero-requires
+    returns-3)

@@ -3,13 +3,8 @@ use borrow.Author.Needs.{needs}
 use Rattle.step.proofs.unused.used_or_zero.Statement.{statement}
 use Rattle.step.proofs.unused.used_or_zero.Tie as tie
 
--- src/unused.rt:107:9
-returns : tie.Need-returns
-returns c = search needs
-
--- src/unused.rt:103:1
 returns-2 : tie.Need-returns-2
 returns-2 c = rw (c .if1 .left)
 
 pub used-or-zero-spec : {M : Type 1} → statement M
-used-or-zero-spec = tie.close (tie.spec returns returns-2)
+used-or-zero-spec = tie.close (tie.spec (λ c. search needs) returns-2)

@@ -18,17 +18,8 @@ abbrev μ-loop : tie.MeasureT-loop
 loop-holds : tie.Need-loop-holds Inv-loop μ-loop
 loop-holds c = refl
 
-shared-slice-read-if1 : tie.Need-shared-slice-read-if1 Inv-loop μ-loop
-shared-slice-read-if1 c = omega arith
-
 returns : tie.Need-returns Inv-loop μ-loop
 returns c = let a = c .before .before .before .before in sym (zeros-up (now (a .args .s)) (a .args .to) (c .before .before .before .loop .i) (c .before .before .loop-test .taken) (a .pre) ∙ rw (ne-eqb _ 0 (c .if1 .taken))) ∙ c .before .before .before .loop .inv
-
-add-i : tie.Need-add-i Inv-loop μ-loop
-add-i c = omega arith
-
-loop-less : tie.Need-loop-less Inv-loop μ-loop
-loop-less c = omega arith
 
 loop-again : tie.Need-loop-again Inv-loop μ-loop
 loop-again c = let a = c .before .before .before .before in sym (zeros-up (now (a .args .s)) (a .args .to) (c .before .before .before .loop .i) (c .before .before .loop-test .taken) (a .pre) ∙ rw (eq-eqb _ 0 (c .if1 .left))) ∙ c .before .before .before .loop .inv
@@ -40,4 +31,4 @@ pub zero-between-spec : {M : Type 1} → statement M
 zero-between-spec =
     tie.close
     (tie.spec
-    Inv-loop μ-loop loop-holds shared-slice-read-if1 returns add-i loop-less loop-again returns-2)
+    Inv-loop μ-loop loop-holds (λ c. omega arith) returns (λ c. omega arith) (λ c. omega arith) loop-again returns-2)

@@ -1,0 +1,105 @@
+-- What is asked by numbers and bytes, as the paper's own questions: heads of arrays, a coordinate, a walking place, a total's number.
+use Prim.Native.Nat.{ℕ, zero, suc, _+_, _*_, _/_, _%_}
+use mathlib.Core.Bool.{_&&_}
+use mathlib.Core.List.{List, [], _∷_}
+use mathlib.Core.Option.{none, some}
+use lib.Dec.{eqb, leb}
+use lib.ListN.{take, drop, length, getD}
+use lib.IntN.{ℤ}
+use Rattle.paper.specs.declared.Total.{Total}
+use Rattle.paper.specs.declared.Total.the-variants.{Filled, Trues, Smallest, Largest, Sum, Average}
+use Rattle.paper.specs.declared.Totalled.{Totalled}
+use Rattle.paper.specs.Limits.{mostArrays, mostAxes, limitBytes, axisBytes, typeBytes}
+use Rattle.paper.specs.Refusals.{Res, got, refused, _>>=_, _>>_, if_then_else_, refusal, present, unknown4}
+use Rattle.paper.specs.Numbers.{leOf, leBytes, signedAt, nth, over}
+use Rattle.paper.specs.Axes.{Shape, shaped}
+use Rattle.paper.specs.Bundle.{axisOf, maximumOf, eachAxis, readBundle, Packed, pack}
+use Rattle.paper.specs.Stretch.{Side}
+use Rattle.paper.specs.Reference.{chosen}
+use Rattle.paper.specs.Totals.{totals}
+use Rattle.paper.specs.Answers.{reading}
+
+-- how many pieces of a size n bytes are; none where they are no whole pieces or too many
+abbrev pub pieces : ℕ → ℕ → ℕ → ℕ
+pieces most size n = if eqb (n % size) 0 && leb n (most * size) then n / size else 0
+
+-- ---- a bundle read
+
+-- how many arrays it has
+unfoldable pub countOf : List ℕ → Res ℕ
+countOf bundle = do
+  As ← readBundle bundle
+  got (length As)
+
+-- array k: its shape, and the byte at which its cells begin
+unfoldable pub arrayTold : List ℕ → ℕ → Res (Shape × ℕ)
+arrayTold bundle k = do
+  arrays ← reading bundle
+  present (nth arrays k) (refusal unknown4 k 0)
+
+-- ---- heads: type, axis count, and room for as many axes as an array may have
+
+abbrev pub headLength : ℕ
+headLength = typeBytes + mostAxes * axisBytes
+
+-- an axis count over that room is read as none
+abbrev pub slots : ℕ → ℕ
+slots n = if leb n mostAxes then n else 0
+
+-- the shape that the first bytes describe
+unfoldable pub shapeIn : List ℕ → Shape
+shapeIn bs =
+    shaped (getD bs 0 0) (eachAxis axisOf (slots (getD bs 1 0)) (drop typeBytes bs))
+    (eachAxis maximumOf (slots (getD bs 1 0)) (drop typeBytes bs))
+
+-- n heads, one after the other
+unfoldable pub headsIn : ℕ → List ℕ → List Shape
+headsIn zero bs = []
+headsIn (suc n) bs = shapeIn bs ∷ headsIn n (drop headLength bs)
+
+-- packing arrays of these heads: heads of another length are no heads
+abbrev pub packHeads : List ℕ → List ℕ → List ℕ → Packed
+packHeads heads cells out = pack (headsIn (pieces mostArrays headLength (length heads)) heads) cells out
+
+-- a side's shape: a head of another length has no type and no axis
+abbrev pub sideShape : List ℕ → Shape
+sideShape head = if eqb (length head) headLength then shapeIn head else shaped 0 [] []
+
+-- a side of a stretch, from its head and its cells
+abbrev pub sideIn : List ℕ → List ℕ → Side
+sideIn head cells = record { type = sideShape head .type; axes = sideShape head .axes; bytes = cells }
+
+-- ---- a coordinate
+
+-- n signed numbers, one after the other
+unfoldable pub signedIn : ℕ → List ℕ → List ℤ
+signedIn zero bs = []
+signedIn (suc n) bs = signedAt 0 bs ∷ signedIn n (drop limitBytes bs)
+
+-- four bytes an axis; bytes of another length are a coordinate of no numbers
+abbrev pub coordinateIn : List ℕ → List ℤ
+coordinateIn bs = signedIn (pieces mostAxes limitBytes (length bs)) bs
+
+-- ---- a walking place, in the first four bytes
+
+-- fewer bytes are place 0, which is outside
+abbrev pub placeIn : List ℕ → ℕ
+placeIn bs = if leb limitBytes (length bs) then leOf (take limitBytes bs) else 0
+
+-- and stay as they are
+abbrev pub placeAfter : ℕ → List ℕ → List ℕ
+placeAfter o bs = if leb limitBytes (length bs) then over (leBytes limitBytes o) bs else bs
+
+-- ---- a total by its number
+
+abbrev pub allTotals : List Total
+allTotals = Filled ∷ Trues ∷ Smallest ∷ Largest ∷ Sum ∷ Average ∷ []
+
+-- no total has that number: 4, as for an unknown operator
+unfoldable pub noTotal : List ℕ → ℕ → Res Totalled
+noTotal bundle k = do
+  A ← chosen bundle k
+  refused (refusal unknown4 k 0)
+
+unfoldable pub totalAsked : List ℕ → ℕ → ℕ → Res Totalled
+totalAsked bundle k which = elim (nth allTotals which) [ none ↦ noTotal bundle k | some t ↦ totals bundle k t ]

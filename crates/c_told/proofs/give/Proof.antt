@@ -1,0 +1,26 @@
+-- `c_told::give` meets its contract: the bytes copied are those that there is room for.
+use native.Mathlib.Omega.{arith}
+use denote.Ref.{now}
+use borrow.Author.Needs.{needs}
+use Rattle.c_told.specs.Replies.{given-short, given-whole}
+use Rattle.c_told.proofs.give.Statement.{statement}
+use Rattle.c_told.proofs.give.Tie as tie
+
+returns : tie.Need-returns
+returns c =
+    let a = c .before .before .before .before .before .before .before .before .args in
+    given-short (a .reply) (now (a .said)) _ (c .before .before .before .before .before .if1 .taken)
+    (c .before .before .copy-bytes .ensures)
+
+returns-2 : tie.Need-returns-2
+returns-2 c =
+    let a = c .before .before .before .before .before .before .before .before .args in
+    given-whole (a .reply) (now (a .said)) _ (omega (arith, c .before .before .before .before .before .if1 .left))
+    (c .before .before .copy-bytes2 .ensures)
+
+pub give-spec : {M : Type 1} → statement M
+give-spec =
+    tie.close
+    (tie.spec
+    (λ c. search needs) (λ c κs. search needs) (λ c. search needs) returns (λ c. search needs) (λ c κs. search needs)
+    (λ c. search needs) returns-2)

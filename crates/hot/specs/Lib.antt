@@ -1,2 +1,0 @@
--- What the contracts of the loop's face cite.
-pub mod Codes

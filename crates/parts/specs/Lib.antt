@@ -1,3 +1,0 @@
--- What the loops over a bundle's bytes cite.
-pub mod Judge
-pub mod Axes
