@@ -1,4 +1,4 @@
--- One array read, by cases: each way out of the code from the tests that lead to it, at offsets into the bundle's bytes.
+-- ArrayRead array read, by cases: each way out of the code from the tests that lead to it, at offsets into the bundle's bytes.
 use Prim.Native.Nat.{ℕ, _+_, _-_, _*_, _≤_, _<_}
 use mathlib.Core.Path.{_≡_, sym, ap, ap₂, subst, _∙_}
 use mathlib.Core.Bool.{true, false, _&&_}
@@ -19,35 +19,37 @@ use Rattle.paper.specs.Axes.{cells, goodExtent, within, Shape}
 use Rattle.paper.specs.Cells.{isType}
 use Rattle.paper.specs.Bundle.{axisOf, maximumOf, eachAxis, arrayOf, readArray}
 use Rattle.paper.specs.Answers.{axesOf, extentOf, shapeOf}
+use Rattle.laws.specs.Tests.{between-true}
 use Rattle.laws.specs.Judged.{firstBad, cellsFrom, judged, cells-judged}
 use Rattle.laws.specs.Answers.{unless-refused, extent-axes, formOf}
 use Rattle.extent.specs.Judged.{cellsWithin, within-zero, within-some}
-use Rattle.bundle.specs.declared.One.{One}
+use Rattle.bundle.specs.declared.ArrayRead.{ArrayRead}
 use Rattle.bundle.specs.Axes.{length-each}
-use Rattle.bundle.specs.Read.{cellsIn, arrayAt, oneOf, none, Fit, JudgedArray, ReadArray}
+use Rattle.bundle.specs.Read.{cellsIn, arrayAt, oneOf, noArray, Fit, JudgedArray, ReadArray}
 
 -- ---- an answer that is a refusal
 
 module _ (bs : List ℕ) (x : Refusal) (h : x .number ≡ 0 → ⊥) where
   -- of a form
-  pub judged-none : (from k : ℕ) (form : Form) (r : One) → r ≡ none x → refused x ≡ arrayOf k (shapeOf form) (drop from bs) → JudgedArray bs from k form r
+  pub judged-none : (from k : ℕ) (form : Form) (r : ArrayRead) → r ≡ noArray x → refused x ≡ arrayOf k (shapeOf form) (drop from bs)
+      → JudgedArray bs from k form r
   judged-none from k form r e q =
-      let z : r .refusal .number ≡ 0 → ⊥ = λ f. h (sym (ap (λ (o : One). o .refusal .number) e) ∙ f) in
+      let z : r .refusal .number ≡ 0 → ⊥ = λ f. h (sym (ap (λ (o : ArrayRead). o .refusal .number) e) ∙ f) in
       record {
         said = ap (oneOf bs) e ∙ unless-refused x _ h ∙ q;
-        end = omega (arith, ap (λ (o : One). o .end) e);
+        end = omega (arith, ap (λ (o : ArrayRead). o .end) e);
         fit = λ f. absurd (z f);
         held = λ f. absurd (z f);
         past = λ f. absurd (z f);
       }
 
   -- from its first byte
-  pub read-none : (at k : ℕ) (r : One) → r ≡ none x → refused x ≡ readArray k (drop at bs) → ReadArray bs at k r
+  pub read-none : (at k : ℕ) (r : ArrayRead) → r ≡ noArray x → refused x ≡ readArray k (drop at bs) → ReadArray bs at k r
   read-none at k r e q =
-      let z : r .refusal .number ≡ 0 → ⊥ = λ f. h (sym (ap (λ (o : One). o .refusal .number) e) ∙ f) in
+      let z : r .refusal .number ≡ 0 → ⊥ = λ f. h (sym (ap (λ (o : ArrayRead). o .refusal .number) e) ∙ f) in
       record {
         said = ap (oneOf bs) e ∙ unless-refused x _ h ∙ q;
-        end = omega (arith, ap (λ (o : One). o .end) e);
+        end = omega (arith, ap (λ (o : ArrayRead). o .end) e);
         fit = λ f. absurd (z f);
         tidy = λ f. absurd (z f);
         lies = λ f. absurd (z f);
@@ -88,7 +90,9 @@ module _ (k : ℕ) (s : List ℕ) (from : ℕ) (form : Form) (n : ℕ) (q : n �
       of-bad z = let f : eqb b 0 ≡ false = ne-eqb b 0 z in sym (of-cells ∙ rw f)
 
       -- all cells are cells: the array is as it stands in the bytes
-      pub of-got : from ≤ length s → b ≡ 0 → n ≤ mostCells → (r : One) → r ≡ record { refusal = refusal 0 0 0; head = record { form = form; at = from; cells = n }; end = from + n * cellBytes } → JudgedArray s from k form r
+      pub of-got : from ≤ length s → b ≡ 0 → n ≤ mostCells → (r : ArrayRead)
+          → r ≡ record { refusal = refusal 0 0 0; head = record { form = form; at = from; cells = n }; end = from + n * cellBytes }
+          → JudgedArray s from k form r
       unfolding arrayAt
       of-got l z few r w =
           let m = is-good .1 in
@@ -99,10 +103,10 @@ module _ (k : ℕ) (s : List ℕ) (from : ℕ) (form : Form) (n : ℕ) (q : n �
                 ap (oneOf s) w
                 ∙ ap₂ (λ (j : ℕ) (d : List ℕ). got (record { shape = shape; cells = cellsFrom t j (drop from s) }, d)) m (sym (drop-drop (n * cellBytes) from s))
                 ∙ sym (of-cells ∙ rw z);
-            end = omega (arith, ap (λ (o : One). o .end) w);
-            fit = λ f. subst (λ (o : One). Fit s (o .head)) (sym w) fit;
-            held = λ f. ap (λ (o : One). o .head) w ∙ (λ i. record { form = form; at = from; cells = sym m i });
-            past = λ f. ap (λ (o : One). o .end) w ∙ ap (λ (j : ℕ). from + j * cellBytes) (sym m);
+            end = omega (arith, ap (λ (o : ArrayRead). o .end) w);
+            fit = λ f. subst (λ (o : ArrayRead). Fit s (o .head)) (sym w) fit;
+            held = λ f. ap (λ (o : ArrayRead). o .head) w ∙ (λ i. record { form = form; at = from; cells = sym m i });
+            past = λ f. ap (λ (o : ArrayRead). o .end) w ∙ ap (λ (j : ℕ). from + j * cellBytes) (sym m);
           }
 
 -- ---- from its first byte
@@ -146,11 +150,12 @@ module _ (k : ℕ) (s : List ℕ) (at t n : ℕ) (et : t ≡ getD s at 0) (en : 
 
         shape-is : shapeOf form ≡ record { type = t; axes = E; maximum = M }
         shape-is =
-            let p : axesOf x ≡ E = ap axesOf ex ∙ extent-axes E in
-            let q : axesOf m ≡ M = ap axesOf em ∙ extent-axes M in
+            let few = between-true mostAxes n f .1 in
+            let p : axesOf x ≡ E = ap axesOf ex ∙ extent-axes E (omega (arith, length-each axisOf n (drop (at + typeBytes) s))) in
+            let q : axesOf m ≡ M = ap axesOf em ∙ extent-axes M (omega (arith, length-each maximumOf n (drop (at + typeBytes) s))) in
             λ i. record { type = t; axes = p i; maximum = q i }
 
-        pub head-rest : (r : One) → JudgedArray s (at + typeBytes + n * axisBytes) k form r → ReadArray s at k r
+        pub head-rest : (r : ArrayRead) → JudgedArray s (at + typeBytes + n * axisBytes) k form r → ReadArray s at k r
         head-rest r j =
             let g : leb (typeBytes + n * axisBytes) (length s - at) ≡ true = le-leb _ _ h in
             let from : ℕ = at + typeBytes + n * axisBytes in

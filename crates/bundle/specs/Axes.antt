@@ -2,7 +2,7 @@
 -- other into an extent, which has nothing past the last.
 use Prim.Native.Nat.{ℕ, zero, suc, _+_, _-_, _*_, _≤_, _<_}
 use mathlib.Core.Path.{_≡_, refl, sym, ap, ap₂, _∙_}
-use mathlib.Core.Bool.{Bool, true, false, _&&_}
+use mathlib.Core.Bool.{true, _&&_}
 use mathlib.Core.List.{List, [], _∷_, _++_, append-assoc, append-nil}
 use native.Mathlib.Omega.{arith}
 use lib.Dec.{eqb}
@@ -13,7 +13,7 @@ use mir.Val.{toZ}
 use Rattle.paper.specs.declared.Axis.{Axis}
 use Rattle.paper.specs.declared.Extent.{Extent}
 use Rattle.paper.specs.Limits.{mostAxes, nameBytes, limitBytes, pairBytes, axisBytes}
-use Rattle.paper.specs.Numbers.{leOf, part, distance, positionAt, same}
+use Rattle.paper.specs.Numbers.{leOf, part, distance, positionAt, alike, same}
 use Rattle.paper.specs.Axes.{noAxis}
 use Rattle.paper.specs.Bundle.{mark, markBytes, eachAxis}
 use Rattle.paper.specs.Answers.{extentOf}
@@ -26,12 +26,8 @@ use Rattle.bundle.specs.Front.{front-more, blank-more}
 -- the first five bytes, one by one
 pub marked : (s : List ℕ) → markBytes ≤ length s
     → same (take markBytes s) mark ≡ (eqb (getD s 0 0) 82 && (eqb (getD s 1 0) 77 && (eqb (getD s 2 0) 65 && (eqb (getD s 3 0) 1 && (eqb (getD s 4 0) 0 && true)))))
-unfolding same
+unfolding alike
 marked s h = ap (λ (l : List ℕ). same l mark) (bytes-at s 0 markBytes h)
-
-pub and-true : (b : Bool) → b ≡ (b && true)
-and-true true = refl
-and-true false = refl
 
 -- ---- an axis, by its three numbers at an offset
 
@@ -43,7 +39,8 @@ module _ (s : List ℕ) (at : ℕ) where
   limit-part : (i : ℕ) → i + limitBytes ≤ axisBytes → positionAt (at + i) s ≡ positionAt i (part at axisBytes s)
   limit-part i h = ap (λ (l : List ℕ). distance (toZ w32 (leOf l))) (sym (part-part s at axisBytes i limitBytes h))
 
-  pub axis-told : (i name lo hi : ℕ) → i + pairBytes ≤ axisBytes → name ≡ leOf (part at nameBytes s) → lo ≡ positionAt (at + i) s → hi ≡ positionAt (at + i + limitBytes) s
+  pub axis-told : (i name lo hi : ℕ) → i + pairBytes ≤ axisBytes → name ≡ leOf (part at nameBytes s) → lo ≡ positionAt (at + i) s
+      → hi ≡ positionAt (at + i + limitBytes) s
       → _≡_ {A = Axis} (record { name = name; lo = lo; hi = hi }) (axisBy i (part at axisBytes s))
   axis-told i name lo hi h e p q =
       let f : at + i + limitBytes ≡ at + (i + limitBytes) = omega arith in
@@ -73,7 +70,8 @@ module _ (f : List ℕ → Axis) (s : List ℕ) (at n : ℕ) where
       let g : at + 0 * axisBytes ≡ at = omega arith in
       record { long = refl; whole = rw (e, g); blank = refl }
 
-  pub filled-more : (i : ℕ) (l : List Axis) (a : Axis) → i < n → i < mostAxes → a ≡ f (part (at + i * axisBytes) axisBytes s) → Filled f s at n i l → Filled f s at n (i + 1) (set l i a)
+  pub filled-more : (i : ℕ) (l : List Axis) (a : Axis) → i < n → i < mostAxes → a ≡ f (part (at + i * axisBytes) axisBytes s)
+      → Filled f s at n i l → Filled f s at n (i + 1) (set l i a)
   unfolding eachAxis
   filled-more i l a h k e v =
       let p : n - i ≡ suc (n - (i + 1)) = omega arith in
@@ -91,7 +89,8 @@ module _ (f : List ℕ → Axis) (s : List ℕ) (at n : ℕ) where
       }
 
   -- all done: the extent of the axes
-  pub filled-end : (i : ℕ) (l : List Axis) → i ≤ n → n ≤ i → Filled f s at n i l → _≡_ {A = Extent} (record { rank = n; axes = l }) (extentOf (eachAxis f n (drop at s)))
+  pub filled-end : (i : ℕ) (l : List Axis) → i ≤ n → n ≤ i → Filled f s at n i l
+      → _≡_ {A = Extent} (record { rank = n; axes = l }) (extentOf (eachAxis f n (drop at s)))
   unfolding eachAxis
   filled-end i l h k v =
       let p : i ≡ n = omega arith in

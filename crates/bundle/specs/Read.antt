@@ -8,14 +8,14 @@ use Rattle.paper.specs.declared.Form.{Form}
 use Rattle.paper.specs.declared.Head.{Head}
 use Rattle.paper.specs.declared.Reading.{Reading}
 use Rattle.paper.specs.declared.Refusal.{Refusal}
-use Rattle.paper.specs.Limits.{mostCells, typeBytes, axisBytes, cellBytes}
+use Rattle.paper.specs.Limits.{mostArrays, mostCells, typeBytes, axisBytes, cellBytes}
 use Rattle.paper.specs.Refusals.{Res}
 use Rattle.paper.specs.Axes.{cells, goodExtent, within, Array}
 use Rattle.paper.specs.Bundle.{arrayOf, readArray, readBundle}
 use Rattle.paper.specs.Answers.{shapeOf, unless, reading, readSaid}
 use Rattle.laws.specs.Judged.{firstBad, cellsFrom}
 use Rattle.laws.specs.Answers.{headOf, noHead, readingOf}
-use Rattle.bundle.specs.declared.One.{One}
+use Rattle.bundle.specs.declared.ArrayRead.{ArrayRead}
 
 -- the number of cells that a form has
 abbrev pub cellsIn : Form → ℕ
@@ -26,12 +26,12 @@ unfoldable pub arrayAt : List ℕ → Head → Array
 arrayAt bs h = record { shape = shapeOf (h .form); cells = cellsFrom (h .form .kind) (cellsIn (h .form)) (drop (h .at) bs) }
 
 -- an array and the bytes after it, or the refusal
-abbrev pub oneOf : List ℕ → One → Res (Array × List ℕ)
+abbrev pub oneOf : List ℕ → ArrayRead → Res (Array × List ℕ)
 oneOf bs r = unless (r .refusal) (arrayAt bs (r .head), drop (r .end) bs)
 
 -- the answer that is a refusal
-abbrev pub none : Refusal → One
-none x = record { refusal = x; head = noHead; end = 0 }
+abbrev pub noArray : Refusal → ArrayRead
+noArray x = record { refusal = x; head = noHead; end = 0 }
 
 -- what later code leans on: the extent is good and inside its maximum, its cells are counted, they lie in the bytes, and each is one
 pub record Fit (bs : List ℕ) (h : Head) : Type 0 where
@@ -44,7 +44,7 @@ pub record Fit (bs : List ℕ) (h : Head) : Type 0 where
 -- ---- one array
 
 -- array k of a form, its cells from byte `from` on
-pub record JudgedArray (bs : List ℕ) (from k : ℕ) (form : Form) (r : One) : Type 0 where
+pub record JudgedArray (bs : List ℕ) (from k : ℕ) (form : Form) (r : ArrayRead) : Type 0 where
   pub said : oneOf bs r ≡ arrayOf k (shapeOf form) (drop from bs)
   pub end : r .end ≤ length bs
   pub fit : r .refusal .number ≡ 0 → Fit bs (r .head)
@@ -61,7 +61,7 @@ pub record LiesAt (at end : ℕ) (h : Head) : Type 0 where
   pub ends : end ≡ h .at + cellsIn (h .form) * cellBytes
 
 -- array k, from byte `at` on
-pub record ReadArray (bs : List ℕ) (at k : ℕ) (r : One) : Type 0 where
+pub record ReadArray (bs : List ℕ) (at k : ℕ) (r : ArrayRead) : Type 0 where
   pub said : oneOf bs r ≡ readArray k (drop at bs)
   pub end : r .end ≤ length bs
   pub fit : r .refusal .number ≡ 0 → Fit bs (r .head)
@@ -84,4 +84,5 @@ pub record ReadAll (bs : List ℕ) (r : Reading) : Type 0 where
   pub tidy : r ≡ readingOf (readSaid r)
   pub arrays : readOf bs r ≡ readBundle bs
   pub room : r .count ≤ length (r .heads)
+  pub few : r .count ≤ mostArrays
   pub fit : AllFit bs (r .count) (r .heads)

@@ -4,10 +4,10 @@ use mathlib.Core.Path.{_≡_, refl, sym, ap, ap₂, subst, _∙_}
 use mathlib.Core.Bool.{Bool, true, false}
 use mathlib.Core.List.{List, [], _∷_, _++_, map, map-append, append-assoc, append-nil}
 use native.Mathlib.Omega.{arith}
-use borrow.Author.Tests.{eq-eqb, ne-eqb, eqb-true, eqb-false, leb-true}
-use lib.Dec.{eqb, leb}
+use borrow.Author.Tests.{eq-eqb, ne-eqb}
+use lib.Dec.{eqb}
 use lib.ListN.{length, getD, take, drop, set, replicate, length-drop, length-set, length-map, take-append-drop, List·getD-eq-default}
-use lib.Seq.{getD-set-same, getD-set-other, length-take-le}
+use lib.Seq.{length-take-le}
 use Rattle.paper.specs.declared.Head.{Head}
 use Rattle.paper.specs.declared.Reading.{Reading}
 use Rattle.paper.specs.declared.Refusal.{Refusal}
@@ -17,9 +17,9 @@ use Rattle.paper.specs.Numbers.{same}
 use Rattle.paper.specs.Axes.{Shape, Array}
 use Rattle.paper.specs.Bundle.{mark, markBytes, readArray, readArrays, readBundle}
 use Rattle.paper.specs.Answers.{shapeOf, lyingFrom, reading, readSaid}
-use Rattle.laws.specs.Tests.{and-right}
+use Rattle.laws.specs.Lists.{each-set}
 use Rattle.laws.specs.Answers.{unless-refused, unless-got, headOf, noHead, readingOf}
-use Rattle.bundle.specs.declared.One.{One}
+use Rattle.bundle.specs.declared.ArrayRead.{ArrayRead}
 use Rattle.bundle.specs.Front.{front-more, blank-more}
 use Rattle.bundle.specs.Read.{cellsIn, arrayAt, Fit, LiesAt, ReadArray, AllFit, readOf, ReadAll}
 
@@ -73,25 +73,12 @@ pub record Loop (s : List ℕ) (n i at : ℕ) (heads : List Head) : Type 0 where
   pub tidy : map headOf (map headSaid (take i heads)) ≡ take i heads
   pub blank : drop i heads ≡ replicate (mostArrays - i) noHead
 
-pub range-le : (m n : ℕ) → between 1 m n ≡ true → n ≤ m
-range-le m n e = leb-true n m (and-right (leb 1 n) (leb n m) e)
-
 pub loop-start : (s : List ℕ) (n : ℕ) → n ≤ mostArrays → markBytes + 1 ≤ length s → Loop s n 0 (markBytes + 1) (replicate mostArrays noHead)
 loop-start s n h l =
     let e : n - 0 ≡ n = omega arith in
     record { turns = omega arith; few = h; room = l; long = refl; arrays = rw e (before-none _); fit = λ j k. absurd (omega arith); lies = refl; tidy = refl; blank = refl }
 
-less : (j i : ℕ) → j < i + 1 → (j ≡ i → ⊥) → j < i
-less j i h n = omega arith
-
-more-fit : (bs : List ℕ) (i : ℕ) (l : List Head) (v : Head) → i < length l → AllFit bs i l → Fit bs v → AllFit bs (i + 1) (set l i v)
-more-fit bs i l v k f g j h = by (eqb j i) refl
-  where
-    by : (b : Bool) → eqb j i ≡ b → Fit bs (getD (set l i v) j noHead)
-    by true e = let q : i ≡ j = sym (eqb-true j i e) in subst (λ (m : ℕ). Fit bs (getD (set l i v) m noHead)) q (subst (Fit bs) (sym (getD-set-same l i v noHead k)) g)
-    by false e = let n = eqb-false j i e in subst (Fit bs) (sym (getD-set-other l i j v noHead n)) (f j (less j i h n))
-
-module _ {s : List ℕ} {n i at : ℕ} {l : List Head} (v : Loop s n i at l) (h : i < n) {r : One} (e : ReadArray s at (i + 1) r) where
+module _ {s : List ℕ} {n i at : ℕ} {l : List Head} (v : Loop s n i at l) (h : i < n) {r : ArrayRead} (e : ReadArray s at (i + 1) r) where
   -- one array more
   module _ (z : r .refusal .number ≡ 0) where
     within : i < length l
@@ -117,7 +104,7 @@ module _ {s : List ℕ} {n i at : ℕ} {l : List Head} (v : Loop s n i at l) (h 
           room = e .end;
           long = length-set l i (r .head) ∙ v .long;
           arrays = more ∙ v .arrays;
-          fit = more-fit s i l (r .head) within (v .fit) (e .fit z);
+          fit = each-set (λ j x. Fit s x) l i (r .head) noHead within (v .fit) (e .fit z);
           lies = subst (λ (hs : List Head). LiesFrom (markBytes + 1) hs (r .end)) (sym first) (lies-more (markBytes + 1) (take i l) at (r .end) (r .head) (v .lies) (e .lies z));
           tidy =
               subst (λ (hs : List Head). map headOf (map headSaid hs) ≡ hs) (sym first)
@@ -148,7 +135,8 @@ module _ {s : List ℕ} {n i at : ℕ} {l : List Head} (v : Loop s n i at l) (h 
 
 -- ---- an answer that is a refusal
 
-pub all-refused : (bs : List ℕ) (r : Reading) (x : Refusal) → r ≡ readingOf (refused x) → (x .number ≡ 0 → ⊥) → refused x ≡ readBundle bs → ReadAll bs r
+pub all-refused : (bs : List ℕ) (r : Reading) (x : Refusal) → r ≡ readingOf (refused x) → (x .number ≡ 0 → ⊥) → refused x ≡ readBundle bs
+    → ReadAll bs r
 unfolding reading
 all-refused bs r x e h q =
     let said : readSaid r ≡ refused x = ap readSaid e ∙ unless-refused x _ h in
@@ -157,6 +145,7 @@ all-refused bs r x e h q =
       tidy = e ∙ ap readingOf (sym said);
       arrays = ap (readOf bs) e ∙ unless-refused x _ h ∙ q;
       room = subst (λ (o : Reading). o .count ≤ length (o .heads)) (sym e) (omega arith);
+      few = subst (λ (o : Reading). o .count ≤ mostArrays) (sym e) (omega arith);
       fit = λ j k. absurd (omega (arith, ap (λ (o : Reading). o .count) e));
     }
 
@@ -171,7 +160,8 @@ module _ (s : List ℕ) where
   unfolding readBundle
   bundle-short h = rw (List·getD-eq-default s 0 {n = markBytes} (omega arith)) (by (same (take markBytes s) mark))
     where
-      by : (b : Bool) → _≡_ {A = Res (List Array)} (refused (refusal badBytes1 0 0)) (ensure b badBytes1 0 >> refused (refusal badBytes1 0 0))
+      by : (b : Bool) → _≡_ {A = Res (List Array)} (refused (refusal badBytes1 0 0))
+          (ensure b badBytes1 0 >> refused (refusal badBytes1 0 0))
       by true = refl
       by false = refl
 
@@ -215,5 +205,6 @@ module _ (s : List ℕ) where
               tidy = e ∙ (λ j. record { refusal = refusal 0 0 0; count = c j; heads = w j }) ∙ ap readingOf (sym (ap readSaid e));
               arrays = ap (readOf s) e ∙ q;
               room = subst (λ (o : Reading). o .count ≤ length (o .heads)) (sym e) (omega (arith, v .few, v .long));
+              few = subst (λ (o : Reading). o .count ≤ mostArrays) (sym e) (v .few);
               fit = subst (λ (o : Reading). AllFit s (o .count) (o .heads)) (sym e) (subst (λ (j : ℕ). AllFit s j l) d (v .fit));
             }

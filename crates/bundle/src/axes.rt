@@ -36,7 +36,8 @@ pub struct Bounds {
 // The extent and the maximum of n axes whose bytes begin at `at`.
 pub fn bounds_at(s: &[u8], at: usize, n: usize) -> Bounds
     requires { ⌜ (n ≤ mostAxes) × (at + n * axisBytes ≤ length (now s)) ⌝ }
-    ensures { λ r. ⌜ (r .extent ≡ extentOf (eachAxis axisOf n (drop at (now (s .entry))))) × (r .maximum ≡ extentOf (eachAxis maximumOf n (drop at (now (s .entry))))) ⌝ }
+    ensures { λ r. ⌜ (r .extent ≡ extentOf (eachAxis axisOf n (drop at (now (s .entry)))))
+        × (r .maximum ≡ extentOf (eachAxis maximumOf n (drop at (now (s .entry))))) ⌝ }
 {
     let blank = Axis {
         name: 0,

@@ -3,18 +3,16 @@
 ghost use mathlib.Core.Path.{_≡_};
 ghost use Prim.Native.Nat.{_≤_};
 ghost use lib.ListN.{length};
-ghost use Rattle.paper.specs.Refusals.{refused, refusal, between};
+ghost use Rattle.paper.specs.Refusals.{refused, refusal};
 ghost use Rattle.laws.specs.Answers.{noHead, readingOf};
-ghost use Rattle.bundle.specs.Read.{none, JudgedArray, ReadArray, ReadAll};
+ghost use Rattle.bundle.specs.Read.{noArray, JudgedArray, ReadArray, ReadAll};
 use axes::bounds_at;
 use extent::extent_cells;
 use judged::first_bad;
 use mark::byte_at;
 use mark::is_marked;
 use paper::AXIS_BYTES;
-use paper::Axis;
 use paper::CELL_BYTES;
-use paper::Extent;
 use paper::Form;
 use paper::Head;
 use paper::MARK_BYTES;
@@ -22,45 +20,28 @@ use paper::OPENING_BYTES;
 use paper::Reading;
 use paper::Refusal;
 use paper::TYPE_BYTES;
+use refusals::in_range;
+use refusals::none;
+use refusals::refuse_at;
+use shape::empty;
 
 pub mod axes;
 pub mod judged;
 pub mod mark;
 
-// One array read: its head, and the byte after it.
-pub struct One {
+// An array read: its head, and the byte after it.
+pub struct ArrayRead {
     pub refusal: Refusal,
     pub head: Head,
     pub end: usize,
 }
 
-fn no_refusal() -> Refusal
-    ensures { λ r. ⌜ r ≡ refusal 0 0 0 ⌝ }
-{
-    Refusal {
-        number: 0,
-        place: 0,
-        ordinality: 0,
-    }
-}
-
-fn no_extent() -> Extent
-    ensures { λ r. ⌜ r ≡ noHead .form .extent ⌝ }
-{
-    let blank = Axis {
-        name: 0,
-        lo: 0,
-        hi: 0,
-    };
-    let axes = [blank; paper::AXES];
-    Extent { rank: 0, axes }
-}
-
+// No array, with no cell.
 pub fn no_head() -> Head
     ensures { λ r. ⌜ r ≡ noHead ⌝ }
 {
-    let extent = no_extent();
-    let maximum = no_extent();
+    let extent = empty();
+    let maximum = empty();
     let form = Form {
         kind: 0,
         extent,
@@ -73,34 +54,20 @@ pub fn no_head() -> Head
     }
 }
 
-fn refusing(number: u8, place: u32, ordinality: u32) -> One
-    ensures { λ r. ⌜ r ≡ none (refusal number place ordinality) ⌝ }
+fn no_array(number: u8, place: u32, ordinality: u32) -> ArrayRead
+    ensures { λ r. ⌜ r ≡ noArray (refusal number place ordinality) ⌝ }
 {
-    let refusal = Refusal {
-        number,
-        place,
-        ordinality,
-    };
+    let refusal = refuse_at(number, place, ordinality);
     let head = no_head();
-    One {
+    ArrayRead {
         refusal,
         head,
         end: 0,
     }
 }
 
-// x is 1 to `most`.
-pub fn in_range(x: usize, most: usize) -> bool
-    ensures { λ r. ⌜ r ≡ between 1 most x ⌝ }
-{
-    if x < 1 {
-        return false;
-    }
-    x <= most
-}
-
 // Array k of this form, from the bytes after its axes: its extent, its cell bytes present, its cells.
-pub fn array_of(s: &[u8], from: usize, k: u32, form: Form) -> One
+pub fn array_of(s: &[u8], from: usize, k: u32, form: Form) -> ArrayRead
     requires { ⌜ from ≤ length (now s) ⌝ }
     ensures { λ r. ⌜ JudgedArray (now (s .entry)) from k form r ⌝ }
 {
@@ -109,22 +76,22 @@ pub fn array_of(s: &[u8], from: usize, k: u32, form: Form) -> One
     let kind = form.kind;
     let n = extent_cells(extent, maximum);
     if n == 0 {
-        return refusing(2, k, 0);
+        return no_array(2, k, 0);
     }
     if s.len() - from < n * CELL_BYTES {
-        return refusing(1, k, 0);
+        return no_array(1, k, 0);
     }
     let bad = first_bad(s, from, kind, n);
     if bad != 0 {
-        return refusing(3, k, bad as u32);
+        return no_array(3, k, bad as u32);
     }
-    let refusal = no_refusal();
+    let refusal = none();
     let head = Head {
         form,
         at: from,
         cells: n,
     };
-    One {
+    ArrayRead {
         refusal,
         head,
         end: from + n * CELL_BYTES,
@@ -132,20 +99,20 @@ pub fn array_of(s: &[u8], from: usize, k: u32, form: Form) -> One
 }
 
 // Array k from the byte `at` on: its type, axis count and axis bytes, and then the above.
-fn array_at(s: &[u8], at: usize, k: u32) -> One
+fn array_at(s: &[u8], at: usize, k: u32) -> ArrayRead
     requires { ⌜ at ≤ length (now s) ⌝ }
     ensures { λ r. ⌜ ReadArray (now (s .entry)) at k r ⌝ }
 {
     let kind = byte_at(s, at);
     let rank = byte_at(s, at + 1) as usize;
     if !in_range(kind as usize, paper::TYPES) {
-        return refusing(1, k, 0);
+        return no_array(1, k, 0);
     }
     if !in_range(rank, paper::AXES) {
-        return refusing(1, k, 0);
+        return no_array(1, k, 0);
     }
     if s.len() - at < TYPE_BYTES + rank * AXIS_BYTES {
-        return refusing(1, k, 0);
+        return no_array(1, k, 0);
     }
     let bounds = bounds_at(s, at + TYPE_BYTES, rank);
     let extent = bounds.extent;
@@ -158,7 +125,7 @@ fn array_at(s: &[u8], at: usize, k: u32) -> One
     array_of(s, at + TYPE_BYTES + rank * AXIS_BYTES, k, form)
 }
 
-fn refusing_all(refusal: Refusal) -> Reading
+fn no_reading(refusal: Refusal) -> Reading
     ensures { λ r. ⌜ r ≡ readingOf (refused refusal) ⌝ }
 {
     let head = no_head();
@@ -180,14 +147,14 @@ pub fn read(s: &[u8]) -> Reading
         ordinality: 0,
     };
     if s.len() < OPENING_BYTES {
-        return refusing_all(bad);
+        return no_reading(bad);
     }
     if !is_marked(s) {
-        return refusing_all(bad);
+        return no_reading(bad);
     }
     let n = byte_at(s, MARK_BYTES) as usize;
     if !in_range(n, paper::ARRAYS) {
-        return refusing_all(bad);
+        return no_reading(bad);
     }
     let head = no_head();
     let mut heads = [head; paper::ARRAYS];
@@ -197,7 +164,7 @@ pub fn read(s: &[u8]) -> Reading
         let one = array_at(s, at, (i + 1) as u32);
         let refusal = one.refusal;
         if refusal.number != 0 {
-            return refusing_all(refusal);
+            return no_reading(refusal);
         }
         let h = one.head;
         heads[i] = h;
@@ -205,9 +172,9 @@ pub fn read(s: &[u8]) -> Reading
         i += 1;
     }
     if at < s.len() {
-        return refusing_all(bad);
+        return no_reading(bad);
     }
-    let refusal = no_refusal();
+    let refusal = none();
     Reading {
         refusal,
         count: n,

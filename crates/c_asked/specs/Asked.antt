@@ -10,18 +10,25 @@ use Rattle.paper.specs.declared.Total.{Total}
 use Rattle.paper.specs.declared.Total.the-variants.{Filled, Trues, Smallest, Largest, Sum, Average}
 use Rattle.paper.specs.declared.Totalled.{Totalled}
 use Rattle.paper.specs.Limits.{mostArrays, mostAxes, limitBytes, axisBytes, typeBytes}
-use Rattle.paper.specs.Refusals.{Res, got, refused, _>>=_, _>>_, if_then_else_, refusal, present, unknown4}
+use Rattle.paper.specs.Refusals.{Res, got, refused, _>>=_, if_then_else_, refusal, unknown4}
 use Rattle.paper.specs.Numbers.{leOf, leBytes, signedAt, nth, over}
 use Rattle.paper.specs.Axes.{Shape, shaped}
-use Rattle.paper.specs.Bundle.{axisOf, maximumOf, eachAxis, readBundle, Packed, pack}
+use Rattle.paper.specs.Bundle.{axisOf, maximumOf, eachAxis, readBundle, After, pack}
 use Rattle.paper.specs.Stretch.{Side}
 use Rattle.paper.specs.Reference.{chosen}
 use Rattle.paper.specs.Totals.{totals}
-use Rattle.paper.specs.Answers.{reading}
+use Rattle.paper.specs.Answers.{axisCount}
 
--- how many pieces of a size n bytes are; none where they are no whole pieces or too many
+-- ---- pieces of one size
+
+-- how many of them n bytes are; none where they are no whole pieces or too many
 abbrev pub pieces : ℕ → ℕ → ℕ → ℕ
 pieces most size n = if eqb (n % size) 0 && leb n (most * size) then n / size else 0
+
+-- what n of them tell, one after the other
+unfoldable pub eachPiece : {A : Type 0} → (List ℕ → A) → ℕ → ℕ → List ℕ → List A
+eachPiece one size zero bs = []
+eachPiece one size (suc n) bs = one bs ∷ eachPiece one size n (drop size bs)
 
 -- ---- a bundle read
 
@@ -31,35 +38,24 @@ countOf bundle = do
   As ← readBundle bundle
   got (length As)
 
--- array k: its shape, and the byte at which its cells begin
-unfoldable pub arrayTold : List ℕ → ℕ → Res (Shape × ℕ)
-arrayTold bundle k = do
-  arrays ← reading bundle
-  present (nth arrays k) (refusal unknown4 k 0)
-
 -- ---- heads: type, axis count, and room for as many axes as an array may have
 
 abbrev pub headLength : ℕ
 headLength = typeBytes + mostAxes * axisBytes
 
--- an axis count over that room is read as none
-abbrev pub slots : ℕ → ℕ
-slots n = if leb n mostAxes then n else 0
-
 -- the shape that the first bytes describe
 unfoldable pub shapeIn : List ℕ → Shape
 shapeIn bs =
-    shaped (getD bs 0 0) (eachAxis axisOf (slots (getD bs 1 0)) (drop typeBytes bs))
-    (eachAxis maximumOf (slots (getD bs 1 0)) (drop typeBytes bs))
+    shaped (getD bs 0 0) (eachAxis axisOf (axisCount (getD bs 1 0)) (drop typeBytes bs))
+    (eachAxis maximumOf (axisCount (getD bs 1 0)) (drop typeBytes bs))
 
--- n heads, one after the other
-unfoldable pub headsIn : ℕ → List ℕ → List Shape
-headsIn zero bs = []
-headsIn (suc n) bs = shapeIn bs ∷ headsIn n (drop headLength bs)
+-- heads, one after the other; bytes of another length are no heads
+abbrev pub headsIn : List ℕ → List Shape
+headsIn bs = eachPiece shapeIn headLength (pieces mostArrays headLength (length bs)) bs
 
--- packing arrays of these heads: heads of another length are no heads
-abbrev pub packHeads : List ℕ → List ℕ → List ℕ → Packed
-packHeads heads cells out = pack (headsIn (pieces mostArrays headLength (length heads)) heads) cells out
+-- packing arrays of these heads
+abbrev pub packHeads : List ℕ → List ℕ → List ℕ → After
+packHeads heads cells out = pack (headsIn heads) cells out
 
 -- a side's shape: a head of another length has no type and no axis
 abbrev pub sideShape : List ℕ → Shape
@@ -71,14 +67,9 @@ sideIn head cells = record { type = sideShape head .type; axes = sideShape head 
 
 -- ---- a coordinate
 
--- n signed numbers, one after the other
-unfoldable pub signedIn : ℕ → List ℕ → List ℤ
-signedIn zero bs = []
-signedIn (suc n) bs = signedAt 0 bs ∷ signedIn n (drop limitBytes bs)
-
--- four bytes an axis; bytes of another length are a coordinate of no numbers
+-- four bytes an axis, a signed number; bytes of another length are a coordinate of no numbers
 abbrev pub coordinateIn : List ℕ → List ℤ
-coordinateIn bs = signedIn (pieces mostAxes limitBytes (length bs)) bs
+coordinateIn bs = eachPiece (signedAt 0) limitBytes (pieces mostAxes limitBytes (length bs)) bs
 
 -- ---- a walking place, in the first four bytes
 

@@ -1,29 +1,32 @@
 // What a caller asks, from bytes: the heads of arrays, the coordinate of a reference, the walking place, a total by its number.
 ghost use mathlib.Core.Path.{_≡_};
-ghost use Prim.Native.Nat.{_+_, _*_, _≤_, _<_};
+ghost use Prim.Native.Nat.{_+_, _≤_, _<_};
 ghost use lib.ListN.{length, drop};
 ghost use Rattle.paper.specs.Limits.{limitBytes};
-ghost use Rattle.paper.specs.Refusals.{refusal};
 ghost use Rattle.paper.specs.Numbers.{signedAt};
 ghost use Rattle.paper.specs.Reference.{reference, walk};
 ghost use Rattle.paper.specs.Answers.{referenceSaid, seenSaid, totalSaid};
 ghost use Rattle.laws.specs.Answers.{formOf};
-ghost use Rattle.c_asked.specs.Asked.{headLength, pieces, slots, shapeIn, sideShape, coordinateIn, placeIn, placeAfter, noTotal, totalAsked};
-ghost use Rattle.c_asked.specs.Heads.{HeadsIn};
+ghost use Rattle.c_asked.specs.Asked.{headLength, pieces, sideShape, coordinateIn, placeIn, placeAfter, noTotal, totalAsked};
+ghost use Rattle.c_asked.specs.Heads.{formIn, HeadsIn};
 use bundle::axes::bounds_at;
 use bundle::no_head;
 use cell::bytes::half;
 use cell::bytes::put4;
+use extent::axis_count;
+use paper::AXIS_BYTES;
 use paper::Form;
+use paper::LIMIT_BYTES;
 use paper::Ordinality;
 use paper::ReferenceAnswer;
-use paper::Refusal;
+use paper::TYPE_BYTES;
 use paper::Total;
 use paper::TotalAnswer;
 use paper::WalkAnswer;
 use refer::choose;
 use refer::refer;
 use refer::walk_step;
+use refusals::refuse;
 use totals::total;
 
 // The forms of the arrays to be packed, and how many.
@@ -32,10 +35,8 @@ pub struct Forms {
     pub forms: [Form; paper::ARRAYS],
 }
 
-// The bytes of a head and of a number.
-const HEAD: usize = 98;
-
-const NUMBER: usize = 4;
+// The bytes of a head.
+const HEAD: usize = TYPE_BYTES + paper::AXES * AXIS_BYTES;
 
 // How many pieces of `size` bytes n bytes are; none where they are no whole pieces or more than `most`.
 fn pieces_of(most: usize, size: usize, n: usize) -> usize
@@ -53,25 +54,14 @@ fn pieces_of(most: usize, size: usize, n: usize) -> usize
 
 // ---- heads
 
-// The axes that a head has room for; none where its count is over that.
-fn slots_of(n: u8) -> usize
-    ensures { λ r. ⌜ r ≡ slots n ⌝ }
-{
-    let count = n as usize;
-    if paper::AXES < count {
-        return 0;
-    }
-    count
-}
-
 // The form that the head at `at` describes.
 fn form_at(s: &[u8], at: usize) -> Form
     requires { ⌜ at + headLength ≤ length (now s) ⌝ }
-    ensures { λ r. ⌜ r ≡ formOf (shapeIn (drop at (now (s .entry)))) ⌝ }
+    ensures { λ r. ⌜ r ≡ formIn (drop at (now (s .entry))) ⌝ }
 {
     let kind = s[at];
-    let rank = slots_of(s[at + 1]);
-    let bounds = bounds_at(s, at + 2, rank);
+    let rank = axis_count(s[at + 1] as usize);
+    let bounds = bounds_at(s, at + TYPE_BYTES, rank);
     let extent = bounds.extent;
     let maximum = bounds.maximum;
     Form {
@@ -128,11 +118,11 @@ fn signed_at(s: &[u8], at: usize) -> i32
 pub fn refer_bytes(s: &[u8], k: u32, at: &[u8]) -> ReferenceAnswer
     ensures { λ r. ⌜ referenceSaid r ≡ reference (now (s .entry)) k (coordinateIn (now (at .entry))) ⌝ }
 {
-    let n = pieces_of(paper::AXES, NUMBER, at.len());
+    let n = pieces_of(paper::AXES, LIMIT_BYTES, at.len());
     let mut zs = [0i32; paper::AXES];
     let mut i: usize = 0;
     while i < n {
-        zs[i] = signed_at(at, i * NUMBER);
+        zs[i] = signed_at(at, i * LIMIT_BYTES);
         i += 1;
     }
     refer(s, k, &zs[0..n])
@@ -144,7 +134,7 @@ pub fn refer_bytes(s: &[u8], k: u32, at: &[u8]) -> ReferenceAnswer
 fn place_in(place: &[u8]) -> u32
     ensures { λ r. ⌜ r ≡ placeIn (now (place .entry)) ⌝ }
 {
-    if place.len() < NUMBER {
+    if place.len() < LIMIT_BYTES {
         return 0;
     }
     half(place, 0)
@@ -154,7 +144,7 @@ fn place_in(place: &[u8]) -> u32
 fn place_on(place: &mut [u8], o: u32)
     ensures { λ _. ⌜ now (place .exit) ≡ placeAfter o (now (place .entry)) ⌝ }
 {
-    if place.len() < NUMBER {
+    if place.len() < LIMIT_BYTES {
         return;
     }
     put4(place, 0, o);
@@ -182,11 +172,7 @@ fn no_total(s: &[u8], k: u32) -> TotalAnswer
     if refusal.number != 0 {
         return TotalAnswer::Refused(refusal);
     }
-    TotalAnswer::Refused(Refusal {
-        number: 4,
-        place: k,
-        ordinality: 0,
-    })
+    TotalAnswer::Refused(refuse(4, k))
 }
 
 // The total of array k that has the number `which`.

@@ -1,6 +1,6 @@
 -- Replies: what one tells, and what is in the buffer once it is given; four numbers or a cell as a reply; and an answer that a reply tells,
 -- given, is what is spoken.
-use Prim.Native.Nat.{ℕ, _+_, _^_, _≤_, _<_}
+use Prim.Native.Nat.{ℕ, _+_, _*_, _^_, _≤_, _<_}
 use mathlib.Core.Path.{_≡_, refl, sym, ap, subst, _∙_}
 use mathlib.Core.List.{List, [], _∷_, _++_}
 use native.Mathlib.Omega.{arith}
@@ -64,54 +64,60 @@ module _ (r : Reply) (s y : List ℕ) where
 
 -- ---- four numbers, put one after the other
 
+-- the bytes of the longest answer
+abbrev pub most : ℕ
+most = 4 * limitBytes
+
 abbrev pub four : (number long a b c d : ℕ) → Reply
 four number long a b c d = record { number = number; long = long; bytes = numbers (a ∷ b ∷ c ∷ d ∷ []) }
 
 pub four-put : (number long a b c d : ℕ) (w x y z : List ℕ)
-    → w ≡ take 0 (replicate 16 0) ++ leBytes limitBytes a ++ drop (0 + limitBytes) (replicate 16 0)
-    → x ≡ take 4 w ++ leBytes limitBytes b ++ drop (4 + limitBytes) w → y ≡ take 8 x ++ leBytes limitBytes c ++ drop (8 + limitBytes) x
-    → z ≡ take 12 y ++ leBytes limitBytes d ++ drop (12 + limitBytes) y
+    → w ≡ take 0 (replicate most 0) ++ leBytes limitBytes a ++ drop (0 + limitBytes) (replicate most 0)
+    → x ≡ take limitBytes w ++ leBytes limitBytes b ++ drop (2 * limitBytes) w
+    → y ≡ take (2 * limitBytes) x ++ leBytes limitBytes c ++ drop (3 * limitBytes) x
+    → z ≡ take (3 * limitBytes) y ++ leBytes limitBytes d ++ drop most y
     → _≡_ {A = Reply} (record { number = number; long = long; bytes = z }) (four number long a b c d)
 unfolding numbers leBytes
 four-put number long a b c d w x y z p q r t =
     let e : z ≡ numbers (a ∷ b ∷ c ∷ d ∷ []) = rw (t, r, q, p) refl in λ i. record { number = number; long = long; bytes = e i }
 
 module _ (number a b c d : ℕ) (r : Reply) where
-  first : (long : ℕ) (bs : List ℕ) → long ≤ 16 → take long (numbers (a ∷ b ∷ c ∷ d ∷ [])) ≡ bs → r ≡ four number long a b c d
+  first : (long : ℕ) (bs : List ℕ) → long ≤ most → take long (numbers (a ∷ b ∷ c ∷ d ∷ [])) ≡ bs → r ≡ four number long a b c d
       → Tells (record { number = number; said = bs }) r
   unfolding numbers leBytes
   first long bs h t e = subst (Tells (record { number = number; said = bs })) (sym e) (record { number = refl; short = h; bytes = t })
 
-  pub one-told : r ≡ four number 4 a b c d → Tells (record { number = number; said = numbers (a ∷ []) }) r
+  pub one-told : r ≡ four number limitBytes a b c d → Tells (record { number = number; said = numbers (a ∷ []) }) r
   unfolding numbers leBytes
-  one-told = first 4 (numbers (a ∷ [])) (omega arith) refl
+  one-told = first limitBytes (numbers (a ∷ [])) (omega arith) refl
 
-  pub two-told : r ≡ four number 8 a b c d → Tells (record { number = number; said = numbers (a ∷ b ∷ []) }) r
+  pub two-told : r ≡ four number (2 * limitBytes) a b c d → Tells (record { number = number; said = numbers (a ∷ b ∷ []) }) r
   unfolding numbers leBytes
-  two-told = first 8 (numbers (a ∷ b ∷ [])) (omega arith) refl
+  two-told = first (2 * limitBytes) (numbers (a ∷ b ∷ [])) (omega arith) refl
 
-  pub three-told : r ≡ four number 12 a b c d → Tells (record { number = number; said = numbers (a ∷ b ∷ c ∷ []) }) r
+  pub three-told : r ≡ four number (3 * limitBytes) a b c d → Tells (record { number = number; said = numbers (a ∷ b ∷ c ∷ []) }) r
   unfolding numbers leBytes
-  three-told = first 12 (numbers (a ∷ b ∷ c ∷ [])) (omega arith) refl
+  three-told = first (3 * limitBytes) (numbers (a ∷ b ∷ c ∷ [])) (omega arith) refl
 
-  pub four-told : r ≡ four number 16 a b c d → Tells (record { number = number; said = numbers (a ∷ b ∷ c ∷ d ∷ []) }) r
+  pub four-told : r ≡ four number most a b c d → Tells (record { number = number; said = numbers (a ∷ b ∷ c ∷ d ∷ []) }) r
   unfolding numbers leBytes
-  four-told = first 16 (numbers (a ∷ b ∷ c ∷ d ∷ [])) (omega arith) refl
+  four-told = first most (numbers (a ∷ b ∷ c ∷ d ∷ [])) (omega arith) refl
 
 -- ---- a cell
 
 module _ (c : Cell) (w : List ℕ) where
-  pub cell-told : w ≡ take 0 (replicate 16 0) ++ encode c ++ drop (0 + cellBytes) (replicate 16 0)
-      → Tells (record { number = 0; said = encode c }) (record { number = 0; long = 9; bytes = w })
+  pub cell-told : w ≡ take 0 (replicate most 0) ++ encode c ++ drop (0 + cellBytes) (replicate most 0)
+      → Tells (record { number = 0; said = encode c }) (record { number = 0; long = cellBytes; bytes = w })
   unfolding encode leBytes
-  cell-told e = record { number = refl; short = rw e (omega arith); bytes = ap (take 9) e }
+  cell-told e = record { number = refl; short = rw e (omega arith); bytes = ap (take cellBytes) e }
 
-  pub held-told : w ≡ take 1 (set (replicate 16 0) 0 1) ++ encode c ++ drop (1 + cellBytes) (set (replicate 16 0) 0 1)
-      → Tells (record { number = 0; said = 1 ∷ encode c }) (record { number = 0; long = 10; bytes = w })
+  pub held-told : w ≡ take 1 (set (replicate most 0) 0 1) ++ encode c ++ drop (1 + cellBytes) (set (replicate most 0) 0 1)
+      → Tells (record { number = 0; said = 1 ∷ encode c }) (record { number = 0; long = 1 + cellBytes; bytes = w })
   unfolding encode leBytes
-  held-told e = record { number = refl; short = rw e (omega arith); bytes = ap (take 10) e }
+  held-told e = record { number = refl; short = rw e (omega arith); bytes = ap (take (1 + cellBytes)) e }
 
-pub end-told : Tells (record { number = 0; said = replicate 10 0 }) (record { number = 0; long = 10; bytes = replicate 16 0 })
+pub end-told : Tells (record { number = 0; said = replicate (1 + cellBytes) 0 })
+    (record { number = 0; long = 1 + cellBytes; bytes = replicate most 0 })
 end-told = record { number = refl; short = omega arith; bytes = refl }
 
 -- the INT cell of a count

@@ -5,21 +5,21 @@ ghost use Prim.Native.Nat.{_≤_};
 ghost use lib.ListN.{length};
 ghost use Rattle.paper.specs.Refusals.{got};
 ghost use Rattle.paper.specs.Cells.{encode};
-ghost use Rattle.paper.specs.Answers.{packSaid, referenceSaid, seenSaid, totalSaid, runSaid, pageSaid, stretchSaid, jsonSaid};
+ghost use Rattle.paper.specs.Answers.{numberSaid, referenceSaid, seenSaid, totalSaid, pageSaid, stretchSaid};
 ghost use Rattle.c_told.specs.Said.{answered, refusing};
 ghost use Rattle.c_told.specs.Given.{numberBytes, seenBytes, totalBytes, listedBytes, partBytes};
 ghost use Rattle.c_told.specs.Replies.{Tells, given, four};
 use cell::bytes::copy_bytes;
 use cell::bytes::put4;
 use cell::bytes::write_cell;
+use paper::CELL_BYTES;
 use paper::Cell;
-use paper::JsonAnswer;
-use paper::PackAnswer;
+use paper::LIMIT_BYTES;
+use paper::NumberAnswer;
 use paper::PageAnswer;
 use paper::Part;
 use paper::ReferenceAnswer;
 use paper::Refusal;
-use paper::RunAnswer;
 use paper::Seen;
 use paper::StretchAnswer;
 use paper::TotalAnswer;
@@ -27,7 +27,7 @@ use paper::Totalled;
 use paper::WalkAnswer;
 
 // The bytes of the longest answer: four numbers.
-pub const MOST: usize = 16;
+pub const MOST: usize = 4 * LIMIT_BYTES;
 
 // What a call tells: the number of its refusal, 0 for none, and the first `long` of these bytes.
 pub struct Reply {
@@ -36,12 +36,8 @@ pub struct Reply {
     pub bytes: [u8; MOST],
 }
 
-// The bytes of a number, of a cell, and of a cell that a walk has seen.
-const NUMBER: usize = 4;
-
-const CELL: usize = 9;
-
-const SEEN: usize = 10;
+// The bytes of a cell that a walk has seen.
+const SEEN: usize = 1 + CELL_BYTES;
 
 // A reply in the buffer that is lent, as many of its bytes as there is room for; answers its number.
 pub fn give(said: &mut [u8], reply: Reply) -> u32
@@ -67,9 +63,9 @@ pub fn of_numbers(number: u32, long: usize, a: u32, b: u32, c: u32, d: u32) -> R
 {
     let mut bytes = [0u8; MOST];
     put4(&mut bytes, 0, a);
-    put4(&mut bytes, NUMBER, b);
-    put4(&mut bytes, 2 * NUMBER, c);
-    put4(&mut bytes, 3 * NUMBER, d);
+    put4(&mut bytes, LIMIT_BYTES, b);
+    put4(&mut bytes, 2 * LIMIT_BYTES, c);
+    put4(&mut bytes, 3 * LIMIT_BYTES, d);
     Reply {
         number,
         long,
@@ -83,40 +79,23 @@ pub fn refused(refusal: Refusal) -> Reply
 {
     let number = refusal.number as u32;
     let place = refusal.place;
-    of_numbers(number, 2 * NUMBER, place, refusal.ordinality, 0, 0)
+    of_numbers(number, 2 * LIMIT_BYTES, place, refusal.ordinality, 0, 0)
 }
 
 // A count or a length.
 pub fn of_number(n: u32) -> Reply
     ensures { λ r. ⌜ Tells (answered numberBytes (got n)) r ⌝ }
 {
-    of_numbers(0, NUMBER, n, 0, 0, 0)
+    of_numbers(0, LIMIT_BYTES, n, 0, 0, 0)
 }
 
-pub fn of_pack(answer: PackAnswer) -> Reply
-    ensures { λ r. ⌜ Tells (answered numberBytes (packSaid answer)) r ⌝ }
+// Of packing, of writing JSON, of a run.
+pub fn of_counted(answer: NumberAnswer) -> Reply
+    ensures { λ r. ⌜ Tells (answered numberBytes (numberSaid answer)) r ⌝ }
 {
     match answer {
-        PackAnswer::Got(long) => of_number(long),
-        PackAnswer::Refused(refusal) => refused(refusal),
-    }
-}
-
-pub fn of_json(answer: JsonAnswer) -> Reply
-    ensures { λ r. ⌜ Tells (answered numberBytes (jsonSaid answer)) r ⌝ }
-{
-    match answer {
-        JsonAnswer::Got(long) => of_number(long),
-        JsonAnswer::Refused(refusal) => refused(refusal),
-    }
-}
-
-pub fn of_run(answer: RunAnswer) -> Reply
-    ensures { λ r. ⌜ Tells (answered numberBytes (runSaid answer)) r ⌝ }
-{
-    match answer {
-        RunAnswer::Got(cells) => of_number(cells),
-        RunAnswer::Refused(refusal) => refused(refusal),
+        NumberAnswer::Got(n) => of_number(n),
+        NumberAnswer::Refused(refusal) => refused(refusal),
     }
 }
 
@@ -127,7 +106,7 @@ pub fn of_page(answer: PageAnswer) -> Reply
     match answer {
         PageAnswer::Got(listed) => {
             let next = listed.next;
-            of_numbers(0, 2 * NUMBER, listed.written, next.0, 0, 0)
+            of_numbers(0, 2 * LIMIT_BYTES, listed.written, next.0, 0, 0)
         }
         PageAnswer::Refused(refusal) => refused(refusal),
     }
@@ -139,8 +118,8 @@ pub fn of_stretch(answer: StretchAnswer) -> Reply
 {
     match answer {
         StretchAnswer::Got(part) => match part {
-            Part::Left(from, to) => of_numbers(0, 3 * NUMBER, 1, from, to, 0),
-            Part::Right(from, to) => of_numbers(0, 3 * NUMBER, 2, from, to, 0),
+            Part::Left(from, to) => of_numbers(0, 3 * LIMIT_BYTES, 1, from, to, 0),
+            Part::Right(from, to) => of_numbers(0, 3 * LIMIT_BYTES, 2, from, to, 0),
         },
         StretchAnswer::Refused(refusal) => refused(refusal),
     }
@@ -155,7 +134,7 @@ fn of_cell(cell: Cell) -> Reply
     write_cell(&mut bytes, 0, cell);
     Reply {
         number: 0,
-        long: CELL,
+        long: CELL_BYTES,
         bytes,
     }
 }

@@ -31,7 +31,8 @@ pub fn mean_none() -> Mean
 
 // One cell more, whose number is x: what is left to do with it is what is left to do after it.
 pub fn mean_with(m: Mean, x: f64) -> Added
-    ensures { λ r. ⌜ ((made : Running → Float) (k : ℕ) (c : Numbered) (cs : List Numbered) → float (c .cell) ≡ x → m .count < mostCells → onward made k m (c ∷ cs) ≡ after made k (c .at) r cs) × (counted r ≤ m .count + 1) ⌝ }
+    ensures { λ r. ⌜ ((made : Running → Float) (k : ℕ) (c : Numbered) (cs : List Numbered) → float (c .cell) ≡ x → m .count < mostCells
+        → onward made k m (c ∷ cs) ≡ after made k (c .at) r cs) × (counted r ≤ m .count + 1) ⌝ }
 {
     if m.count == 0 {
         return Added::On(Mean { sum: x, count: 1 });

@@ -52,7 +52,8 @@ pub fn exact_none() -> Exact
 
 // One cell more, whose number is z.
 pub fn exact_with(t: Exact, z: i64) -> Exact
-    ensures { λ r. ⌜ ((cs : List Numbered) (c : Numbered) → Sums t cs → int (c .cell) ≡ z → length cs < mostCells → Sums r (cs ++ (c ∷ []))) ⌝ }
+    ensures { λ r. ⌜ ((cs : List Numbered) (c : Numbered) → Sums t cs → int (c .cell) ≡ z → length cs < mostCells
+        → Sums r (cs ++ (c ∷ []))) ⌝ }
 {
     let x = distance(z);
     Exact {

@@ -25,6 +25,7 @@ use operators::operators::unknownness;
 use operators::types::takes_pair;
 use operators::types::takes_single;
 use paper::Answer;
+use paper::BOOLEAN;
 use paper::Cell;
 use paper::PairOp;
 use paper::SingleOp;
@@ -78,7 +79,7 @@ pub fn pair_code(kind: u8, op: PairOp) -> u8
     if kind == 0 {
         return 0;
     }
-    if 3 < kind {
+    if BOOLEAN < kind {
         return 0;
     }
     if takes_pair(op, kind) {
@@ -94,7 +95,7 @@ pub fn single_code(kind: u8, op: SingleOp) -> u8
     if kind == 0 {
         return 0;
     }
-    if 3 < kind {
+    if BOOLEAN < kind {
         return 0;
     }
     if takes_single(op, kind) {

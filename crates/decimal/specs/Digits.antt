@@ -42,7 +42,8 @@ enough : (k x : ℕ) → x < 10 ^ suc k → digits k x ≡ digits (suc k) x
 unfolding digits
 enough zero x h = let e : ltb x 10 ≡ true = lt-ltb x 10 (ten x (10 ^ 1) h (pow-suc 10 0)) in rw e
 enough (suc k) x h =
-    ap (λ (l : List ℕ). (if ltb x 10 then [] else l) ++ (digit x ∷ [])) (enough k (x / 10) (tenth x (10 ^ suc k) (10 ^ suc (suc k)) h (pow-suc 10 (suc k))))
+    ap (λ (l : List ℕ). (if ltb x 10 then [] else l) ++ (digit x ∷ []))
+    (enough k (x / 10) (tenth x (10 ^ suc k) (10 ^ suc (suc k)) h (pow-suc 10 (suc k))))
 
 few : (x : ℕ) → x < 2 ^ 64 → x / 10 < 10 ^ 19
 few x h = omega arith
@@ -85,7 +86,8 @@ pub decimal-below : (d : ℕ) → d < reach → decimal (position d) ≡ text "-
 unfolding decimal
 decimal-below d h =
     let e : suc (reach - d - 1) ≡ reach - d = omega arith in
-    ap decimal (parts-eq (position d) (negsuc (reach - d - 1)) (omega (arith, position-parts d))) ∙ ap (λ (n : ℕ). text "-" ++ digits 19 n) e
+    ap decimal (parts-eq (position d) (negsuc (reach - d - 1)) (omega (arith, position-parts d)))
+    ∙ ap (λ (n : ℕ). text "-" ++ digits 19 n) e
 
 pub decimal-from : (d : ℕ) → reach ≤ d → decimal (position d) ≡ digits 19 (d - reach)
 unfolding decimal

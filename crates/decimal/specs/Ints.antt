@@ -42,11 +42,13 @@ module _ (z : ℤ) (m : ℕ) (e : m ≡ natAbs z) where
   decimal-long = ap length decimal-sign ∙ length-append (sign z) (digits 19 m)
 
 -- the digits after `-`, or where there is no sign over it: k bytes from it on
-pub signed-wrote : (z : ℤ) (m k : ℕ) → m ≡ natAbs z → k ≡ length (sign z) → (d : List ℕ) (at r : ℕ) (y : List ℕ) → at + length (decimal z) ≤ length d
+pub signed-wrote : (z : ℤ) (m k : ℕ) → m ≡ natAbs z → k ≡ length (sign z) → (d : List ℕ) (at r : ℕ) (y : List ℕ)
+    → at + length (decimal z) ≤ length d
     → Wrote (set d at (code "-")) (at + k) (digits 19 m) r y → Wrote d at (decimal z) r y
 signed-wrote (pos x) m k e f d at r y h p =
     let n : at + k ≡ at = omega arith in
-    wrote-as d at (digits 19 m) (decimal (pos x)) r y (decimal-sign (pos x) m e) (wrote-over d at (code "-") (digits 19 m) r y (digits-some 19 m) (rw n at p))
+    wrote-as d at (digits 19 m) (decimal (pos x)) r y (decimal-sign (pos x) m e)
+    (wrote-over d at (code "-") (digits 19 m) r y (digits-some 19 m) (rw n at p))
 signed-wrote (negsuc x) m k e f d at r y h p =
     let l = decimal-long (negsuc x) m e in
     wrote-both d at (text "-") (digits 19 m) (decimal (negsuc x)) (at + k) r (set d at (code "-")) y (decimal-sign (negsuc x) m e) h

@@ -82,7 +82,8 @@ pub digits-pair : (x : ℕ) → 100 ≤ x → x < 2 ^ 64 → digits 19 x ≡ dig
 digits-pair x h l =
     let e : x / 10 / 10 ≡ x / 100 = omega arith in
     let f = digits-more (x / 10) (omega arith) (omega arith) ∙ ap (λ (n : ℕ). digits 19 n ++ (digit (x / 10) ∷ [])) e in
-    digits-more x (omega arith) l ∙ ap (λ (r : List ℕ). r ++ (digit x ∷ [])) f ∙ append-assoc (digits 19 (x / 100)) (digit (x / 10) ∷ []) (digit x ∷ [])
+    digits-more x (omega arith) l ∙ ap (λ (r : List ℕ). r ++ (digit x ∷ [])) f
+    ∙ append-assoc (digits 19 (x / 100)) (digit (x / 10) ∷ []) (digit x ∷ [])
 
 pub digits-fours : (x : ℕ) → 10000 ≤ x → x < 2 ^ 64 → digits 19 x ≡ digits 19 (x / 10000) ++ four x
 digits-fours x h l =
@@ -94,15 +95,18 @@ pub digits-eights : (x : ℕ) → 100000000 ≤ x → x < 2 ^ 64 → digits 19 x
 digits-eights x h l =
     let e : x / 10000 / 10000 ≡ x / 100000000 = omega arith in
     let f = digits-fours (x / 10000) (omega arith) (omega arith) ∙ ap (λ (n : ℕ). digits 19 n ++ four (x / 10000)) e in
-    digits-fours x (omega arith) l ∙ ap (λ (r : List ℕ). r ++ four x) f ∙ append-assoc (digits 19 (x / 100000000)) (four (x / 10000)) (four x)
+    digits-fours x (omega arith) l ∙ ap (λ (r : List ℕ). r ++ four x) f
+    ∙ append-assoc (digits 19 (x / 100000000)) (four (x / 10000)) (four x)
 
-pub digits-twelves : (x : ℕ) → 1000000000000 ≤ x → x < 2 ^ 64 → digits 19 x ≡ digits 19 (x / 1000000000000) ++ four (x / 100000000) ++ eight x
+pub digits-twelves : (x : ℕ) → 1000000000000 ≤ x → x < 2 ^ 64
+    → digits 19 x ≡ digits 19 (x / 1000000000000) ++ four (x / 100000000) ++ eight x
 digits-twelves x h l =
     let e : x / 100000000 / 10000 ≡ x / 1000000000000 = omega arith in
     let f = digits-fours (x / 100000000) (omega arith) (omega arith) ∙ ap (λ (n : ℕ). digits 19 n ++ four (x / 100000000)) e in
     digits-eights x (omega arith) l ∙ ap (λ (r : List ℕ). r ++ eight x) f
 
-pub digits-sixteens : (x : ℕ) → 10000000000000000 ≤ x → x < 2 ^ 64 → digits 19 x ≡ digits 19 (x / 10000000000000000) ++ eight (x / 100000000) ++ eight x
+pub digits-sixteens : (x : ℕ) → 10000000000000000 ≤ x → x < 2 ^ 64
+    → digits 19 x ≡ digits 19 (x / 10000000000000000) ++ eight (x / 100000000) ++ eight x
 digits-sixteens x h l =
     let e : x / 100000000 / 100000000 ≡ x / 10000000000000000 = omega arith in
     let f = digits-eights (x / 100000000) (omega arith) (omega arith) ∙ ap (λ (n : ℕ). digits 19 n ++ eight (x / 100000000)) e in
@@ -122,9 +126,19 @@ long-eights x h l = omega (arith, ap length (digits-eights x h l), length-append
 pub long-twelves : (x : ℕ) → 1000000000000 ≤ x → x < 2 ^ 64 → length (digits 19 x) ≡ 12 + length (digits 19 (x / 1000000000000))
 long-twelves x h l =
     let e : x / 100000000 / 10000 ≡ x / 1000000000000 = omega arith in
-    omega (arith, long-eights x (omega arith) l, long-fours (x / 100000000) (omega arith) (omega arith), ap (λ (n : ℕ). length (digits 19 n)) e)
+    omega (
+      arith,
+      long-eights x (omega arith) l,
+      long-fours (x / 100000000) (omega arith) (omega arith),
+      ap (λ (n : ℕ). length (digits 19 n)) e,
+    )
 
 pub long-sixteens : (x : ℕ) → 10000000000000000 ≤ x → x < 2 ^ 64 → length (digits 19 x) ≡ 16 + length (digits 19 (x / 10000000000000000))
 long-sixteens x h l =
     let e : x / 100000000 / 100000000 ≡ x / 10000000000000000 = omega arith in
-    omega (arith, long-eights x (omega arith) l, long-eights (x / 100000000) (omega arith) (omega arith), ap (λ (n : ℕ). length (digits 19 n)) e)
+    omega (
+      arith,
+      long-eights x (omega arith) l,
+      long-eights (x / 100000000) (omega arith) (omega arith),
+      ap (λ (n : ℕ). length (digits 19 n)) e,
+    )

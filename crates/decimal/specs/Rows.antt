@@ -44,7 +44,8 @@ mostRow n = (n + 1) * mostSpaced + 1
 -- ---- the loop over the positions
 
 -- a position, then the rest
-rest-on : (bs : List ℕ) (j k : ℕ) (d : List ℕ) (end m : ℕ) (y : List ℕ) (r : ℕ) (u : List ℕ) → end + mostSpaced ≤ length d → Wrote d end (number (position (positionAt j bs))) m y
+rest-on : (bs : List ℕ) (j k : ℕ) (d : List ℕ) (end m : ℕ) (y : List ℕ) (r : ℕ) (u : List ℕ) → end + mostSpaced ≤ length d
+    → Wrote d end (number (position (positionAt j bs))) m y
     → Wrote y m (restAt bs (j + limitBytes) k) r u → Wrote d end (restAt bs j (suc k)) r u
 unfolding positionsFrom
 rest-on bs j k d end m y r u h p q = number-on d end (position (positionAt j bs)) _ (text "\n") m y r u h p q
@@ -60,21 +61,23 @@ pub record Lining (bs : List ℕ) (j n : ℕ) (d₀ : List ℕ) (at : ℕ) (d : 
   pub room : end + (n - i) * mostSpaced + 1 ≤ length d
   pub left : (r : ℕ) (y : List ℕ) → Wrote d end (restAt bs (j + i * limitBytes) (n - i)) r y → Wrote d₀ at (restAt bs j n) r y
 
-module _ (bs : List ℕ) (j n : ℕ) (d₀ : List ℕ) (at : ℕ) where
+module _ {bs : List ℕ} {j n : ℕ} {d₀ : List ℕ} {at : ℕ} where
   pub line-begins : at + n * mostSpaced + 1 ≤ length d₀ → Lining bs j n d₀ at d₀ at 0
   line-begins h =
       let e : j + 0 * limitBytes ≡ j = omega arith in
       let f : n - 0 ≡ n = omega arith in
       record { turns = omega arith; long = refl; room = omega arith; left = λ r y w. (rw (e, f) at w) }
 
-  module _ (d : List ℕ) (end i : ℕ) (v : Lining bs j n d₀ at d end i) where
-    pub line-more : i < n → (p m : ℕ) (y : List ℕ) → p ≡ positionAt (j + i * limitBytes) bs → Wrote d end (number (position p)) m y → Lining bs j n d₀ at y m (i + 1)
-    line-more h p m y e w =
+  module _ {d : List ℕ} {end i : ℕ} (v : Lining bs j n d₀ at d end i) where
+    pub line-more : i < n → {p m : ℕ} {y : List ℕ} → p ≡ positionAt (j + i * limitBytes) bs → Wrote d end (number (position p)) m y
+        → Lining bs j n d₀ at y m (i + 1)
+    line-more h {p} {m} {y} e w =
         let k : ℕ = j + i * limitBytes in
         let g : end + mostSpaced ≤ length d = omega (arith, v .room) in
         let s : n - i ≡ suc (n - (i + 1)) = omega arith in
         let t : j + i * limitBytes + limitBytes ≡ j + (i + 1) * limitBytes = omega arith in
-        let x = wrote-as d end (number (position p)) (number (position (positionAt k bs))) m y (ap (λ (q : ℕ). number (position q)) (sym e)) w in
+        let f = ap (λ (q : ℕ). number (position q)) (sym e) in
+        let x = wrote-as d end (number (position p)) (number (position (positionAt k bs))) m y f w in
         let l = number-long d end (position p) m y w g in
         record {
           turns = omega arith;
@@ -88,11 +91,14 @@ module _ (bs : List ℕ) (j n : ℕ) (d₀ : List ℕ) (at : ℕ) where
 
 -- the ordinality, then the rest
 module _ (bs : List ℕ) (from n : ℕ) (d₀ : List ℕ) (at m : ℕ) (d₁ : List ℕ) (r : ℕ) (y : List ℕ) (h : at + mostRow n ≤ length d₀) where
-  pub line-wrote : (o : ℕ) → o ≡ leOf (part from limitBytes bs) → Wrote d₀ at (digits 19 o) m d₁ → Wrote d₁ m (restAt bs (from + limitBytes) n) r y → Wrote d₀ at (lineAt bs from n) r y
+  pub line-wrote : (o : ℕ) → o ≡ leOf (part from limitBytes bs) → Wrote d₀ at (digits 19 o) m d₁
+      → Wrote d₁ m (restAt bs (from + limitBytes) n) r y → Wrote d₀ at (lineAt bs from n) r y
   unfolding decimal
   line-wrote o e p q =
-      let f : lineAt bs from n ≡ digits 19 o ++ restAt bs (from + limitBytes) n = ap (λ (k : ℕ). digits 19 k ++ restAt bs (from + limitBytes) n) (sym e) in
-      wrote-as d₀ at _ (lineAt bs from n) r y f (wrote-then d₀ at (digits 19 o) m d₁ (restAt bs (from + limitBytes) n) r y (omega (arith, digits-most 19 o)) p q)
+      let f : lineAt bs from n ≡ digits 19 o ++ restAt bs (from + limitBytes) n =
+      ap (λ (k : ℕ). digits 19 k ++ restAt bs (from + limitBytes) n) (sym e) in
+      wrote-as d₀ at _ (lineAt bs from n) r y f
+      (wrote-then d₀ at (digits 19 o) m d₁ (restAt bs (from + limitBytes) n) r y (omega (arith, digits-most 19 o)) p q)
 
 -- ---- bytes that are a row's
 
@@ -102,7 +108,8 @@ unfolding leBytes
 position-long d = refl
 
 -- positions of an extent, read where their bytes stand
-positions-read : (E : List Axis) (p bs : List ℕ) (i : ℕ) (z : List ℕ) → Sound E → Inside E p → drop i bs ≡ concat (map positionBytes p) ++ z → positionsFrom (length E) i bs ≡ p
+positions-read : (E : List Axis) (p bs : List ℕ) (i : ℕ) (z : List ℕ) → Sound E → Inside E p
+    → drop i bs ≡ concat (map positionBytes p) ++ z → positionsFrom (length E) i bs ≡ p
 unfolding positionsFrom concat
 positions-read [] [] bs i z s h e = refl
 positions-read [] (x ∷ p) bs i z s h e = absurd h
@@ -116,7 +123,8 @@ positions-read (a ∷ E) (x ∷ p) bs i z s h e =
     (positions-read E p bs (i + limitBytes) z (s .2) (h .2) d)
 
 -- the line of a row of an array is the row's text
-pub row-line : (s : Shape) (o : ℕ) (bs : List ℕ) (from : ℕ) (z : List ℕ) → Sound (s .axes) → 1 ≤ o → o ≤ cells (s .axes) → o < 2 ^ 32 → drop from bs ≡ row s o ++ z
+pub row-line : (s : Shape) (o : ℕ) (bs : List ℕ) (from : ℕ) (z : List ℕ) → Sound (s .axes) → 1 ≤ o → o ≤ cells (s .axes) → o < 2 ^ 32
+    → drop from bs ≡ row s o ++ z
     → lineAt bs from (length (s .axes)) ≡ rowText s o
 unfolding row leBytes
 row-line s o bs from z g l h k e =

@@ -13,7 +13,8 @@ abbrev pub Wrote : List ℕ → ℕ → List ℕ → ℕ → List ℕ → Type 0
 Wrote d at x r y = (r ≡ at + length x) × (y ≡ put d at x)
 
 -- x, and then w
-pub wrote-then : (d : List ℕ) (at : ℕ) (x : List ℕ) (m : ℕ) (y w : List ℕ) (r : ℕ) (z : List ℕ) → at + length x ≤ length d → Wrote d at x m y → Wrote y m w r z
+pub wrote-then : (d : List ℕ) (at : ℕ) (x : List ℕ) (m : ℕ) (y w : List ℕ) (r : ℕ) (z : List ℕ) → at + length x ≤ length d
+    → Wrote d at x m y → Wrote y m w r z
     → Wrote d at (x ++ w) r z
 wrote-then d at x m y w r z h p q = (omega (arith, length-append x w, p .0, q .0), after d at x w y z m h (p .0) (p .1) (q .1))
 
@@ -22,19 +23,26 @@ pub wrote-as : (d : List ℕ) (at : ℕ) (x w : List ℕ) (r : ℕ) (y : List �
 wrote-as d at x w r y e p = subst (λ (l : List ℕ). Wrote d at l r y) (sym e) p
 
 -- a text in two parts, where there is room for all of it
-pub wrote-both : (d : List ℕ) (at : ℕ) (x w t : List ℕ) (m r : ℕ) (y z : List ℕ) → t ≡ x ++ w → at + length t ≤ length d → Wrote d at x m y → Wrote y m w r z → Wrote d at t r z
-wrote-both d at x w t m r y z e h p q = wrote-as d at (x ++ w) t r z e (wrote-then d at x m y w r z (omega (arith, ap length e, length-append x w)) p q)
+pub wrote-both : (d : List ℕ) (at : ℕ) (x w t : List ℕ) (m r : ℕ) (y z : List ℕ) → t ≡ x ++ w → at + length t ≤ length d → Wrote d at x m y
+    → Wrote y m w r z → Wrote d at t r z
+wrote-both d at x w t m r y z e h p q =
+    wrote-as d at (x ++ w) t r z e (wrote-then d at x m y w r z (omega (arith, ap length e, length-append x w)) p q)
 
 -- in three
-pub wrote-three : (d : List ℕ) (at : ℕ) (x v w t : List ℕ) (m n r : ℕ) (y u z : List ℕ) → t ≡ x ++ v ++ w → at + length t ≤ length d → Wrote d at x m y → Wrote y m v n u
+pub wrote-three : (d : List ℕ) (at : ℕ) (x v w t : List ℕ) (m n r : ℕ) (y u z : List ℕ) → t ≡ x ++ v ++ w → at + length t ≤ length d
+    → Wrote d at x m y → Wrote y m v n u
     → Wrote u n w r z → Wrote d at t r z
 wrote-three d at x v w t m n r y u z e h p q s =
-    wrote-both d at (x ++ v) w t n r u z e h (wrote-then d at x m y v n u (omega (arith, ap length e, length-append (x ++ v) w, length-append x v)) p q) s
+    wrote-both d at (x ++ v) w t n r u z e h
+    (wrote-then d at x m y v n u (omega (arith, ap length e, length-append (x ++ v) w, length-append x v)) p q) s
 
 -- over a byte that was stored where the text begins
 pub wrote-over : (d : List ℕ) (at b : ℕ) (x : List ℕ) (r : ℕ) (y : List ℕ) → 1 ≤ length x → Wrote (set d at b) at x r y → Wrote d at x r y
-wrote-over d at b x r y h p =
-    (p .0, p .1 ∙ ap₂ (λ (u v : List ℕ). u ++ x ++ v) (take-set-le at d at b (omega arith)) (drop-set-lt (at + length x) d at b (omega arith)))
+wrote-over d at b x r y h p = (
+  p .0,
+  p .1 ∙ ap₂ (λ (u v : List ℕ). u ++ x ++ v) (take-set-le at d at b (omega arith))
+      (drop-set-lt (at + length x) d at b (omega arith)),
+)
 
 -- the buffer keeps its length
 pub wrote-long : (d : List ℕ) (at : ℕ) (x : List ℕ) (r : ℕ) (y : List ℕ) → at + length x ≤ length d → Wrote d at x r y → length y ≡ length d

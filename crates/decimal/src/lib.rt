@@ -18,9 +18,9 @@ ghost use Rattle.decimal.specs.Rows.{mostRow, lineAt};
 use cell::bytes::copy_bytes;
 use cell::bytes::half;
 use cell::ints::magnitude;
+use paper::LIMIT_BYTES;
+use paper::REACH;
 use paper::Refusal;
-use positions::LIMIT;
-use positions::REACH;
 use positions::position_at;
 
 fn put_byte(out: &mut [u8], at: usize, b: u8) -> usize
@@ -246,7 +246,11 @@ pub fn put_row(rows: &[u8], from: usize, rank: usize, out: &mut [u8], at: usize)
     let mut end = put_decimal(out, at, half(rows, from) as u64);
     let mut i = 0;
     while i < rank {
-        end = put_position(out, end, position_at(rows, from + LIMIT + i * LIMIT));
+        end = put_position(
+            out,
+            end,
+            position_at(rows, from + LIMIT_BYTES + i * LIMIT_BYTES),
+        );
         i += 1;
     }
     put_byte(out, end, b'\n')

@@ -9,11 +9,10 @@ use crate::say::say_number;
 use crate::say::say_refusal;
 use paper::Form;
 use paper::Head;
+use paper::NumberAnswer;
 use paper::Ordinality;
-use paper::PackAnswer;
 use paper::PageAnswer;
 use paper::ReferenceAnswer;
-use paper::RunAnswer;
 use paper::Total;
 use paper::TotalAnswer;
 use paper::Totalled;
@@ -22,7 +21,7 @@ use recipe::plan_recipe;
 // Packs arrays; a refusal would be printed.
 pub fn pack_arrays(count: usize, forms: [Form; paper::ARRAYS], cells: &[u8], bundle: &mut [u8]) {
     let answer = pack::pack(count, forms, cells, bundle);
-    if let PackAnswer::Refused(r) = answer {
+    if let NumberAnswer::Refused(r) = answer {
         say_refusal(r);
     }
 }
@@ -92,13 +91,13 @@ fn show_last(bundle: &[u8], steps: &[u8], work: &[u8]) {
     if count < 1 {
         return;
     }
-    if count <= recipe::STEPS {
-        let planned = plan.steps;
-        let last = planned[count - 1];
-        let result = last.result;
-        say_extent(result.extent);
-        if last.cells <= plan.cells {
-            say_cells(result.kind, work, plan.cells - last.cells, plan.cells);
+    if count <= paper::STEPS {
+        let last = plan.operands[paper::RESULTS + count];
+        let result = last.head;
+        let form = result.form;
+        say_extent(form.extent);
+        if result.cells <= plan.cells {
+            say_cells(form.kind, work, plan.cells - result.cells, plan.cells);
         }
     }
 }
@@ -109,8 +108,8 @@ pub fn show_run(name: &[u8], bundle: &[u8], steps: &[u8]) {
     let mut work = [0u8; 900];
     let answer = run::run(bundle, steps, &mut work);
     match answer {
-        RunAnswer::Got(_) => show_last(bundle, steps, &work),
-        RunAnswer::Refused(r) => {
+        NumberAnswer::Got(_) => show_last(bundle, steps, &work),
+        NumberAnswer::Refused(r) => {
             say(b" ");
             say_refusal(r);
         }

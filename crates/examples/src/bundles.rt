@@ -23,8 +23,8 @@ use crate::say::say_count;
 use crate::say::say_refusal;
 use paper::Cell;
 use paper::Form;
+use paper::NumberAnswer;
 use paper::Ordinality;
-use paper::PackAnswer;
 use paper::Seen;
 use paper::Total;
 use paper::WalkAnswer;
@@ -113,11 +113,11 @@ fn pack_three(middle: Cell, bundle: &mut [u8]) {
     put_cube(&mut cells, 19);
     let answer = pack::pack(3, forms, &cells, bundle);
     match answer {
-        PackAnswer::Got(n) => {
+        NumberAnswer::Got(n) => {
             say_count(b"bytes ", n as u64);
             say(b"\n");
         }
-        PackAnswer::Refused(r) => say_refusal(r),
+        NumberAnswer::Refused(r) => say_refusal(r),
     }
 }
 

@@ -19,7 +19,7 @@ use crate::say::say_refusal;
 use paper::Cell;
 use paper::Extent;
 use paper::Form;
-use paper::RunAnswer;
+use paper::NumberAnswer;
 
 // The bytes of "who" and of "turn".
 const WHO: u64 = 0x6f_6877;
@@ -70,11 +70,11 @@ fn show_area(bundle: &[u8], steps: &[u8], work: &mut [u8]) {
     say(b" bytes: ");
     let answer = run::run(bundle, steps, work);
     match answer {
-        RunAnswer::Got(n) => {
+        NumberAnswer::Got(n) => {
             say_count(b"done, ", n as u64);
             say(b" cells\n");
         }
-        RunAnswer::Refused(r) => say_refusal(r),
+        NumberAnswer::Refused(r) => say_refusal(r),
     }
 }
 

@@ -13,7 +13,7 @@ use crate::say::say_number;
 use crate::say::say_refusal;
 use json_write::write;
 use paper::Cell;
-use paper::JsonAnswer;
+use paper::NumberAnswer;
 
 const BOOLEAN: u8 = 3;
 
@@ -21,11 +21,11 @@ const BOOLEAN: u8 = 3;
 fn show_text(bundle: &[u8], k: u32, out: &mut [u8]) {
     let answer = write(bundle, k, out);
     match answer {
-        JsonAnswer::Got(n) => {
+        NumberAnswer::Got(n) => {
             say_number(n as u64);
             say(b"\n");
         }
-        JsonAnswer::Refused(r) => say_refusal(r),
+        NumberAnswer::Refused(r) => say_refusal(r),
     }
     say(out);
     say(b"\n");

@@ -1,23 +1,23 @@
 -- Two extents compared axis by axis, as asked. This is what the paper asks: names, limits, inside the maximum, covered. The loop keeps the
 -- comparison of the axes left equal to the whole.
 use Prim.Native.Nat.{ℕ, suc, zero, _+_, _-_, _≤_, _<_}
-use mathlib.Core.Bool.{Bool, true, false, not, _&&_, _||_}
+use mathlib.Core.Bool.{Bool, true, false, _&&_, _||_}
 use mathlib.Core.List.{List, [], _∷_, _++_, map}
 use mathlib.Core.Path.{_≡_, refl, sym, _∙_, ap}
 use native.Mathlib.Omega.{arith}
 use borrow.Author.Tests.{eq-eqb, ne-eqb, eqb-true, eqb-false}
 use lib.Dec.{eqb}
 use lib.ListN.{take, drop, length}
+use Rattle.paper.specs.Numbers.{alike}
 use Rattle.paper.specs.declared.Axis.{Axis}
 use Rattle.paper.specs.declared.AxisIndex.{AxisIndex}
 use Rattle.paper.specs.declared.Extent.{Extent}
-use Rattle.paper.specs.Axes.{sameName, alike, axisWithin, within, onAxis, inside, without}
+use Rattle.paper.specs.Axes.{sameName, axisWithin, within, onAxis, inside, without}
 use Rattle.paper.specs.Recipe.{sameLimits, covers}
 use Rattle.paper.specs.Answers.{axesOf}
 use Rattle.extent.specs.declared.Asked.{Asked}
 use Rattle.extent.specs.declared.Asked.the-variants.{Names, Limits, OtherLimits, Within, Covers}
 use Rattle.extent.specs.Rank.{Rank, axisNo, axes-up, axes-end}
-use Rattle.extent.specs.Tests.{and-and}
 
 -- both limits of the second axis lie on the first
 abbrev pub axisCovers : Axis → Axis → Bool
@@ -65,7 +65,8 @@ meeting-other asked i (a ∷ E) (b ∷ F) h = rw (← meeting-other asked (i + 1
 -- ---- what the paper asks
 
 -- where the index does not count
-by-alike : (asked : Asked) (f : Axis → Axis → Bool) → ((i : ℕ) (a b : Axis) → meet asked i a b ≡ f a b) → (i : ℕ) (E F : List Axis) → meeting asked i E F ≡ alike f E F
+by-alike : (asked : Asked) (f : Axis → Axis → Bool) → ((i : ℕ) (a b : Axis) → meet asked i a b ≡ f a b) → (i : ℕ) (E F : List Axis)
+    → meeting asked i E F ≡ alike f E F
 unfolding meeting alike
 by-alike asked f h i [] [] = refl
 by-alike asked f h i [] (b ∷ F) = refl
@@ -100,7 +101,7 @@ pub by-maximum : (E M : List Axis) → meeting Within 1 E M ≡ within E M
 by-maximum E M = by-alike Within axisWithin (λ i a b. refl) 1 E M
 
 inside-each : (f : Axis → ℕ) (E F : List Axis) → alike (λ a b. onAxis a (f b)) E F ≡ inside E (map f F)
-unfolding alike inside
+unfolding alike
 inside-each f [] [] = refl
 inside-each f [] (b ∷ F) = refl
 inside-each f (a ∷ E) [] = refl
@@ -128,7 +129,8 @@ one-true true N L = refl
 one-true false N L = refl
 
 -- names, and limits without those of the axis n after i
-but-from : (k : AxisIndex) (n i : ℕ) (E F : List Axis) → i + n ≡ k .0 → meeting (OtherLimits k) i E F ≡ (alike sameName E F && alike sameLimits (omit n E) (omit n F))
+but-from : (k : AxisIndex) (n i : ℕ) (E F : List Axis) → i + n ≡ k .0
+    → meeting (OtherLimits k) i E F ≡ (alike sameName E F && alike sameLimits (omit n E) (omit n F))
 unfolding meeting alike
 but-from k zero i [] [] h = refl
 but-from k (suc n) i [] [] h = refl
@@ -142,10 +144,12 @@ but-from k (suc n) i (a ∷ E) (b ∷ F) h =
     (ap (λ (t : Bool). (sameName a b && sameLimits a b) && t) (but-from k n (i + 1) E F (omega arith))
     ∙ crossed (sameName a b) (sameLimits a b) (alike sameName E F) (alike sameLimits (omit n E) (omit n F)))
 
-pub by-other-limits : (k : AxisIndex) (E F : List Axis) → meeting (OtherLimits k) 1 E F ≡ (alike sameName E F && alike sameLimits (without (k .0) E) (without (k .0) F))
+pub by-other-limits : (k : AxisIndex) (E F : List Axis)
+    → meeting (OtherLimits k) 1 E F ≡ (alike sameName E F && alike sameLimits (without (k .0) E) (without (k .0) F))
 by-other-limits k E F = by (eqb (k .0) 0) refl
   where
-    by : (t : Bool) → eqb (k .0) 0 ≡ t → meeting (OtherLimits k) 1 E F ≡ (alike sameName E F && alike sameLimits (without (k .0) E) (without (k .0) F))
+    by : (t : Bool) → eqb (k .0) 0 ≡ t → meeting (OtherLimits k) 1 E F
+        ≡ (alike sameName E F && alike sameLimits (without (k .0) E) (without (k .0) F))
     by true e = let z = eqb-true (k .0) 0 e in past k 1 E F (omega arith) ∙ by-limits 1 E F ∙ ap (λ (n : ℕ). alike sameName E F && alike sameLimits (without n E) (without n F)) (sym z)
     by false e =
         let z = eqb-false (k .0) 0 e in

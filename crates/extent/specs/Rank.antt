@@ -1,20 +1,17 @@
 -- What `rank_of` tells of an extent: how many axes it has, which are the first of its array. Loops over the axes count up to it, and
 -- cite the axes left, one axis more and at the end.
 use Prim.Native.Nat.{ℕ, _+_, _≤_, _<_}
-use mathlib.Core.Path.{_≡_, refl, sym, ap, _∙_}
-use mathlib.Core.Bool.{Bool, true, false}
-use mathlib.Core.List.{List, [], _∷_}
+use mathlib.Core.Path.{_≡_, sym}
+use mathlib.Core.List.{[], _∷_}
 use native.Mathlib.Numerals.{add-one}
 use native.Mathlib.Omega.{arith}
-use borrow.Author.Tests.{leb-true, leb-false}
-use lib.Dec.{leb}
-use lib.ListN.{length, getD, take, drop, length-take, drop-of-length-le, List·getD-eq-default}
-use lib.Seq.{take-all, getD-take}
+use lib.ListN.{length, getD, take, drop, drop-of-length-le, List·getD-eq-default}
+use lib.Seq.{getD-take, length-take-le}
 use Rattle.paper.specs.declared.Axis.{Axis}
 use Rattle.paper.specs.declared.Extent.{Extent}
 use Rattle.paper.specs.Limits.{mostAxes}
 use Rattle.paper.specs.Axes.{noAxis}
-use Rattle.paper.specs.Answers.{axesOf}
+use Rattle.paper.specs.Answers.{axisCount, axesOf}
 use Rattle.laws.specs.Loops.{drop-first-cons}
 
 -- r is the number of e's axes
@@ -24,19 +21,15 @@ pub record Rank (e : Extent) (r : ℕ) : Type 0 where
   pub room : r ≤ length (e .axes)
   pub first : take r (e .axes) ≡ axesOf e
 
--- the first r of a list, or all of it where r is more
-clamped : {X : Type 0} (l : List X) (r n : ℕ) → n ≡ length (take r l) → take n l ≡ take r l
-clamped l r n e = by (leb r (length l)) refl
-  where
-    by : (b : Bool) → leb r (length l) ≡ b → take n l ≡ take r l
-    by true q = let f : n ≡ r = omega (arith, length-take r l, leb-true r (length l) q) in ap (λ (k : ℕ). take k l) f
-    by false q =
-        let p : length l ≤ r = omega (arith, leb-false r (length l) q) in
-        take-all n l (omega (arith, length-take r l)) ∙ sym (take-all r l p)
-
-pub ranked : (e : Extent) (r : ℕ) → length (e .axes) ≡ mostAxes → r ≡ length (axesOf e) → Rank e r
-ranked e r l n =
-    record { few = omega (arith, length-take (e .rank) (e .axes)); number = n; room = omega (arith, length-take (e .rank) (e .axes)); first = clamped (e .axes) (e .rank) r n }
+-- so many as its rank tells of
+pub rank-told : (e : Extent) (r : ℕ) → length (e .axes) ≡ mostAxes → r ≡ axisCount (e .rank) → r ≤ mostAxes → Rank e r
+unfolding axesOf
+rank-told e r l q h = record {
+  few = h;
+  number = rw (← q) (sym (length-take-le r (e .axes) (omega arith)));
+  room = omega arith;
+  first = rw q;
+}
 
 -- the axis at i, from 0
 abbrev pub axisNo : Extent → ℕ → Axis

@@ -6,11 +6,11 @@ use mathlib.Core.Bool.{Bool, true, false, not, _&&_, _||_}
 use mathlib.Core.List.{List, [], _∷_}
 use native.Mathlib.Omega.{arith}
 use lib.Dec.{leb}
-use lib.ListN.{length, drop, getD}
+use lib.ListN.{drop, getD}
 use Rattle.paper.specs.declared.Axis.{Axis}
 use Rattle.paper.specs.declared.Extent.{Extent}
 use Rattle.paper.specs.Limits.{reach}
-use Rattle.paper.specs.Axes.{goodName, sameName, named, goodNames, goodLimits, within, noAxis}
+use Rattle.paper.specs.Axes.{goodName, sameName, named, goodNames, goodLimits, noAxis}
 use Rattle.paper.specs.Answers.{axesOf}
 use Rattle.laws.specs.Limits.{Sound}
 use Rattle.extent.specs.Rank.{Rank, axisNo, axes-up, axes-end}
@@ -46,7 +46,8 @@ module _ (e : Extent) (r : ℕ) (k : Rank e r) (i : ℕ) where
   unfolding named
   named-end a b = rw (axes-end e r k i b)
 
-  pub names-up : i < r → goodNames (drop i (axesOf e)) ≡ (goodName (axisNo e i) && (not (named (axisNo e i) (drop (i + 1) (axesOf e))) && goodNames (drop (i + 1) (axesOf e))))
+  pub names-up : i < r → goodNames (drop i (axesOf e))
+      ≡ (goodName (axisNo e i) && (not (named (axisNo e i) (drop (i + 1) (axesOf e))) && goodNames (drop (i + 1) (axesOf e))))
   unfolding goodNames
   names-up b = rw (axes-up e r k i b)
 

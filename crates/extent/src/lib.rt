@@ -5,36 +5,39 @@ ghost use mathlib.Core.Bool.{_&&_, _||_};
 ghost use Prim.Native.Nat.{_+_, _-_, _*_, _≤_};
 ghost use lib.Dec.{eqb};
 ghost use lib.ListN.{drop};
-ghost use Rattle.paper.specs.Limits.{mostCells, nameBytes, reach};
+ghost use Rattle.paper.specs.Limits.{mostAxes, mostCells, nameBytes, reach};
 ghost use Rattle.paper.specs.Numbers.{leBytes};
 ghost use Rattle.paper.specs.Axes.{inName, isName, sameName, named, goodNames, goodLimits, width, axisWithin, axisAt, onAxis};
 ghost use Rattle.paper.specs.Recipe.{sameLimits, covers};
-ghost use Rattle.paper.specs.Answers.{axesOf};
+ghost use Rattle.paper.specs.Answers.{axisCount, axesOf};
 ghost use Rattle.laws.specs.Limits.{Sound};
 ghost use Rattle.extent.specs.Rank.{Rank};
 ghost use Rattle.extent.specs.Judged.{fewCells, goodCells, cellsWithin};
 ghost use Rattle.extent.specs.Tests.{Ranged, inRange};
 ghost use Rattle.extent.specs.Meeting.{axisCovers, meet, meeting};
+use paper::AXES;
 use paper::Axis;
 use paper::AxisIndex;
+use paper::CELLS;
 use paper::Extent;
+use paper::NAME_BYTES;
+use paper::TOP;
 
-// The distance of the highest position, the most cells of an array, and the bytes of a name.
-pub const TOP: u32 = 2000000;
-
-const CELLS: u64 = 4096;
-
-pub const NAME: usize = 8;
+// As many axes as a count tells of; none where an array has no room for so many.
+pub fn axis_count(n: usize) -> usize
+    ensures { λ r. ⌜ (r ≡ axisCount n) × (r ≤ mostAxes) ⌝ }
+{
+    if AXES < n {
+        return 0;
+    }
+    n
+}
 
 // The number of an extent's axes.
 pub fn rank_of(e: Extent) -> usize
     ensures { λ r. ⌜ Rank e r ⌝ }
 {
-    let rank = e.rank;
-    if paper::AXES < rank {
-        return paper::AXES;
-    }
-    rank
+    axis_count(e.rank)
 }
 
 // An axis's index, from 1, counted from 0.
@@ -94,7 +97,7 @@ pub fn is_name(n: u64) -> bool
     }
     let mut left = n / 256;
     let mut i: usize = 1;
-    while i < NAME {
+    while i < NAME_BYTES {
         if !in_name(left % 256) {
             return left == 0;
         }
@@ -140,7 +143,7 @@ pub fn good_names(e: Extent) -> bool
 }
 
 // The axis's limits are in range, lower at most upper.
-fn in_range(a: Axis) -> bool
+fn axis_in_range(a: Axis) -> bool
     ensures { λ r. ⌜ r ≡ inRange a ⌝ }
 {
     if a.hi < a.lo {
@@ -156,7 +159,7 @@ pub fn good_limits(e: Extent) -> bool
     let rank = rank_of(e);
     let mut i = 0;
     while i < rank {
-        if !in_range(e.axes[i]) {
+        if !axis_in_range(e.axes[i]) {
             return false;
         }
         i += 1;

@@ -47,13 +47,16 @@ module _ (l : List Axis) (r : ℕ) (h : r ≤ length l) where
   unfolding marks
   marks-end = sym (ap marks (drop-first l r h))
 
-  pub marks-down : (i : ℕ) (d : Axis) → 0 < i → i ≤ r → marks (drop (i - 1) (take r l)) ≡ 1 + width (getD l (i - 1) d) + width (getD l (i - 1) d) * marks (drop i (take r l))
+  pub marks-down : (i : ℕ) (d : Axis) → 0 < i → i ≤ r
+      → marks (drop (i - 1) (take r l)) ≡ 1 + width (getD l (i - 1) d) + width (getD l (i - 1) d) * marks (drop i (take r l))
   unfolding marks
   marks-down i d p k = ap marks (drop-down l r h i d p k)
 
-  pub marks-bound : (i : ℕ) → Sound (take r l) → r ≤ mostAxes → cells (take r l) ≤ mostCells → marks (drop i (take r l)) ≤ 2 * (mostAxes * mostCells)
+  pub marks-bound : (i : ℕ) → Sound (take r l) → r ≤ mostAxes → cells (take r l) ≤ mostCells
+      → marks (drop i (take r l)) ≤ 2 * (mostAxes * mostCells)
   marks-bound i s m c =
-      marks-few (drop i (take r l)) (sound-drop (take r l) i s) (omega (arith, length-drop i (take r l), length-take r l)) (le-trans (cells-drop (take r l) i s) c)
+      marks-few (drop i (take r l)) (sound-drop (take r l) i s) (omega (arith, length-drop i (take r l), length-take r l))
+      (le-trans (cells-drop (take r l) i s) c)
 
 -- ---- cells
 
@@ -109,7 +112,14 @@ module _ (f : ℕ → Cell) where
     items-long (suc n) i =
         let e : suc (suc n) * s ≡ s + suc n * s = suc-mul (suc n) s ∙ (omega arith) in
         let z : suc (suc n) * m ≡ suc n * m + m = suc-mul (suc n) m in
-        omega (arith, length-append (F i) (44 ∷ items (suc n) F s (i + s)), h i, items-long n (i + s), ap (cellsLong f i) e, long-split f s (suc n * s) i)
+        omega (
+          arith,
+          length-append (F i) (44 ∷ items (suc n) F s (i + s)),
+          h i,
+          items-long n (i + s),
+          ap (cellsLong f i) e,
+          long-split f s (suc n * s) i,
+        )
 
     row-long : (w i : ℕ) → 0 < w → length (rowOf w F s i) ≡ 1 + w + w * m + cellsLong f i (w * s)
     row-long zero i p = absurd (omega arith)
@@ -125,12 +135,15 @@ module _ (f : ℕ → Cell) where
   brackets-long (a ∷ []) s h i = ap length (brackets-one f a i) ∙ row-long (cellOn f) 0 1 one-long (width a) i (omega (arith, s .0))
   brackets-long (a ∷ b ∷ E) s h i =
       ap length (brackets-more f a (b ∷ E) i (omega arith))
-      ∙ row-long (axesOn f (b ∷ E)) (marks (b ∷ E)) (cells (b ∷ E)) (λ k. brackets-long (b ∷ E) (s .2) (omega arith) k) (width a) i (omega (arith, s .0))
+      ∙ row-long (axesOn f (b ∷ E)) (marks (b ∷ E)) (cells (b ∷ E)) (λ k. brackets-long (b ∷ E) (s .2) (omega arith) k) (width a) i
+      (omega (arith, s .0))
 
-  pub json-long : (E : List Axis) → Sound E → 1 ≤ length E → length (jsonText E (map f (from 0 (cells E)))) ≡ 9 + marks E + cellsLong f 0 (cells E)
+  pub json-long : (E : List Axis) → Sound E → 1 ≤ length E
+      → length (jsonText E (map f (from 0 (cells E)))) ≡ 9 + marks E + cellsLong f 0 (cells E)
   json-long E s h = omega (arith, brackets-long E s h 0, length-append (axesOn f E 0) (text "}"))
 
   -- it is short
-  pub json-short : (E : List Axis) → Sound E → length E ≤ mostAxes → cells E ≤ mostCells → 9 + marks E + cellsLong f 0 (cells E) ≤ 9 + 2 * (mostAxes * mostCells) + mostCells * mostSigned
+  pub json-short : (E : List Axis) → Sound E → length E ≤ mostAxes → cells E ≤ mostCells
+      → 9 + marks E + cellsLong f 0 (cells E) ≤ 9 + 2 * (mostAxes * mostCells) + mostCells * mostSigned
   json-short E s r c =
       omega (arith, marks-few E s r c, long-most f mostSigned (λ k. cell-most (f k)) (cells E) 0, mul-le-mul-right mostSigned c)

@@ -75,16 +75,22 @@ mostText n d = 10 + n * (19 + 2 * d)
 joined : (n d m l : ℕ) → m + n ≤ d * (2 * n) + 1 → l ≤ n * 20 → 9 + m + l ≤ mostText n d
 joined n d m l h k = omega arith
 
-pub text-most : (A : Array) → Valid A → length (jsonText (A .shape .axes) (A .cells)) ≤ mostText (cells (A .shape .axes)) (length (A .shape .axes))
+pub text-most : (A : Array) → Valid A
+    → length (jsonText (A .shape .axes) (A .cells)) ≤ mostText (cells (A .shape .axes)) (length (A .shape .axes))
 text-most A v =
     let s : Sound (A .shape .axes) = extent-true (A .shape .axes) (v .extent) .0 in
-    let e : A .cells ≡ map (λ k. getD (A .cells) k Empty) (from 0 (cells (A .shape .axes))) = by-index (A .cells) ∙ ap (λ (n : ℕ). map (λ k. getD (A .cells) k Empty) (from 0 n)) (v .full) in
-    let l = ap (λ (cs : List Cell). length (jsonText (A .shape .axes) cs)) e ∙ json-long (λ k. getD (A .cells) k Empty) (A .shape .axes) s (has-axis A v) in
+    let e : A .cells ≡ map (λ k. getD (A .cells) k Empty) (from 0 (cells (A .shape .axes))) =
+    by-index (A .cells) ∙ ap (λ (n : ℕ). map (λ k. getD (A .cells) k Empty) (from 0 n)) (v .full) in
+    let l =
+    ap (λ (cs : List Cell). length (jsonText (A .shape .axes) cs)) e
+    ∙ json-long (λ k. getD (A .cells) k Empty) (A .shape .axes) s (has-axis A v) in
     omega (
       arith,
       l,
-      joined (cells (A .shape .axes)) (length (A .shape .axes)) (marks (A .shape .axes)) (cellsLong (λ k. getD (A .cells) k Empty) 0 (cells (A .shape .axes)))
-          (marks-most (A .shape .axes) s) (long-most (λ k. getD (A .cells) k Empty) 20 (each-most (A .shape .type) (A .cells) (v .kinds)) (cells (A .shape .axes)) 0),
+      joined (cells (A .shape .axes)) (length (A .shape .axes)) (marks (A .shape .axes))
+          (cellsLong (λ k. getD (A .cells) k Empty) 0 (cells (A .shape .axes)))
+          (marks-most (A .shape .axes) s)
+          (long-most (λ k. getD (A .cells) k Empty) 20 (each-most (A .shape .type) (A .cells) (v .kinds)) (cells (A .shape .axes)) 0),
     )
 
 -- ---- every text
@@ -96,11 +102,17 @@ longest = mostText mostCells mostAxes
 pub longest-is : longest ≡ 110602
 longest-is = refl
 
-pub every-text : (bs : List ℕ) (k : ℕ) (A : Array) → Bytes bs → chosen bs k ≡ got A → length (jsonText (A .shape .axes) (A .cells)) ≤ longest
+pub every-text : (bs : List ℕ) (k : ℕ) (A : Array) → Bytes bs → chosen bs k ≡ got A
+    → length (jsonText (A .shape .axes) (A .cells)) ≤ longest
 every-text bs k A b e =
     let v = chosen-valid bs k A b e in
     let d : 19 + 2 * length (A .shape .axes) ≤ 19 + 2 * mostAxes = omega (arith, few-axes A v) in
-    omega (arith, text-most A v, mul-le-mul-left (cells (A .shape .axes)) d, mul-le-mul-right (19 + 2 * mostAxes) (extent-true (A .shape .axes) (v .extent) .1))
+    omega (
+      arith,
+      text-most A v,
+      mul-le-mul-left (cells (A .shape .axes)) d,
+      mul-le-mul-right (19 + 2 * mostAxes) (extent-true (A .shape .axes) (v .extent) .1),
+    )
 
 -- a buffer of that length is never refused with 14
 pub never-14 : (bs : List ℕ) (k room : ℕ) (A : Array) → Bytes bs → chosen bs k ≡ got A → eqb (A .shape .type) FLOAT ≡ false → longest ≤ room
@@ -129,4 +141,8 @@ unfolding opened marks
 longest-met =
     let m : marks longestAxes ≡ 28673 = refl in
     let c : cells longestAxes ≡ 4096 = refl in
-    omega (arith, json-long (λ k. Int smallestInt) longestAxes (extent-true longestAxes longest-good .0) (omega arith), twenty (cells longestAxes) 0)
+    omega (
+      arith,
+      json-long (λ k. Int smallestInt) longestAxes (extent-true longestAxes longest-good .0) (omega arith),
+      twenty (cells longestAxes) 0,
+    )

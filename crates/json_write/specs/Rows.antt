@@ -31,12 +31,15 @@ items-end n F s i h = let e : n ≡ 0 = omega arith in ap (λ (m : ℕ). items m
 fewer : (n s : ℕ) → 0 < n → n * s ≡ (n - 1) * s + s
 fewer n s h = let e : n ≡ suc (n - 1) = omega arith in ap (λ (m : ℕ). m * s) e ∙ suc-mul (n - 1) s
 
-sets-pieces : (a b r e l : List ℕ) (i : ℕ) → sets l i ((a ++ (b ++ r)) ++ e) ≡ sets (sets (sets l i a) (i + length a) b) (i + length a + length b) (r ++ e)
+sets-pieces : (a b r e l : List ℕ) (i : ℕ)
+    → sets l i ((a ++ (b ++ r)) ++ e) ≡ sets (sets (sets l i a) (i + length a) b) (i + length a + length b) (r ++ e)
 sets-pieces a b r e l i =
-    ap (λ (x : List ℕ). sets l i x) (append-assoc a (b ++ r) e ∙ ap (λ (x : List ℕ). a ++ x) (append-assoc b r e)) ∙ sets-append a (b ++ (r ++ e)) l i
+    ap (λ (x : List ℕ). sets l i x) (append-assoc a (b ++ r) e ∙ ap (λ (x : List ℕ). a ++ x) (append-assoc b r e))
+    ∙ sets-append a (b ++ (r ++ e)) l i
     ∙ sets-append b (r ++ e) (sets l i a) (i + length a)
 
-module _ {out₀ : List ℕ} {F : ℕ → List ℕ} {s w at₀ cell₀ : ℕ} {out : List ℕ} {cell at n : ℕ} (x : Rowing out₀ F s w at₀ cell₀ out cell at n) where
+module _ {out₀ : List ℕ} {F : ℕ → List ℕ} {s w at₀ cell₀ : ℕ} {out : List ℕ} {cell at n : ℕ}
+    (x : Rowing out₀ F s w at₀ cell₀ out cell at n) where
   -- what is left fits, so an item fits, and a comma or nothing after it; so does its first cell
   pub row-at : 0 < n → at + length (F cell) + length (comma (n - 1)) ≤ at₀ + length (items w F s cell₀)
   row-at h = omega (arith, x .at-is, simp length-append at (ap length (items-more n F s cell h)))
@@ -49,7 +52,8 @@ module _ {out₀ : List ℕ} {F : ℕ → List ℕ} {s w at₀ cell₀ : ℕ} {o
   row-end = omega (arith, x .at-is)
 
   pub row-turn : (out₁ out₂ : List ℕ) (at₁ at₂ cell₂ : ℕ) → 0 < n → at₁ ≡ at + length (F cell) → out₁ ≡ sets out at (F cell)
-      → at₂ ≡ at₁ + length (comma (n - 1)) → out₂ ≡ sets out₁ at₁ (comma (n - 1)) → cell₂ ≡ cell + s → Rowing out₀ F s w at₀ cell₀ out₂ cell₂ at₂ (n - 1)
+      → at₂ ≡ at₁ + length (comma (n - 1)) → out₂ ≡ sets out₁ at₁ (comma (n - 1)) → cell₂ ≡ cell + s
+      → Rowing out₀ F s w at₀ cell₀ out₂ cell₂ at₂ (n - 1)
   row-turn out₁ out₂ at₁ at₂ cell₂ h a₁ o₁ a₂ o₂ c₂ =
       let more : items n F s cell ≡ F cell ++ (comma (n - 1) ++ items (n - 1) F s cell₂) =
       items-more n F s cell h ∙ ap (λ (m : ℕ). F cell ++ (comma (n - 1) ++ items (n - 1) F s m)) (sym c₂) in
@@ -59,7 +63,8 @@ module _ {out₀ : List ℕ} {F : ℕ → List ℕ} {s w at₀ cell₀ : ℕ} {o
         cell-is = omega (arith, x .cell-is, fewer n s h);
         at-is = omega (arith, x .at-is, simp length-append at (ap length more));
         same = rw (o₂, a₂, o₁, a₁)
-            (sym (sets-pieces (F cell) (comma (n - 1)) (items (n - 1) F s cell₂) (93 ∷ []) out at) ∙ ap (λ (l : List ℕ). sets out at (l ++ (93 ∷ []))) (sym more) ∙ x .same);
+            (sym (sets-pieces (F cell) (comma (n - 1)) (items (n - 1) F s cell₂) (93 ∷ []) out at)
+            ∙ ap (λ (l : List ℕ). sets out at (l ++ (93 ∷ []))) (sym more) ∙ x .same);
       }
 
   -- none is left: the bracket is closed
@@ -72,10 +77,12 @@ module _ {out₀ : List ℕ} {F : ℕ → List ℕ} {s w at₀ cell₀ : ℕ} {o
         let z : n ≡ 0 = omega arith in
         omega (arith, x .cell-is, ap (λ (m : ℕ). m * s) z ∙ zero-mul s)
 
-    pub shut-row : (entry last : List ℕ) (begin r : ℕ) → Stored entry begin (91 ∷ []) at₀ out₀ → Stored out at (93 ∷ []) r last → Stored entry begin (rowOf w F s cell₀) r last
+    pub shut-row : (entry last : List ℕ) (begin r : ℕ) → Stored entry begin (91 ∷ []) at₀ out₀ → Stored out at (93 ∷ []) r last
+        → Stored entry begin (rowOf w F s cell₀) r last
     shut-row entry last begin r p q =
         let s₀ : at₀ ≡ suc begin = omega (arith, p .0) in (
           omega (arith, p .0, q .0, x .at-is, ap length none-left, row-length w F s cell₀),
-          q .1 ∙ ap (λ (l : List ℕ). sets out at (l ++ (93 ∷ []))) (sym none-left) ∙ x .same ∙ ap (λ (l : List ℕ). sets l at₀ (items w F s cell₀ ++ (93 ∷ []))) (p .1)
+          q .1 ∙ ap (λ (l : List ℕ). sets out at (l ++ (93 ∷ []))) (sym none-left) ∙ x .same
+              ∙ ap (λ (l : List ℕ). sets l at₀ (items w F s cell₀ ++ (93 ∷ []))) (p .1)
               ∙ ap (λ (n : ℕ). sets (set entry begin 91) n (items w F s cell₀ ++ (93 ∷ []))) s₀,
         )

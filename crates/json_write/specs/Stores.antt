@@ -27,9 +27,13 @@ sets-append (x ∷ a) b l i =
     sets-append a b (set l i x) (suc i) ∙ ap (λ (n : ℕ). sets (sets (set l i x) (suc i) a) n b) e
 
 -- x, and then w
-pub stored-then : (d : List ℕ) (at : ℕ) (x : List ℕ) (m : ℕ) (y w : List ℕ) (r : ℕ) (z : List ℕ) → Stored d at x m y → Stored y m w r z → Stored d at (x ++ w) r z
-stored-then d at x m y w r z p q =
-    (omega (arith, length-append x w, p .0, q .0), q .1 ∙ ap (λ (l : List ℕ). sets l m w) (p .1) ∙ ap (λ (n : ℕ). sets (sets d at x) n w) (p .0) ∙ sym (sets-append x w d at))
+pub stored-then : (d : List ℕ) (at : ℕ) (x : List ℕ) (m : ℕ) (y w : List ℕ) (r : ℕ) (z : List ℕ) → Stored d at x m y → Stored y m w r z
+    → Stored d at (x ++ w) r z
+stored-then d at x m y w r z p q = (
+  omega (arith, length-append x w, p .0, q .0),
+  q .1 ∙ ap (λ (l : List ℕ). sets l m w) (p .1)
+      ∙ ap (λ (n : ℕ). sets (sets d at x) n w) (p .0) ∙ sym (sets-append x w d at),
+)
 
 -- the same text said otherwise
 pub stored-as : (d : List ℕ) (at : ℕ) (x w : List ℕ) (r : ℕ) (y : List ℕ) → w ≡ x → Stored d at x r y → Stored d at w r y

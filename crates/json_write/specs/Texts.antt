@@ -67,7 +67,8 @@ module _ (f : ℕ → Cell) where
   unfolding from items commas
   cells-items zero i = refl
   cells-items (suc n) i =
-      let l : length (map cellText (map f (from (suc i) n))) ≡ n = length-map (map f (from (suc i) n)) cellText ∙ length-map (from (suc i) n) f ∙ length-from (suc i) n in
+      let l : length (map cellText (map f (from (suc i) n))) ≡ n =
+      length-map (map f (from (suc i) n)) cellText ∙ length-map (from (suc i) n) f ∙ length-from (suc i) n in
       commas-on (cellText (f i)) (map cellText (map f (from (suc i) n)))
       ∙ ap (λ (m : ℕ). cellText (f i) ++ (comma m ++ commas (map cellText (map f (from (suc i) n))))) l
       ∙ ap (λ (t : List ℕ). cellText (f i) ++ (comma n ++ t)) (cells-items n (suc i))
@@ -78,7 +79,8 @@ module _ (f : ℕ → Cell) where
     abbrev pub axesOn : ℕ → List ℕ
     axesOn i = brackets E (map f (from i (cells E)))
 
-    layers-on : (n i : ℕ) → layers (suc n) (cells E) (map f (from i (suc n * cells E))) ≡ map f (from i (cells E)) ∷ layers n (cells E) (map f (from (i + cells E) (n * cells E)))
+    layers-on : (n i : ℕ) → layers (suc n) (cells E) (map f (from i (suc n * cells E)))
+        ≡ map f (from i (cells E)) ∷ layers n (cells E) (map f (from (i + cells E) (n * cells E)))
     unfolding layers
     layers-on n i =
         let e : suc n * cells E ≡ cells E + n * cells E = suc-mul n (cells E) ∙ (omega arith) in
@@ -96,7 +98,8 @@ module _ (f : ℕ → Cell) where
     layers-items zero i = refl
     layers-items (suc n) i =
         let next : List (List Cell) = layers n (cells E) (map f (from (i + cells E) (n * cells E))) in
-        let l : length (map (brackets E) next) ≡ n = length-map next (brackets E) ∙ length-layers n (cells E) (map f (from (i + cells E) (n * cells E))) in
+        let l : length (map (brackets E) next) ≡ n =
+        length-map next (brackets E) ∙ length-layers n (cells E) (map f (from (i + cells E) (n * cells E))) in
         ap (λ (r : List (List Cell)). commas (map (brackets E) r)) (layers-on n i)
         ∙ commas-on (axesOn i) (map (brackets E) next)
         ∙ ap (λ (m : ℕ). axesOn i ++ (comma m ++ commas (map (brackets E) next))) l
@@ -106,7 +109,8 @@ module _ (f : ℕ → Cell) where
   pub brackets-one : (a : Axis) (i : ℕ) → axesOn (a ∷ []) i ≡ rowOf (width a) cellOn 1 i
   unfolding brackets cells
   brackets-one a i =
-      ap (λ (n : ℕ). jsonArray (map cellText (map f (from i n)))) (mul-one (width a)) ∙ ap (λ (t : List ℕ). 91 ∷ (t ++ (93 ∷ []))) (cells-items (width a) i)
+      ap (λ (n : ℕ). jsonArray (map cellText (map f (from i n)))) (mul-one (width a))
+      ∙ ap (λ (t : List ℕ). 91 ∷ (t ++ (93 ∷ []))) (cells-items (width a) i)
 
   pub brackets-more : (a : Axis) (E : List Axis) (i : ℕ) → 1 ≤ length E → axesOn (a ∷ E) i ≡ rowOf (width a) (axesOn E) (cells E) i
   unfolding brackets cells
@@ -136,7 +140,8 @@ left-more E left h k =
 
 left-one : (E : List Axis) (left : ℕ) → left ≡ 1 → left ≤ length E → axesLeft E left ≡ axisLeft E left ∷ []
 left-one E left e k =
-    left-more E left (omega arith) k ∙ ap (λ (l : List Axis). axisLeft E left ∷ l) (drop-of-length-le E {i = length E - (left - 1)} (omega arith))
+    left-more E left (omega arith) k ∙ ap (λ (l : List Axis). axisLeft E left ∷ l)
+    (drop-of-length-le E {i = length E - (left - 1)} (omega arith))
 
 length-left : (E : List Axis) (left : ℕ) → left ≤ length E → length (axesLeft E left) ≡ left
 length-left E left k = length-drop (length E - left) E ∙ (omega arith)
@@ -145,7 +150,8 @@ module _ (f : ℕ → Cell) (E : List Axis) (left : ℕ) (k : left ≤ length E)
   pub text-one : left ≡ 1 → (i : ℕ) → textLeft f E left i ≡ rowOf (width (axisLeft E left)) (cellOn f) 1 i
   text-one e i = ap (λ (l : List Axis). axesOn f l i) (left-one E left e k) ∙ brackets-one f (axisLeft E left) i
 
-  pub text-more : 1 < left → (i : ℕ) → textLeft f E left i ≡ rowOf (width (axisLeft E left)) (textLeft f E (left - 1)) (sizeLeft E (left - 1)) i
+  pub text-more : 1 < left → (i : ℕ)
+      → textLeft f E left i ≡ rowOf (width (axisLeft E left)) (textLeft f E (left - 1)) (sizeLeft E (left - 1)) i
   text-more h i =
       ap (λ (l : List Axis). axesOn f l i) (left-more E left (omega arith) k)
       ∙ brackets-more f (axisLeft E left) (axesLeft E (left - 1)) i (omega (arith, length-left E (left - 1) (omega arith)))

@@ -6,7 +6,7 @@ use mathlib.Core.Bool.{true, false}
 use mathlib.Core.List.{List, [], _∷_, _++_, map}
 use mathlib.Core.Option.{none, some}
 use native.Mathlib.Omega.{arith}
-use borrow.Author.Tests.{eq-eqb, ne-eqb, le-leb, lt-leb, leb-true}
+use borrow.Author.Tests.{eq-eqb, ne-eqb, le-leb, lt-leb}
 use lib.Dec.{eqb, leb}
 use lib.ListN.{length, drop, length-append}
 use lib.Seq.{drop-drop, sets-eq}
@@ -18,12 +18,12 @@ use Rattle.paper.specs.Refusals.{got, refused, refusal, present, unknown4, unfi
 use Rattle.paper.specs.Numbers.{text, from, part, nth}
 use Rattle.paper.specs.Axes.{width, cells, goodExtent, Array}
 use Rattle.paper.specs.Cells.{cellOf}
-use Rattle.paper.specs.Bundle.{packInto, readBundle}
+use Rattle.paper.specs.Bundle.{putInto, readBundle}
 use Rattle.paper.specs.Reference.{chosen}
 use Rattle.paper.specs.Answers.{axesOf}
 use Rattle.paper.specs.Json.{jsonText, written, writeJson}
 use Rattle.laws.specs.Numbers.{Bytes}
-use Rattle.laws.specs.Tests.{and-left, and-right, bind-got, present-got}
+use Rattle.laws.specs.Tests.{between-true, some-one, no-none, bind-got, present-got}
 use Rattle.laws.specs.Judged.{orEmpty, cellsFrom}
 use Rattle.laws.specs.Limits.{Sound, extent-true}
 use Rattle.roundtrip.specs.Valid.{Valid, EachValid}
@@ -47,7 +47,8 @@ unfolding cellsFrom from
 cells-by bs at t i zero = refl
 cells-by bs at t i (suc n) =
     let e : at + i * cellBytes + cellBytes ≡ at + suc i * cellBytes = omega arith in
-    ap (λ (l : List Cell). cellBy bs at t i ∷ l) (ap (cellsFrom t n) (drop-drop cellBytes (at + i * cellBytes) bs ∙ ap (λ (m : ℕ). drop m bs) e) ∙ cells-by bs at t (suc i) n)
+    ap (λ (l : List Cell). cellBy bs at t i ∷ l)
+    (ap (cellsFrom t n) (drop-drop cellBytes (at + i * cellBytes) bs ∙ ap (λ (m : ℕ). drop m bs) e) ∙ cells-by bs at t (suc i) n)
 
 cells-all : (bs : List ℕ) (at t n : ℕ) → cellsFrom t n (drop at bs) ≡ map (cellBy bs at t) (from 0 n)
 cells-all bs at t n = let e : at ≡ at + 0 * cellBytes = omega arith in ap (λ (m : ℕ). cellsFrom t n (drop m bs)) e ∙ cells-by bs at t 0 n
@@ -71,7 +72,8 @@ module _ {bs : List ℕ} {at t w begin cell₀ room : ℕ} (r : RowReady bs at t
   pub row-open : begin < room
   row-open = omega (arith, r .fits)
 
-  module _ {at₀ : ℕ} (a₀ : at₀ ≡ begin + 1) {out₀ out : List ℕ} {cell now n : ℕ} (x : Rowing out₀ (cellOn (cellBy bs at t)) 1 w at₀ cell₀ out cell now n) where
+  module _ {at₀ : ℕ} (a₀ : at₀ ≡ begin + 1) {out₀ out : List ℕ} {cell now n : ℕ}
+      (x : Rowing out₀ (cellOn (cellBy bs at t)) 1 w at₀ cell₀ out cell now n) where
     pub cell-lies : 0 < n → at + cell * cellBytes + cellBytes ≤ length bs
     cell-lies h = omega (arith, r .lies, row-cell x h)
 
@@ -101,7 +103,8 @@ pub record Drawn (bs : List ℕ) (at t : ℕ) (E : List Axis) (left begin cell :
   pub drawn : Stored out begin (textLeft (cellBy bs at t) E left cell) end last
   pub goes : next ≡ cell + sizeLeft E left
 
-module _ {bs : List ℕ} {at t : ℕ} {E : List Axis} {left begin cell₀ room : ℕ} (r : Ready bs at t E left begin cell₀ room) {w : ℕ} (e : w ≡ width (axisLeft E left)) where
+module _ {bs : List ℕ} {at t : ℕ} {E : List Axis} {left begin cell₀ room : ℕ} (r : Ready bs at t E left begin cell₀ room) {w : ℕ}
+    (e : w ≡ width (axisLeft E left)) where
   abbrev f : ℕ → Cell
   f = cellBy bs at t
 
@@ -117,7 +120,8 @@ module _ {bs : List ℕ} {at t : ℕ} {E : List Axis} {left begin cell₀ room :
           fits = omega (arith, r .fits, ap length one-text);
         }
 
-    pub one-drawn : (out : List ℕ) (end next : ℕ) (last : List ℕ) → RowDrawn bs at t w begin cell₀ out end next last → Drawn bs at t E left begin cell₀ out end next last
+    pub one-drawn : (out : List ℕ) (end next : ℕ) (last : List ℕ) → RowDrawn bs at t w begin cell₀ out end next last
+        → Drawn bs at t E left begin cell₀ out end next last
     one-drawn out end next last d =
         record {
           drawn = stored-as out begin _ _ end last one-text (d .drawn);
@@ -130,7 +134,8 @@ module _ {bs : List ℕ} {at t : ℕ} {E : List Axis} {left begin cell₀ room :
     two = omega (arith, r .some, more)
 
     more-text : textLeft f E left cell₀ ≡ rowOf w (textLeft f E (left - 1)) (sizeLeft E (left - 1)) cell₀
-    more-text = text-more f E left (r .rank) two cell₀ ∙ ap (λ (n : ℕ). rowOf n (textLeft f E (left - 1)) (sizeLeft E (left - 1)) cell₀) (sym e)
+    more-text =
+        text-more f E left (r .rank) two cell₀ ∙ ap (λ (n : ℕ). rowOf n (textLeft f E (left - 1)) (sizeLeft E (left - 1)) cell₀) (sym e)
 
     more-fits : begin + length (items w (textLeft f E (left - 1)) (sizeLeft E (left - 1)) cell₀) + 2 ≤ room
     more-fits = omega (arith, r .fits, ap length more-text, row-length w (textLeft f E (left - 1)) (sizeLeft E (left - 1)) cell₀)
@@ -141,7 +146,8 @@ module _ {bs : List ℕ} {at t : ℕ} {E : List Axis} {left begin cell₀ room :
     pub more-open : begin < room
     more-open = omega (arith, more-fits)
 
-    module _ {at₀ : ℕ} (a₀ : at₀ ≡ begin + 1) {out₀ out : List ℕ} {cell now n : ℕ} (x : Rowing out₀ (textLeft f E (left - 1)) (sizeLeft E (left - 1)) w at₀ cell₀ out cell now n) where
+    module _ {at₀ : ℕ} (a₀ : at₀ ≡ begin + 1) {out₀ out : List ℕ} {cell now n : ℕ}
+        (x : Rowing out₀ (textLeft f E (left - 1)) (sizeLeft E (left - 1)) w at₀ cell₀ out cell now n) where
       pub next-ready : 0 < n → (m : ℕ) → m ≡ room → Ready bs at t E (left - 1) now cell m
       next-ready h m q =
           record {
@@ -187,7 +193,9 @@ module _ {bs : List ℕ} {at : ℕ} {E : List Axis} (t : ℕ) (v : Whole bs at E
 
   -- its length, and that it is short
   pub whole-long : (n : ℕ) → n ≡ cells E → length (jsonAt bs at t E) ≡ 9 + marks E + cellsLong (cellBy bs at t) 0 n
-  whole-long n e = ap length json-is ∙ json-long (cellBy bs at t) E whole-sound (v .some) ∙ ap (λ (m : ℕ). 9 + marks E + cellsLong (cellBy bs at t) 0 m) (sym e)
+  whole-long n e =
+      ap length json-is ∙ json-long (cellBy bs at t) E whole-sound (v .some)
+      ∙ ap (λ (m : ℕ). 9 + marks E + cellsLong (cellBy bs at t) 0 m) (sym e)
 
   pub whole-short : length (jsonAt bs at t E) < 2 ^ 32
   whole-short = omega (arith, whole-long (cells E) refl, json-short (cellBy bs at t) E whole-sound (v .rank) whole-few)
@@ -212,7 +220,8 @@ module _ {bs : List ℕ} {at : ℕ} {E : List Axis} (t : ℕ) (v : Whole bs at E
           fits = omega (arith, whole-fits);
         }
 
-    module _ (out : List ℕ) (first : ℕ) (out₁ : List ℕ) (p : Stored out 0 (text "{\"data\":") first out₁) (end next : ℕ) (out₂ : List ℕ) (d : Drawn bs at t E rank first 0 out₁ end next out₂) where
+    module _ (out : List ℕ) (first : ℕ) (out₁ : List ℕ) (p : Stored out 0 (text "{\"data\":") first out₁) (end next : ℕ) (out₂ : List ℕ)
+        (d : Drawn bs at t E rank first 0 out₁ end next out₂) where
       pub end-fits : end < room
       end-fits = omega (arith, p .0, d .drawn .0, whole-fits)
 
@@ -220,19 +229,18 @@ module _ {bs : List ℕ} {at : ℕ} {E : List Axis} (t : ℕ) (v : Whole bs at E
       whole-drawn r out₃ q =
           let T : List ℕ = textLeft (cellBy bs at t) E rank 0 in
           let w : Stored out 0 (text "{\"data\":" ++ (T ++ (125 ∷ []))) r out₃ =
-          stored-then out 0 (text "{\"data\":") first out₁ (T ++ (125 ∷ [])) r out₃ p (stored-then out₁ first T end out₂ (125 ∷ []) r out₃ (d .drawn) q) in
-          stored-as out 0 (text "{\"data\":" ++ (T ++ (125 ∷ []))) (jsonAt bs at t E) r out₃ (json-is ∙ ap (λ (l : List ℕ). text "{\"data\":" ++ (l ++ (125 ∷ []))) (sym whole-text)) w
+          stored-then out 0 (text "{\"data\":") first out₁ (T ++ (125 ∷ [])) r out₃ p
+          (stored-then out₁ first T end out₂ (125 ∷ []) r out₃ (d .drawn) q) in
+          stored-as out 0 (text "{\"data\":" ++ (T ++ (125 ∷ []))) (jsonAt bs at t E) r out₃
+          (json-is ∙ ap (λ (l : List ℕ). text "{\"data\":" ++ (l ++ (125 ∷ []))) (sym whole-text)) w
 
 -- ---- an array of a bundle
 
 -- it is valid
 nth-valid : (As : List Array) (k : ℕ) (A : Array) → EachValid As → nth As k ≡ some A → Valid A
-nth-valid As zero A v e = absurd (nothing A e)
-  where
-    nothing : (A : Array) → none ≡ some A → ⊥
-    nothing A e = let f : _≡_ {A = ℕ} 0 1 = cc in omega arith
-nth-valid [] (suc k) A v e = let f : _≡_ {A = ℕ} 0 1 = cc in absurd (omega arith)
-nth-valid (B ∷ As) (suc zero) A v e = let f : B ≡ A = cc in subst Valid f (v .0)
+nth-valid As zero A v e = absurd (no-none A e)
+nth-valid [] (suc k) A v e = absurd (no-none A e)
+nth-valid (B ∷ As) (suc zero) A v e = subst Valid (some-one B A e) (v .0)
 nth-valid (B ∷ As) (suc (suc k)) A v e = nth-valid As (suc k) A (v .1) e
 
 pub chosen-valid : (bs : List ℕ) (k : ℕ) (A : Array) → Bytes bs → chosen bs k ≡ got A → Valid A
@@ -242,19 +250,21 @@ chosen-valid bs k A b e =
     nth-valid (r .0) k A (bundle-read bs (r .0) b (r .1) .valid .each) (present-got (nth (r .0) k) (refusal unknown4 k 0) A (r .2))
 
 pub has-axis : (A : Array) → Valid A → 1 ≤ length (A .shape .axes)
-has-axis A v = leb-true 1 (length (A .shape .axes)) (and-left (leb 1 (length (A .shape .axes))) (leb (length (A .shape .axes)) mostAxes) (v .rank))
+has-axis A v = between-true mostAxes (length (A .shape .axes)) (v .rank) .0
 
 pub few-axes : (A : Array) → Valid A → length (A .shape .axes) ≤ mostAxes
-few-axes A v = leb-true (length (A .shape .axes)) mostAxes (and-right (leb 1 (length (A .shape .axes))) (leb (length (A .shape .axes)) mostAxes) (v .rank))
+few-axes A v = between-true mostAxes (length (A .shape .axes)) (v .rank) .1
 
 -- a refusal leaves the buffer, a text stands in front of what was there
-pub refused-both : (bs : List ℕ) (k : ℕ) (out : List ℕ) (x : Refusal) → written bs k (length out) ≡ refused x → (refused x ≡ writeJson bs k out .answer) × (out ≡ writeJson bs k out .out)
-unfolding packInto
+pub refused-both : (bs : List ℕ) (k : ℕ) (out : List ℕ) (x : Refusal) → written bs k (length out) ≡ refused x
+    → (refused x ≡ writeJson bs k out .answer) × (out ≡ writeJson bs k out .buffer)
+unfolding putInto
 refused-both bs k out x e = (rw e, rw e)
 
-pub got-both : (bs : List ℕ) (k : ℕ) (out w : List ℕ) (n r : ℕ) (last : List ℕ) → written bs k (length out) ≡ got w → length w ≤ length out → n ≡ length w → Stored out 0 w r last
-    → (got n ≡ writeJson bs k out .answer) × (last ≡ writeJson bs k out .out)
-unfolding packInto
+pub got-both : (bs : List ℕ) (k : ℕ) (out w : List ℕ) (n r : ℕ) (last : List ℕ) → written bs k (length out) ≡ got w → length w ≤ length out
+    → n ≡ length w → Stored out 0 w r last
+    → (got n ≡ writeJson bs k out .answer) × (last ≡ writeJson bs k out .buffer)
+unfolding putInto
 got-both bs k out w n r last e l q s =
     let z : 0 + length w ≡ length w = omega arith in
     (rw (e, q), rw e (s .1 ∙ sets-eq w out 0 (omega arith) ∙ ap (λ (m : ℕ). w ++ drop m out) z))
@@ -289,4 +299,9 @@ module _ {bs : List ℕ} {k : ℕ} {c : Chosen} (v : ChosenHead bs k c) (room : 
     unfolding arrayAt
     its-whole b =
         let w = chosen-valid bs k (arrayAt bs (c .head)) b (sym (its-array v y)) in
-        record { good = w .extent; some = has-axis (arrayAt bs (c .head)) w; rank = few-axes (arrayAt bs (c .head)) w; lies = v .fit y .fits }
+        record {
+          good = w .extent;
+          some = has-axis (arrayAt bs (c .head)) w;
+          rank = few-axes (arrayAt bs (c .head)) w;
+          lies = v .fit y .fits;
+        }

@@ -6,7 +6,7 @@ ghost use Prim.Native.Nat.{_+_, _*_, _^_, _<_, _≤_};
 ghost use lib.ListN.{length};
 ghost use Rattle.paper.specs.Limits.{mostCells, cellBytes};
 ghost use Rattle.paper.specs.Axes.{cells};
-ghost use Rattle.paper.specs.Answers.{axesOf, jsonSaid};
+ghost use Rattle.paper.specs.Answers.{axesOf, numberSaid};
 ghost use Rattle.paper.specs.Json.{cellText, writeJson};
 ghost use Rattle.laws.specs.Limits.{Sound};
 ghost use Rattle.json_write.specs.Stores.{Stored};
@@ -23,10 +23,11 @@ use paper::Axis;
 use paper::AxisIndex;
 use paper::Cell;
 use paper::Extent;
-use paper::JsonAnswer;
-use paper::Refusal;
+use paper::FLOAT;
+use paper::NumberAnswer;
 use refer::choose;
 use refer::held_cell;
+use refusals::refuse;
 
 // ---- how long the text is
 
@@ -201,36 +202,28 @@ fn put_json(out: &mut [u8], s: &[u8], from: usize, kind: u8, extent: Extent) -> 
 }
 
 // Array k of a bundle as JSON: the text's length, or the refusal; then `out` is as it was.
-pub fn write(s: &[u8], k: u32, out: &mut [u8]) -> JsonAnswer
-    ensures { λ r. ⌜ (jsonSaid r ≡ writeJson (now (s .entry)) k (now (out .entry)) .answer)
-        × (now (out .exit) ≡ writeJson (now (s .entry)) k (now (out .entry)) .out) ⌝ }
+pub fn write(s: &[u8], k: u32, out: &mut [u8]) -> NumberAnswer
+    ensures { λ r. ⌜ (numberSaid r ≡ writeJson (now (s .entry)) k (now (out .entry)) .answer)
+        × (now (out .exit) ≡ writeJson (now (s .entry)) k (now (out .entry)) .buffer) ⌝ }
 {
     let array = choose(s, k);
     let refusal = array.refusal;
     if refusal.number != 0 {
-        return JsonAnswer::Refused(refusal);
+        return NumberAnswer::Refused(refusal);
     }
     let head = array.head;
     let form = head.form;
     let kind = form.kind;
-    if kind == 2 {
-        return JsonAnswer::Refused(Refusal {
-            number: 7,
-            place: k,
-            ordinality: 0,
-        });
+    if kind == FLOAT {
+        return NumberAnswer::Refused(refuse(7, k));
     }
     let extent = form.extent;
     let from = head.at;
     let n = head.cells;
     let long = json_length(s, from, kind, extent, n);
     if out.len() < long {
-        return JsonAnswer::Refused(Refusal {
-            number: 14,
-            place: 0,
-            ordinality: 0,
-        });
+        return NumberAnswer::Refused(refuse(14, 0));
     }
     put_json(out, s, from, kind, extent);
-    JsonAnswer::Got(long as u32)
+    NumberAnswer::Got(long as u32)
 }

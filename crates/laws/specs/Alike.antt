@@ -7,9 +7,10 @@ use native.Mathlib.Omega.{arith}
 use borrow.Author.Tests.{eqb-true}
 use lib.Dec.{eqb}
 use lib.ListN.{length, drop}
+use Rattle.paper.specs.Numbers.{alike}
 use Rattle.paper.specs.declared.Axis.{Axis}
 use Rattle.paper.specs.Limits.{nameBytes}
-use Rattle.paper.specs.Axes.{cells, inside, offset, atOffset, alike}
+use Rattle.paper.specs.Axes.{cells, inside, offset, atOffset}
 use Rattle.paper.specs.Recipe.{sameLimits, renamed, eachAnew}
 use Rattle.laws.specs.Tests.{and-left, and-right}
 use Rattle.laws.specs.Places.{Inside, inside-true, true-inside}
@@ -71,7 +72,7 @@ cells-alike (a ∷ E) [] s = absurd s
 cells-alike (a ∷ E) (b ∷ F) s = rw (s .0, s .1, cells-alike E F (s .2))
 
 pub inside-alike : (E F : List Axis) (p : List ℕ) → SameLimits E F → inside E p ≡ inside F p
-unfolding inside
+unfolding alike
 inside-alike [] [] p s = refl
 inside-alike [] (b ∷ F) p s = absurd s
 inside-alike (a ∷ E) [] p s = absurd s

@@ -1,10 +1,13 @@
 -- The answers of the callable parts: two answers with the same figures are equal, so that a promise about the figures fixes the answer.
 -- A reading is a struct with room for the most arrays and axes: it is fixed where nothing stands past the last of each.
-use Prim.Native.Nat.{ℕ, _-_}
-use mathlib.Core.Path.{_≡_, refl, ap, ap₂, _∙_}
-use mathlib.Core.List.{List, [], _∷_, _++_, map}
-use borrow.Author.Tests.{eq-eqb, ne-eqb}
-use lib.ListN.{take, length, replicate, length-map}
+use Prim.Native.Nat.{ℕ, _-_, _≤_}
+use mathlib.Core.Path.{_≡_, refl}
+use mathlib.Core.Bool.{Bool, true, false}
+use mathlib.Core.List.{List, [], _++_, map}
+use native.Mathlib.Omega.{arith}
+use borrow.Author.Tests.{eq-eqb, ne-eqb, le-leb, leb-true}
+use lib.Dec.{leb}
+use lib.ListN.{length, replicate, length-take}
 use lib.Seq.{take-at}
 use Rattle.paper.specs.declared.Axis.{Axis}
 use Rattle.paper.specs.declared.Extent.{Extent}
@@ -13,17 +16,9 @@ use Rattle.paper.specs.declared.Head.{Head}
 use Rattle.paper.specs.declared.Reading.{Reading}
 use Rattle.paper.specs.declared.Refusal.{Refusal}
 use Rattle.paper.specs.Limits.{mostAxes, mostArrays}
-use Rattle.paper.specs.Refusals.{Res, got, refused, refusal}
+use Rattle.paper.specs.Refusals.{Res, got, refused, if_then_else_, refusal}
 use Rattle.paper.specs.Axes.{cells, noAxis, Shape, shaped}
-use Rattle.paper.specs.Answers.{axesOf, extentOf, shapeOf, unless, readSaid}
-use Rattle.paper.specs.declared.PackAnswer.the-variants as Pack
-use Rattle.paper.specs.declared.JsonAnswer.the-variants as Json
-use Rattle.paper.specs.declared.ReferenceAnswer.the-variants as Reference
-use Rattle.paper.specs.declared.WalkAnswer.the-variants as WalkCase
-use Rattle.paper.specs.declared.TotalAnswer.the-variants as Total
-use Rattle.paper.specs.declared.RunAnswer.the-variants as Run
-use Rattle.paper.specs.declared.PageAnswer.the-variants as Page
-use Rattle.paper.specs.declared.StretchAnswer.the-variants as Stretch
+use Rattle.paper.specs.Answers.{axisCount, axesOf, extentOf, shapeOf, unless}
 
 -- ---- answers that are structs: number 0 stands for no refusal
 
@@ -36,9 +31,22 @@ module _ {A : Type 0} (x : Refusal) (a : A) where
 
 -- ---- extents and readings
 
+pub count-few : (n : ℕ) → axisCount n ≤ mostAxes
+count-few n = by (leb n mostAxes) refl
+  where
+    by : (b : Bool) → leb n mostAxes ≡ b → (if b then n else 0) ≤ mostAxes
+    by true q = leb-true n mostAxes q
+    by false q = omega arith
+
 -- an extent has its own axes, where there is room for them
-pub extent-axes : (E : List Axis) → axesOf (extentOf E) ≡ E
-extent-axes E = take-at E (replicate (mostAxes - length E) noAxis) (length E) refl
+pub extent-axes : (E : List Axis) → length E ≤ mostAxes → axesOf (extentOf E) ≡ E
+unfolding axesOf
+extent-axes E h = rw (le-leb (length E) mostAxes h) (take-at E (replicate (mostAxes - length E) noAxis) (length E) refl)
+
+-- and never more than there is room for
+pub axes-few : (e : Extent) → length (axesOf e) ≤ mostAxes
+unfolding axesOf
+axes-few e = omega (arith, length-take (axisCount (e .rank)) (e .axes), count-few (e .rank))
 
 -- nothing stands past the last axis
 abbrev pub TidyExtent : Extent → Type 0
@@ -48,10 +56,10 @@ TidyExtent e = e ≡ extentOf (axesOf e)
 abbrev pub formOf : Shape → Form
 formOf s = record { kind = s .type; extent = extentOf (s .axes); maximum = extentOf (s .maximum) }
 
-pub form-shape : (s : Shape) → shapeOf (formOf s) ≡ s
-form-shape s =
-    let p = extent-axes (s .axes) in
-    let q = extent-axes (s .maximum) in
+pub form-shape : (s : Shape) → length (s .axes) ≤ mostAxes → length (s .maximum) ≤ mostAxes → shapeOf (formOf s) ≡ s
+form-shape s h k =
+    let p = extent-axes (s .axes) h in
+    let q = extent-axes (s .maximum) k in
     λ i. record { type = s .type; axes = p i; maximum = q i }
 
 abbrev pub headOf : Shape × ℕ → Head
@@ -64,17 +72,3 @@ noHead = record { form = formOf (shaped 0 [] []); at = 0; cells = 0 }
 abbrev pub readingOf : Res (List (Shape × ℕ)) → Reading
 readingOf (got l) = record { refusal = refusal 0 0 0; count = length l; heads = map headOf l ++ replicate (mostArrays - length l) noHead }
 readingOf (refused r) = record { refusal = r; count = 0; heads = replicate mostArrays noHead }
-
-heads-back : (l : List (Shape × ℕ)) → map (λ (h : Head). (shapeOf (h .form), h .at)) (map headOf l) ≡ l
-heads-back [] = refl
-heads-back (x ∷ l) = ap₂ (λ (s : Shape) (m : List (Shape × ℕ)). (s, x .1) ∷ m) (form-shape (x .0)) (heads-back l)
-
--- it says what was read
-pub reading-got : (l : List (Shape × ℕ)) → readSaid (readingOf (got l)) ≡ got l
-reading-got l =
-    let e : take (length l) (map headOf l ++ replicate (mostArrays - length l) noHead) ≡ map headOf l = take-at (map headOf l) _ (length l) (length-map l headOf) in
-    ap (λ (hs : List Head). got (map (λ (h : Head). (shapeOf (h .form), h .at)) hs)) e ∙ ap got (heads-back l)
-
--- or the refusal, whose number is never 0
-pub reading-refused : (r : Refusal) → (r .number ≡ 0 → ⊥) → readSaid (readingOf (refused r)) ≡ refused r
-reading-refused r h = unless-refused r _ h

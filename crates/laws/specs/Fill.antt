@@ -1,6 +1,6 @@
 -- An array's cells as bytes, w to a cell, and what a loop that writes them one after the other into a buffer cites: after k cells
 -- the buffer is `paste d at (bytesOf E f) (k * w)`, where d is the buffer before, at its place and f a coordinate's w bytes.
-use Prim.Native.Nat.{ℕ, zero, suc, _+_, _-_, _*_, _≤_, _<_}
+use Prim.Native.Nat.{ℕ, zero, suc, _+_, _*_, _≤_, _<_}
 use mathlib.Core.Path.{_≡_, sym, ap, ap₂, _∙_}
 use mathlib.Core.List.{List, [], _∷_, _++_, append-assoc}
 use native.Mathlib.Nat.{not-suc-le-zero, le-of-suc-le-suc, zero-mul, suc-mul, add-assoc, add-comm, mul-le-mul-right, le-of-lt}

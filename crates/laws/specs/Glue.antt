@@ -10,13 +10,16 @@ use borrow.Author.Tests.{leb-true, leb-false, ltb-true, ltb-false, le-leb, lt-le
 use lib.Dec.{leb, ltb}
 use lib.ListN.{length, getD, take, drop, length-append}
 use lib.Seq.{getD-at}
+use Rattle.paper.specs.Numbers.{alike}
 use Rattle.paper.specs.declared.Axis.{Axis}
 use Rattle.paper.specs.declared.Cell.the-variants.{Empty}
-use Rattle.paper.specs.declared.Operation.the-variants.{Glue}
+use Rattle.paper.specs.declared.Cell.{Cell}
+use Rattle.paper.specs.declared.Move.the-variants.{Glue}
+use Rattle.paper.specs.declared.Operation.the-variants.{Moves}
 use Rattle.paper.specs.Refusals.{if_then_else_}
-use Rattle.paper.specs.Axes.{width, cells, sameName, limited, offset, atOffset, axisAt, without, putIn, Array, at, alike}
+use Rattle.paper.specs.Axes.{width, cells, sameName, limited, offset, atOffset, axisAt, without, putIn, Array, at}
 use Rattle.paper.specs.Recipe.{agree, glued}
-use Rattle.paper.specs.Values.{inSecond, gluedCell}
+use Rattle.paper.specs.Values.{fromA, fromB, inSecond, gluedFrom, taken}
 use Rattle.laws.specs.Tests.{and-left, and-right}
 use Rattle.laws.specs.Places.{Inside, right-pos, offset-atOffset, atOffset-inside, inside-length}
 use Rattle.laws.specs.Limits.{Sound, sound-drop, sound-at, cells-pos}
@@ -80,7 +83,8 @@ module _ (pre post : List Axis) (a b : Axis) (ha : a .lo ≤ a .hi) where
         div-lt-iff-lt-mul {x = j} {y = cells pre} z .1 all-cells
 
     -- the coordinate of cell j
-    pub atOffset-glued : atOffset (pre ++ gluedAxis a b ∷ post) j ≡ atOffset pre block ++ (a .lo + inBlock / cells post) ∷ atOffset post (inBlock % cells post)
+    pub atOffset-glued : atOffset (pre ++ gluedAxis a b ∷ post) j
+        ≡ atOffset pre block ++ (a .lo + inBlock / cells post) ∷ atOffset post (inBlock % cells post)
     unfolding atOffset
     atOffset-glued =
         atOffset-append pre (gluedAxis a b ∷ post) j h
@@ -90,7 +94,8 @@ module _ (pre post : List Axis) (a b : Axis) (ha : a .lo ≤ a .hi) where
     front-length = inside-length pre (atOffset pre block) (atOffset-inside pre block block-lt)
 
     -- which cell of an array with the axis d in the place of the gluing axis has a coordinate that is n into that block
-    cell-of : (d : Axis) (n : ℕ) → offset (pre ++ d ∷ post) (atOffset pre block ++ (d .lo + n / cells post) ∷ atOffset post (n % cells post)) ≡ block * cells (d ∷ post) + n
+    cell-of : (d : Axis) (n : ℕ) → offset (pre ++ d ∷ post)
+        (atOffset pre block ++ (d .lo + n / cells post) ∷ atOffset post (n % cells post)) ≡ block * cells (d ∷ post) + n
     unfolding offset
     cell-of d n =
         let e : d .lo + n / cells post - d .lo ≡ n / cells post = omega arith in
@@ -137,7 +142,7 @@ pub record Gluable (k : ℕ) (E F : List Axis) : Type 0 where
   pub same : SameLimits (without k E) (without k F)
   pub sound : Sound E
 
-pub gluable : (k : ℕ) (E F : List Axis) → 1 ≤ k → k ≤ length E → Sound E → agree Glue k E F ≡ true → Gluable k E F
+pub gluable : (k : ℕ) (E F : List Axis) → 1 ≤ k → k ≤ length E → Sound E → agree (Moves Glue) k E F ≡ true → Gluable k E F
 unfolding agree
 gluable k E F one last s e =
     let l = alike-length sameName E F (and-left (alike sameName E F) _ e) in
@@ -293,6 +298,9 @@ module _ (k : ℕ) (E F : List Axis) (g : Gluable k E F) where
 
 -- ---- the paper's glued cell
 
+abbrev pub gluedCell : ℕ → Array → Array → List ℕ → Cell
+gluedCell k A B p = taken A B (gluedFrom k (A .shape .axes) (B .shape .axes) p)
+
 module _ (k : ℕ) (A B : Array) (g : Gluable k (A .shape .axes) (B .shape .axes)) where
   abbrev E : List Axis
   E = A .shape .axes
@@ -303,16 +311,16 @@ module _ (k : ℕ) (A B : Array) (g : Gluable k (A .shape .axes) (B .shape .axes
   -- at a coordinate of the glued extent
   module _ (p : List ℕ) (h : Inside (glued k E F) p) where
     pub gluedCell-first : getD p (k - 1) 0 ≤ axisAt k E .hi → gluedCell k A B p ≡ getD (A .cells) (offset E p) Empty
-    unfolding gluedCell
+    unfolding taken
     gluedCell-first l =
-        ap (λ (t : Bool). if t then at A p else at B (inSecond k E F p)) (le-leb _ _ l)
+        ap (λ (t : Bool). taken A B (if t then fromA p else fromB (inSecond k E F p))) (le-leb _ _ l)
         ∙ at-inside A p (glued-first k E F g p h l)
 
     pub gluedCell-second : axisAt k E .hi < getD p (k - 1) 0
         → gluedCell k A B p ≡ getD (B .cells) (offset F (inSecond k E F p)) Empty
-    unfolding gluedCell
+    unfolding taken
     gluedCell-second l =
-        ap (λ (t : Bool). if t then at A p else at B (inSecond k E F p)) (lt-leb _ _ l)
+        ap (λ (t : Bool). taken A B (if t then fromA p else fromB (inSecond k E F p))) (lt-leb _ _ l)
         ∙ at-inside B (inSecond k E F p) (glued-second k E F g p h l)
 
   -- cell j of the glued array: a block of A and a block of B in turn

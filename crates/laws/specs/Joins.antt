@@ -33,7 +33,8 @@ offset-append (a ∷ E) F (x ∷ p) q h =
     ∙ ap (λ (n : ℕ). n + offset F q) (sym (add-mul ((x - a .lo) * cells E) (offset E p) (cells F)))
 
 -- a coordinate, likewise
-pub atOffset-append : (E F : List Axis) (k : ℕ) → k < cells (E ++ F) → atOffset (E ++ F) k ≡ atOffset E (k / cells F) ++ atOffset F (k % cells F)
+pub atOffset-append : (E F : List Axis) (k : ℕ) → k < cells (E ++ F)
+    → atOffset (E ++ F) k ≡ atOffset E (k / cells F) ++ atOffset F (k % cells F)
 unfolding atOffset cells
 atOffset-append [] F k h = ap (atOffset F) (sym (mod-eq-of-lt h))
 atOffset-append (a ∷ E) F k h =

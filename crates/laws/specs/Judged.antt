@@ -52,7 +52,8 @@ unfolding cellsOf firstBad cellsFrom
 cells-judged zero k t o bs h = refl
 cells-judged (suc n) k t o bs h = by (cells-judged n k t (o + 1) (drop cellBytes bs) (omega arith)) (cellOf t (take cellBytes bs))
   where
-    by : cellsOf k t (o + 1) n (drop cellBytes bs) ≡ judged k (firstBad t (o + 1) n (drop cellBytes bs)) (cellsFrom t n (drop cellBytes bs)) → (c : Option Cell)
+    by : cellsOf k t (o + 1) n (drop cellBytes bs) ≡ judged k (firstBad t (o + 1) n (drop cellBytes bs)) (cellsFrom t n (drop cellBytes bs))
+        → (c : Option Cell)
         → (present c (refusal badCell3 k o) >>= (λ c. cellsOf k t (o + 1) n (drop cellBytes bs) >>= (λ cs. got (c ∷ cs))))
         ≡ judged k (if is? c then firstBad t (o + 1) n (drop cellBytes bs) else o) (orEmpty c ∷ cellsFrom t n (drop cellBytes bs))
     by q none = let f : eqb o 0 ≡ false = ne-eqb o 0 (λ e. omega arith) in rw f
@@ -75,7 +76,8 @@ module _ (s : List ℕ) (at t n i : ℕ) (h : i < n) where
       → firstBad t (i + 1 + 1) (n - (i + 1)) (drop (at + (i + 1) * cellBytes) s) ≡ firstBad t (i + 1) (n - i) (drop (at + i * cellBytes) s)
   bad-more e = sym (bad-turn ∙ rw e)
 
-  pub bad-here : is? (cellOf t (take cellBytes (drop (at + i * cellBytes) s))) ≡ false → i + 1 ≡ firstBad t (i + 1) (n - i) (drop (at + i * cellBytes) s)
+  pub bad-here : is? (cellOf t (take cellBytes (drop (at + i * cellBytes) s))) ≡ false
+      → i + 1 ≡ firstBad t (i + 1) (n - i) (drop (at + i * cellBytes) s)
   bad-here e = sym (bad-turn ∙ rw e)
 
 pub bad-none : (s : List ℕ) (at t n i : ℕ) → n ≤ i → 0 ≡ firstBad t (i + 1) (n - i) (drop (at + i * cellBytes) s)
@@ -95,7 +97,8 @@ unfolding cellsFrom
 length-cells t zero bs = refl
 length-cells t (suc n) bs = ap suc (length-cells t n (drop cellBytes bs))
 
-pub cell-no : (n t i : ℕ) (bs : List ℕ) → i < n → getD (cellsFrom t n bs) i Empty ≡ orEmpty (cellOf t (take cellBytes (drop (i * cellBytes) bs)))
+pub cell-no : (n t i : ℕ) (bs : List ℕ) → i < n → getD (cellsFrom t n bs) i Empty
+    ≡ orEmpty (cellOf t (take cellBytes (drop (i * cellBytes) bs)))
 unfolding cellsFrom
 cell-no zero t i bs h = absurd (omega arith)
 cell-no (suc n) t zero bs h = refl
@@ -107,7 +110,8 @@ judged-first : (b : Bool) (x o : ℕ) → 0 < o → (if b then x else o) ≡ 0 �
 judged-first true x o p z = (refl, z)
 judged-first false x o p z = absurd (omega arith)
 
-pub cell-is : (n t o i : ℕ) (bs : List ℕ) → 0 < o → firstBad t o n bs ≡ 0 → i < n → is? (cellOf t (take cellBytes (drop (i * cellBytes) bs))) ≡ true
+pub cell-is : (n t o i : ℕ) (bs : List ℕ) → 0 < o → firstBad t o n bs ≡ 0 → i < n
+    → is? (cellOf t (take cellBytes (drop (i * cellBytes) bs))) ≡ true
 unfolding firstBad
 cell-is zero t o i bs p z h = absurd (omega arith)
 cell-is (suc n) t o zero bs p z h = judged-first (is? (cellOf t (take cellBytes bs))) _ o p z .0

@@ -82,7 +82,8 @@ module _ {C : Type 0} (f : C → Bool) (d : C) where
       by false q s = subst (Rising m d) (sym (keep-no c l q)) s
 
 -- where a number of each rises, no two are the same
-pub rising-once : {C : Type 0} (m : C → ℕ) (d : C) (l : List C) → Rising m d l → (i j : ℕ) → i < length l → j < length l → getD l i d ≡ getD l j d → i ≡ j
+pub rising-once : {C : Type 0} (m : C → ℕ) (d : C) (l : List C) → Rising m d l → (i j : ℕ) → i < length l → j < length l
+    → getD l i d ≡ getD l j d → i ≡ j
 rising-once m d l r i j h k e = by (leb i j) (leb j i) refl refl
   where
     not-before : (a b : ℕ) → a < b → b < length l → getD l a d ≡ getD l b d → ⊥

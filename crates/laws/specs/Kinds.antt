@@ -71,7 +71,8 @@ truth b = refl
 
 -- ---- two cells
 
-fine-worked : (f : ℤ → ℤ → Answer) (g : Ieee.Float → Ieee.Float → Answer) → ((x y : ℤ) → Fine INT (f x y)) → ((x y : Ieee.Float) → Fine FLOAT (g x y))
+fine-worked : (f : ℤ → ℤ → Answer) (g : Ieee.Float → Ieee.Float → Answer) → ((x y : ℤ) → Fine INT (f x y))
+    → ((x y : Ieee.Float) → Fine FLOAT (g x y))
     → (kind : ℕ) (a b : Cell) → OfKind kind a → Fine kind (worked f g (two a b))
 unfolding worked two OfKind
 fine-worked f g p q kind Empty b h = tt

@@ -17,17 +17,20 @@ use Rattle.paper.specs.declared.PairOp.the-variants.{Add, Sub, Mul, Div, Mod, E
 use Rattle.paper.specs.declared.SingleOp.{SingleOp}
 use Rattle.paper.specs.declared.SingleOp.the-variants.{Negate, Absolute, Not, IsEmpty, IsTrue, IsFalse, IsUnknown}
 use Rattle.paper.specs.declared.Operation.{Operation}
-use Rattle.paper.specs.declared.Operation.the-variants.{Trim, Slice, Reshape, Shift, Rename, Update, Put, Glue, Pair, RightScalar, LeftScalar, Single}
+use Rattle.paper.specs.declared.Operation.the-variants.{Moves, Works}
+use Rattle.paper.specs.declared.Work.{Work}
+use Rattle.paper.specs.declared.Work.the-variants.{Pair, Scalar, Single}
+use Rattle.paper.specs.declared.Hand.the-variants.{Right, Left}
 use Rattle.paper.specs.Limits.{smallestInt, largestInt}
 use Rattle.paper.specs.Numbers.{from}
 use Rattle.paper.specs.Refusals.{Res, got, refused, _>>=_, if_then_else_, refusal, noFit12, byZero13}
-use Rattle.paper.specs.Axes.{build, atOffset, cells, Shape, Array}
+use Rattle.paper.specs.Axes.{build, atOffset, cells, at, Shape, Array}
 use Rattle.paper.specs.Cells.{finite}
 use Rattle.paper.specs.declared.Two.{Two}
 use Rattle.paper.specs.declared.Two.the-variants.{Ints, Floats, Truths, OneEmpty, Unlike}
 use Rattle.paper.specs.Operators.{fitInt, fitFloat, eqZ, intBy, floatDiv, two, worked, compared, signed, applied, answered, pairCell, singleCell}
 use Rattle.paper.specs.Recipe.{Step, Planned}
-use Rattle.paper.specs.Values.{cellAt, settled, operandArray, valueOf, valuesFrom}
+use Rattle.paper.specs.Values.{made, scalar, cellAt, settled, operandArray, valueOf, valuesFrom}
 use Rattle.laws.specs.Tests.{bind-refused, none-refused}
 use lib.Ieee as Ieee
 
@@ -60,7 +63,8 @@ float-div-late : (x y : Ieee.Float) → Late (floatDiv x y)
 unfolding floatDiv
 float-div-late x y = if-late (Ieee.eq y (Ieee.fin false 0 (pos 0))) (Refused byZero13) (fitFloat (Ieee.div Ieee.binary64 x y)) (inr refl) (float-late (Ieee.div Ieee.binary64 x y))
 
-worked-late : (f : ℤ → ℤ → Answer) (g : Ieee.Float → Ieee.Float → Answer) → ((x y : ℤ) → Late (f x y)) → ((x y : Ieee.Float) → Late (g x y)) → (t : Two) → Late (worked f g t)
+worked-late : (f : ℤ → ℤ → Answer) (g : Ieee.Float → Ieee.Float → Answer) → ((x y : ℤ) → Late (f x y)) → ((x y : Ieee.Float) → Late (g x y))
+    → (t : Two) → Late (worked f g t)
 unfolding worked
 worked-late f g h k (Ints x y) = h x y
 worked-late f g h k (Floats x y) = k x y
@@ -109,20 +113,17 @@ single-late IsTrue c = tt
 single-late IsFalse c = tt
 single-late IsUnknown c = tt
 
+made-late : (w : Work) (a b c : Cell) → Late (made w a b c)
+unfolding made
+made-late (Pair o) a b c = pair-late o a b
+made-late (Scalar Right o) a b c = pair-late o a c
+made-late (Scalar Left o) a b c = pair-late o c a
+made-late (Single o) a b c = single-late o a
+
 pub cell-late : (o : Operation) (s : Step) (A B : Array) (p : List ℕ) → Late (cellAt o s A B p)
 unfolding cellAt
-cell-late Trim s A B p = tt
-cell-late Slice s A B p = tt
-cell-late Reshape s A B p = tt
-cell-late Shift s A B p = tt
-cell-late Rename s A B p = tt
-cell-late Update s A B p = tt
-cell-late Put s A B p = tt
-cell-late Glue s A B p = tt
-cell-late (Pair o) s A B p = pair-late o _ _
-cell-late (RightScalar o) s A B p = pair-late o _ _
-cell-late (LeftScalar o) s A B p = pair-late o _ _
-cell-late (Single o) s A B p = single-late o _
+cell-late (Moves m) s A B p = tt
+cell-late (Works w) s A B p = made-late w (at A p) (at B p) (scalar s A)
 
 abbrev AllLate : List Answer → Type 0
 AllLate [] = Unit {0}
@@ -145,29 +146,32 @@ settled-late (a ∷ l) k o r h e = by (bind-refused (answered k o a) next r e) (
     next : Cell → Res (List Cell)
     next c = settled k (o + 1) l >>= (λ cs. got (c ∷ cs))
 
-    also : (c : Cell) → (settled k (o + 1) l ≡ refused r) ⊎ ((cs : List Cell) × (got (c ∷ cs) ≡ refused r)) → (settled k (o + 1) l ≡ refused r → Either (r .number)) → Either (r .number)
+    also : (c : Cell) → (settled k (o + 1) l ≡ refused r) ⊎ ((cs : List Cell) × (got (c ∷ cs) ≡ refused r))
+        → (settled k (o + 1) l ≡ refused r → Either (r .number)) → Either (r .number)
     also c (inl d) f = f d
     also c (inr d) f = absurd (none-refused (c ∷ d .0) r (d .1))
 
-    by : (answered k o a ≡ refused r) ⊎ ((c : Cell) × (next c ≡ refused r)) → (settled k (o + 1) l ≡ refused r → Either (r .number)) → Either (r .number)
+    by : (answered k o a ≡ refused r) ⊎ ((c : Cell) × (next c ≡ refused r)) → (settled k (o + 1) l ≡ refused r → Either (r .number))
+        → Either (r .number)
     by (inl d) f = answered-late a k o r (h .0) d
     by (inr d) f = also (d .0) (bind-refused (settled k (o + 1) l) (λ cs. got (d .0 ∷ cs)) r (d .1)) f
 
-made : Shape → List Cell → Res Array
-made s cs = got (record { shape = s; cells = cs })
+whole : Shape → List Cell → Res Array
+whole s cs = got (record { shape = s; cells = cs })
 
 value-late : (k : ℕ) (arrays earlier : List Array) (p : Planned) (r : Refusal) → valueOf k arrays earlier p ≡ refused r → Either (r .number)
-unfolding valueOf build made
-value-late k arrays earlier p r e = by (bind-refused (settled k 1 (build (p .shape .axes) g)) (made (p .shape)) r e)
+unfolding valueOf build whole
+value-late k arrays earlier p r e = by (bind-refused (settled k 1 (build (p .shape .axes) g)) (whole (p .shape)) r e)
   where
     g : List ℕ → Answer
     g = cellAt (p .step .operation) (p .step) (operandArray arrays earlier (p .step .a)) (operandArray arrays earlier (p .step .b))
 
-    by : (settled k 1 (build (p .shape .axes) g) ≡ refused r) ⊎ ((cs : List Cell) × (made (p .shape) cs ≡ refused r)) → Either (r .number)
+    by : (settled k 1 (build (p .shape .axes) g) ≡ refused r) ⊎ ((cs : List Cell) × (whole (p .shape) cs ≡ refused r)) → Either (r .number)
     by (inl d) = settled-late _ k 1 r (map-late (λ j. g (atOffset (p .shape .axes) j)) (λ j. cell-late (p .step .operation) (p .step) _ _ (atOffset (p .shape .axes) j)) (from 0 (cells (p .shape .axes)))) d
     by (inr d) = absurd (none-refused _ r (d .1))
 
-pub values-late : (ps : List Planned) (k : ℕ) (arrays earlier : List Array) (r : Refusal) → valuesFrom k arrays earlier ps ≡ refused r → Either (r .number)
+pub values-late : (ps : List Planned) (k : ℕ) (arrays earlier : List Array) (r : Refusal) → valuesFrom k arrays earlier ps ≡ refused r
+    → Either (r .number)
 unfolding valuesFrom
 values-late [] k arrays earlier r e = absurd (none-refused [] r e)
 values-late (p ∷ ps) k arrays earlier r e = by (bind-refused (valueOf k arrays earlier p) next r e) (λ A d. values-late ps (k + 1) arrays (earlier ++ (A ∷ [])) r d)
@@ -175,10 +179,12 @@ values-late (p ∷ ps) k arrays earlier r e = by (bind-refused (valueOf k arrays
     next : Array → Res (List Array)
     next A = valuesFrom (k + 1) arrays (earlier ++ (A ∷ [])) ps >>= (λ As. got (A ∷ As))
 
-    by : (valueOf k arrays earlier p ≡ refused r) ⊎ ((A : Array) × (next A ≡ refused r)) → ((A : Array) → valuesFrom (k + 1) arrays (earlier ++ (A ∷ [])) ps ≡ refused r → Either (r .number)) → Either (r .number)
+    by : (valueOf k arrays earlier p ≡ refused r) ⊎ ((A : Array) × (next A ≡ refused r))
+        → ((A : Array) → valuesFrom (k + 1) arrays (earlier ++ (A ∷ [])) ps ≡ refused r → Either (r .number)) → Either (r .number)
     by (inl d) f = value-late k arrays earlier p r d
     by (inr d) f = also (bind-refused (valuesFrom (k + 1) arrays (earlier ++ (d .0 ∷ [])) ps) (λ As. got (d .0 ∷ As)) r (d .1))
       where
-        also : (valuesFrom (k + 1) arrays (earlier ++ (d .0 ∷ [])) ps ≡ refused r) ⊎ ((As : List Array) × (got (d .0 ∷ As) ≡ refused r)) → Either (r .number)
+        also : (valuesFrom (k + 1) arrays (earlier ++ (d .0 ∷ [])) ps ≡ refused r) ⊎ ((As : List Array) × (got (d .0 ∷ As) ≡ refused r))
+            → Either (r .number)
         also (inl x) = f (d .0) x
         also (inr x) = absurd (none-refused (d .0 ∷ x .0) r (x .1))

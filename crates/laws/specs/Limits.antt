@@ -9,9 +9,10 @@ use native.Mathlib.Omega.{arith}
 use borrow.Author.Tests.{leb-true, le-leb}
 use lib.Dec.{leb}
 use lib.ListN.{length, getD, take, drop}
+use Rattle.paper.specs.Numbers.{alike}
 use Rattle.paper.specs.declared.Axis.{Axis}
 use Rattle.paper.specs.Limits.{reach, mostCells}
-use Rattle.paper.specs.Axes.{cells, goodNames, goodLimits, goodExtent, alike, within}
+use Rattle.paper.specs.Axes.{cells, goodNames, goodLimits, goodExtent, within}
 use Rattle.laws.specs.Tests.{and-left, and-right, and-both}
 
 -- ---- in range, and lower at most upper
@@ -43,7 +44,8 @@ sound-drop E zero h = h
 sound-drop [] (suc i) h = tt
 sound-drop (a ∷ E) (suc i) h = sound-drop E i (h .2)
 
-pub sound-at : (E : List Axis) (i : ℕ) (d : Axis) → Sound E → i < length E → (getD E i d .lo ≤ getD E i d .hi) × (getD E i d .hi ≤ 2 * reach)
+pub sound-at : (E : List Axis) (i : ℕ) (d : Axis) → Sound E → i < length E
+    → (getD E i d .lo ≤ getD E i d .hi) × (getD E i d .hi ≤ 2 * reach)
 sound-at [] i d h k = absurd (not-suc-le-zero k)
 sound-at (a ∷ E) zero d h k = (h .0, h .1)
 sound-at (a ∷ E) (suc i) d h k = sound-at E i d (h .2) (le-of-suc-le-suc k)

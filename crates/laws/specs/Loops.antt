@@ -10,6 +10,7 @@ use native.Mathlib.Omega.{arith}
 use lib.Arith.{mod-mul, digits-div, digits-mod}
 use lib.ListN.{length, getD, take, drop, set, length-set, length-take, length-map}
 use lib.Seq.{drop-cons, getD-take, drop-length, take-set-lt, drop-set-lt, getD-set-same}
+use Rattle.paper.specs.Numbers.{alike}
 use Rattle.paper.specs.declared.Axis.{Axis}
 use Rattle.paper.specs.Limits.{reach, mostCells}
 use Rattle.paper.specs.Axes.{width, cells, onAxis, inside, offset, atOffset}
@@ -52,7 +53,8 @@ module _ (l : List Axis) (r : ℕ) (h : r ≤ length l) where
   unfolding cells
   cells-none = sym (ap cells (drop-first l r h))
 
-  pub cells-down : (i : ℕ) (d : Axis) → 0 < i → i ≤ r → cells (drop (i - 1) (take r l)) ≡ width (getD l (i - 1) d) * cells (drop i (take r l))
+  pub cells-down : (i : ℕ) (d : Axis) → 0 < i → i ≤ r
+      → cells (drop (i - 1) (take r l)) ≡ width (getD l (i - 1) d) * cells (drop i (take r l))
   unfolding cells
   cells-down i d p k = ap cells (drop-down l r h i d p k)
 
@@ -81,15 +83,16 @@ module _ (l : List Axis) (p : List ℕ) (r : ℕ) (h : r ≤ length l) (k : r �
   -- `inside`, on the way up: the axes left
   pub inside-up : (i : ℕ) (d : Axis) (z : ℕ) → i < r
       → inside (drop i (take r l)) (drop i (take r p)) ≡ (onAxis (getD l i d) (getD p i z) && inside (drop (i + 1) (take r l)) (drop (i + 1) (take r p)))
-  unfolding inside
+  unfolding alike
   inside-up i d z b = rw (drop-first-cons l r h i d b, drop-first-cons p r k i z b, add-one)
 
   pub inside-end : (i : ℕ) → i ≤ r → r ≤ i → inside (drop i (take r l)) (drop i (take r p)) ≡ true
-  unfolding inside
+  unfolding alike
   inside-end i b c = let e : i ≡ r = omega arith in rw (e, drop-first l r h, drop-first p r k)
 
   -- the limits hold at the axis that a loop is at
-  pub inside-first : (i : ℕ) (d : Axis) (z : ℕ) → Inside (take r l) (take r p) → i < r → (getD l i d .lo ≤ getD p i z) × (getD p i z ≤ getD l i d .hi)
+  pub inside-first : (i : ℕ) (d : Axis) (z : ℕ) → Inside (take r l) (take r p) → i < r
+      → (getD l i d .lo ≤ getD p i z) × (getD p i z ≤ getD l i d .hi)
   inside-first i d z s b =
       let t = rw (drop-first-cons l r h i d b, drop-first-cons p r k i z b) at (inside-drop (take r l) (take r p) i s) in
       (t .0, t .1)
@@ -105,7 +108,8 @@ module _ (l : List Axis) (p : List ℕ) (r : ℕ) (h : r ≤ length l) (k : r �
   offset-down i d z b c = rw (drop-down l r h i d b c, drop-down p r k i z b c)
 
   -- what is summed so far is an offset into the axes done
-  pub offset-few : (i : ℕ) → Sound (take r l) → Inside (take r l) (take r p) → offset (drop i (take r l)) (drop i (take r p)) < cells (take r l)
+  pub offset-few : (i : ℕ) → Sound (take r l) → Inside (take r l) (take r p)
+      → offset (drop i (take r l)) (drop i (take r p)) < cells (take r l)
   offset-few i s t = omega (arith, offset-lt (drop i (take r l)) (drop i (take r p)) (inside-drop (take r l) (take r p) i t), cells-drop (take r l) i s)
 
 -- ---- the coordinate of an offset, on the way down
@@ -119,7 +123,8 @@ module _ (l : List Axis) (r : ℕ) (h : r ≤ length l) (s : Sound (take r l)) w
   unfolding cells
   left-none k = rw (drop-first l r h) (sym (div-one k))
 
-  pub left-down : (k i : ℕ) (d : Axis) → 0 < i → i ≤ r → k / cells (drop i (take r l)) / width (getD l (i - 1) d) ≡ k / cells (drop (i - 1) (take r l))
+  pub left-down : (k i : ℕ) (d : Axis) → 0 < i → i ≤ r
+      → k / cells (drop i (take r l)) / width (getD l (i - 1) d) ≡ k / cells (drop (i - 1) (take r l))
   left-down k i d b c = rw (cells-down l r h i d b c, mul-comm (width (getD l (i - 1) d)) (cells (drop i (take r l)))) (div-div-eq-div-mul k (cells (drop i (take r l))) (width (getD l (i - 1) d)))
 
   pub atOffset-down : (k i : ℕ) (d : Axis) → 0 < i → i ≤ r
@@ -135,5 +140,6 @@ module _ (l : List Axis) (r : ℕ) (h : r ≤ length l) (s : Sound (take r l)) w
       (simp (digits-div (k / cells (drop i (take r l)) % width (getD l (i - 1) d)) m, digits-mod (k / cells (drop i (take r l)) % width (getD l (i - 1) d)) m))
 
   -- at the end of the way
-  pub atOffset-whole : (k i : ℕ) → i ≤ 0 → k < cells (take r l) → atOffset (drop i (take r l)) (k % cells (drop i (take r l))) ≡ atOffset (take r l) k
+  pub atOffset-whole : (k i : ℕ) → i ≤ 0 → k < cells (take r l)
+      → atOffset (drop i (take r l)) (k % cells (drop i (take r l))) ≡ atOffset (take r l) k
   atOffset-whole k i b c = rw (drop-none (take r l) i b, mod-eq-of-lt c)

@@ -35,7 +35,8 @@ module _ (d : List ℕ) (at : ℕ) (x : List ℕ) (h : at + length x ≤ length 
       rw (e, f, t, append-assoc (take at d) x y, ← drop-drop (length y) (at + length x) (put d at x), r, drop-drop (length y) (at + length x) d)
 
 -- a part after another, each put by a call of its own
-pub after : (d : List ℕ) (at : ℕ) (x w y z : List ℕ) (n : ℕ) → at + length x ≤ length d → n ≡ at + length x → y ≡ put d at x → z ≡ put y n w → z ≡ put d at (x ++ w)
+pub after : (d : List ℕ) (at : ℕ) (x w y z : List ℕ) (n : ℕ) → at + length x ≤ length d → n ≡ at + length x → y ≡ put d at x → z ≡ put y n w
+    → z ≡ put d at (x ++ w)
 after d at x w y z n h e p q = q ∙ ap (λ (u : List ℕ). put u n w) p ∙ put-put d at x h n w e
 
 -- ---- bytes copied from another buffer

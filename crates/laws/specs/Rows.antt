@@ -1,25 +1,20 @@
--- Rows: the bytes of a coordinate's row are its ordinality and its positions, and read so they give them back, so that no two
--- coordinates have one row; and rows one after the other are found again, each at its place.
-use Prim.Native.Nat.{ℕ, zero, suc, _+_, _-_, _*_, _/_, _%_, _≤_, _<_}
+-- Rows: the bytes of a coordinate's row, as many as a row has; and rows one after the other are found again, each at its place.
+use Prim.Native.Nat.{ℕ, zero, suc, _+_, _-_, _*_, _/_, _%_, _<_}
 use mathlib.Core.Path.{_≡_, refl, sym, ap, _∙_}
 use mathlib.Core.Bool.{true}
 use mathlib.Core.List.{List, [], _∷_, _++_, map, map-append}
 use native.Mathlib.Omega.{arith}
-use lib.ListN.{length, take, getD, length-append, length-map}
-use lib.Seq.{ext-getD, take-at, drop-append-add}
+use lib.ListN.{length, getD, length-append, length-map}
 use mir.Syntax.{w32}
-use mir.Val.{toZ, ofZ}
+use mir.Val.{ofZ}
 use Rattle.paper.specs.declared.Axis.{Axis}
-use Rattle.paper.specs.Limits.{reach, mostCells, limitBytes}
-use Rattle.paper.specs.Numbers.{leOf, leBytes, positionAt, position, distance, positionBytes, part, concat}
-use Rattle.paper.specs.Axes.{cells, goodLimits, inside, ordinality, atOffset, coordinate, Shape}
+use Rattle.paper.specs.Limits.{limitBytes}
+use Rattle.paper.specs.Numbers.{leBytes, position, positionBytes, part, concat}
+use Rattle.paper.specs.Axes.{cells, inside, ordinality, atOffset, coordinate, Shape}
 use Rattle.paper.specs.Listing.{rowBytes, row}
-use Rattle.laws.specs.Places.{Inside, inside-true, inside-length, offset-atOffset, ordinality-bounds}
-use Rattle.laws.specs.Limits.{Sound, limits-true}
+use Rattle.laws.specs.Places.{inside-true, inside-length, offset-atOffset}
 use Rattle.laws.specs.Lists.{concat-append}
 use Rattle.laws.specs.Fill.{Each, length-concat, piece-concat}
-use Rattle.laws.specs.Numbers.{leOf-leBytes}
-use Rattle.laws.specs.Positions.{position-read}
 
 -- the row of a coordinate: its ordinality, and each of its positions
 unfoldable pub rowOf : List Axis → List ℕ → List ℕ
@@ -64,7 +59,8 @@ length-position : (x : ℕ) → length (positionBytes x) ≡ limitBytes
 length-position x = length-bytes limitBytes (ofZ w32 (position x))
 
 -- an ordinality and a coordinate of as many positions as a shape has axes: the bytes of a row
-length-fields : (s : Shape) (o : ℕ) (p : List ℕ) → length p ≡ length (s .axes) → length (leBytes limitBytes o ++ concat (map positionBytes p)) ≡ rowBytes s
+length-fields : (s : Shape) (o : ℕ) (p : List ℕ) → length p ≡ length (s .axes)
+    → length (leBytes limitBytes o ++ concat (map positionBytes p)) ≡ rowBytes s
 length-fields s o p e =
     omega (arith, length-append (leBytes limitBytes o) (concat (map positionBytes p)), length-bytes limitBytes o, concat-length positionBytes limitBytes 0 p (λ i b. length-position (getD p i 0)))
 
@@ -85,39 +81,6 @@ rowsOf s os = concat (map (row s) os)
 pub length-rows : (s : Shape) (os : List ℕ) → length (rowsOf s os) ≡ length os * rowBytes s
 unfolding row
 length-rows s os = concat-length (row s) (rowBytes s) 0 os (λ i b. let o = getD os i 0 in length-fields s o (coordinate (s .axes) o) (length-atOffset (s .axes) (o - 1)))
-
--- a row's first number is the ordinality
-pub row-ordinality : (E : List Axis) (p : List ℕ) → cells E ≤ mostCells → inside E p ≡ true → leOf (take limitBytes (rowOf E p)) ≡ ordinality E p
-unfolding rowOf
-row-ordinality E p c e =
-    let h = inside-true E p e in
-    ap leOf (take-at (leBytes limitBytes (ordinality E p)) (concat (map positionBytes p)) limitBytes (length-bytes limitBytes (ordinality E p)))
-    ∙ leOf-leBytes limitBytes (ordinality E p) (omega (arith, ordinality-bounds E p h))
-
--- a position inside an extent in range is in range
-in-range : (E : List Axis) (p : List ℕ) (i : ℕ) → Sound E → Inside E p → getD p i 0 ≤ 2 * reach
-in-range [] [] i s h = omega arith
-in-range [] (x ∷ p) i s h = absurd h
-in-range (a ∷ E) [] i s h = absurd h
-in-range (a ∷ E) (x ∷ p) zero s h = omega arith
-in-range (a ∷ E) (x ∷ p) (suc i) s h = in-range E p i (s .2) (h .2)
-
--- a row's numbers after the first are the positions
-pub row-position : (E : List Axis) (p : List ℕ) (i : ℕ) → goodLimits E ≡ true → inside E p ≡ true → i < length p → positionAt (limitBytes + limitBytes * i) (rowOf E p) ≡ getD p i 0
-unfolding rowOf
-row-position E p i g e h =
-    let o = leBytes limitBytes (ordinality E p) in
-    let l : limitBytes + limitBytes * i ≡ length o + i * limitBytes = omega (arith, length-bytes limitBytes (ordinality E p)) in
-    ap (λ (k : ℕ). positionAt k (o ++ concat (map positionBytes p))) l
-    ∙ ap (λ (bs : List ℕ). distance (toZ w32 (leOf (take limitBytes bs)))) (drop-append-add o (concat (map positionBytes p)) (i * limitBytes))
-    ∙ ap (λ (bs : List ℕ). distance (toZ w32 (leOf bs))) (concat-at positionBytes limitBytes 0 p i h (λ j b. length-position (getD p j 0)))
-    ∙ position-read (getD p i 0) (in-range E p i (limits-true E g) (inside-true E p e))
-
--- so no two coordinates inside an extent in range have one row
-pub row-one : (E : List Axis) (p q : List ℕ) → goodLimits E ≡ true → inside E p ≡ true → inside E q ≡ true → rowOf E p ≡ rowOf E q → p ≡ q
-row-one E p q g h k e =
-    let l : length p ≡ length q = inside-length E p (inside-true E p h) ∙ sym (inside-length E q (inside-true E q k)) in
-    ext-getD 0 p q l (λ i b. sym (row-position E p i g h b) ∙ ap (positionAt (limitBytes + limitBytes * i)) e ∙ row-position E q i g k (omega arith))
 
 -- the listing's row of an ordinality is its coordinate's row
 pub row-at : (s : Shape) (k : ℕ) → k < cells (s .axes) → row s (k + 1) ≡ rowOf (s .axes) (atOffset (s .axes) k)

@@ -11,16 +11,21 @@ use lib.ListN.{getD}
 use Rattle.paper.specs.Limits.{BOOLEAN}
 use Rattle.paper.specs.Refusals.{if_then_else_}
 use Rattle.paper.specs.Numbers.{positionAt}
-use Rattle.paper.specs.Axes.{Shape, Array, inside, ordinality, at, putIn, without}
+use Rattle.paper.specs.Axes.{Array, inside, ordinality, at, without}
 use Rattle.paper.specs.Cells.{isType, filled}
 use Rattle.paper.specs.Operators.{pairNo, singleNo, gives, givesOne}
-use Rattle.paper.specs.Recipe.{Step, scalarOf, typesFit, resultOf}
-use Rattle.paper.specs.Values.{shiftedBack, overlaid, inFirst, inSecond, gluedCell, scalar, cellAt}
+use Rattle.paper.specs.Recipe.{Step, scalarOf, uses, typesFit, resultType}
+use Rattle.paper.specs.Values.{Whence, fromA, fromB, nowhere, overlaid, inFirst, whence, taken, made, scalar, cellAt}
 use Rattle.paper.specs.declared.Answer.the-variants.{Is}
 use Rattle.paper.specs.declared.Cell.{Cell}
 use Rattle.paper.specs.declared.Cell.the-variants.{Empty}
 use Rattle.paper.specs.declared.Operation.{Operation}
-use Rattle.paper.specs.declared.Operation.the-variants.{Trim, Slice, Reshape, Shift, Rename, Update, Put, Glue, Pair, RightScalar, LeftScalar, Single}
+use Rattle.paper.specs.declared.Operation.the-variants.{Moves, Works}
+use Rattle.paper.specs.declared.Move.{Move}
+use Rattle.paper.specs.declared.Move.the-variants.{Trim, Slice, Reshape, Shift, Rename, Update, Put, Glue}
+use Rattle.paper.specs.declared.Hand.the-variants.{Right, Left}
+use Rattle.paper.specs.declared.Work.{Work}
+use Rattle.paper.specs.declared.Work.the-variants.{Pair, Scalar, Single}
 use Rattle.paper.specs.declared.PairOp.{PairOp}
 use Rattle.paper.specs.declared.PairOp.the-variants.{Mod}
 use Rattle.paper.specs.declared.SingleOp.{SingleOp}
@@ -53,60 +58,52 @@ scalar-kept s A t h = by (filled (A .shape .type) (scalarOf s)) refl
 
 -- ---- a step's cell
 
-module _ (t : ℕ) (B A : Array) (q p : List ℕ) (b : OfKind t (at B q)) (a : OfKind t (at A p)) where
-  overlaid-kept : OfKind t (overlaid B q A p)
-  unfolding overlaid
-  overlaid-kept = one-of t (inside (B .shape .axes) q) (at B q) (at A p) b a
-
 is-one : (c d : Cell) → Is c ≡ Is d → c ≡ d
 is-one c d e = cc
 
-module _ (s : Step) (A B : Array) (p : List ℕ) (c : Cell) where
+-- where cells are moved: A's, B's, which has A's type, or an empty one
+module _ (s : Step) (A B : Array) (p : List ℕ) (k : Kept A) (l : Kept B) where
   abbrev kind : ℕ
   kind = A .shape .type
 
-  moved : (d : Cell) → OfKind kind d → Is d ≡ Is c → OfKind kind c
-  moved d h e = subst (OfKind kind) (is-one d c e) h
+  either : (b : Bool) (v w : Whence) → OfKind kind (taken A B v) → OfKind kind (taken A B w) → OfKind kind (taken A B (if b then v else w))
+  either true v w x y = x
+  either false v w x y = y
 
-  module _ (k : Kept A) (l : Kept B) (same : eqb kind (B .shape .type) ≡ true) where
-    first : (x : List ℕ) → OfKind kind (at A x)
-    first x = at-kept A x k
+  first : (q : List ℕ) → OfKind kind (at A q)
+  first q = at-kept A q k
 
-    second : (x : List ℕ) → OfKind kind (at B x)
-    second x = subst (λ (u : ℕ). OfKind u (at B x)) (sym (eqb-true kind (B .shape .type) same)) (at-kept B x l)
+  second : eqb kind (B .shape .type) ≡ true → (q : List ℕ) → OfKind kind (at B q)
+  second e q = subst (λ (u : ℕ). OfKind u (at B q)) (sym (eqb-true kind (B .shape .type) e)) (at-kept B q l)
 
-    put-kept : OfKind kind (if eqb (getD p (s .axis - 1) 0) (positionAt 0 (s .detail)) then overlaid B (without (s .axis) p) A p else at A p)
-    put-kept =
-        one-of kind (eqb (getD p (s .axis - 1) 0) (positionAt 0 (s .detail))) _ (at A p)
-        (overlaid-kept kind B A (without (s .axis) p) p (second (without (s .axis) p)) (first p)) (first p)
+  moved-kept : (m : Move) → typesFit (Moves m) s kind (B .shape .type) ≡ true
+      → OfKind kind (taken A B (whence m s (A .shape .axes) (B .shape .axes) p))
+  unfolding typesFit uses whence taken
+  moved-kept Trim f = first p
+  moved-kept Slice f = first _
+  moved-kept Reshape f = either (inside (A .shape .axes) p) (fromA p) nowhere (first p) (nothing kind)
+  moved-kept Shift f = first _
+  moved-kept Rename f = first p
+  moved-kept Update f = either (inside (B .shape .axes) p) (fromB p) (fromA p) (second f p) (first p)
+  moved-kept Put f =
+      either (eqb (getD p (s .axis - 1) 0) (positionAt 0 (s .detail))) (overlaid (B .shape .axes) (without (s .axis) p) p) (fromA p)
+      (either (inside (B .shape .axes) (without (s .axis) p)) (fromB _) (fromA p) (second f _) (first p)) (first p)
+  moved-kept Glue f = either (inFirst (s .axis) (A .shape .axes) p) (fromA p) (fromB _) (first p) (second f _)
 
-    glued-kept : OfKind kind (gluedCell (s .axis) A B p)
-    unfolding gluedCell
-    glued-kept =
-        let q : List ℕ = inSecond (s .axis) (A .shape .axes) (B .shape .axes) p in
-        one-of kind (inFirst (s .axis) (A .shape .axes) p) (at A p) (at B q) (first p) (second q)
+-- where they are worked out
+made-kept : (w : Work) (t : ℕ) (a b x c : Cell) → OfKind t a → OfKind t x → made w a b x ≡ Is c → OfKind (resultType (Works w) t) c
+unfolding made resultType
+made-kept (Pair o) t a b x c k l e = pair-kind o t a b c k e
+made-kept (Scalar Right o) t a b x c k l e = pair-kind o t a x c k e
+made-kept (Scalar Left o) t a b x c k l e = pair-kind o t x a c l e
+made-kept (Single o) t a b x c k l e = single-kind o t a c k e
 
 -- each cell of a step's result is of the result's type
 pub cell-kept : (op : Operation) (s : Step) (A B : Array) (p : List ℕ) (c : Cell) → isType (A .shape .type) ≡ true → Kept A → Kept B
-    → typesFit op s (A .shape .type) (B .shape .type) ≡ true → scalarOf s < 2 ^ 64 → cellAt op s A B p ≡ Is c → OfKind (resultOf op s (A .shape) (B .shape) .type) c
-unfolding cellAt typesFit resultOf
-cell-kept Trim s A B p c t k l f h e = moved s A B p c (at A p) (at-kept A p k) e
-cell-kept Slice s A B p c t k l f h e =
-    let q : List ℕ = putIn (s .axis) (positionAt 0 (s .detail)) p in
-    moved s A B p c (at A q) (at-kept A q k) e
-cell-kept Reshape s A B p c t k l f h e = moved s A B p c (at A p) (at-kept A p k) e
-cell-kept Shift s A B p c t k l f h e =
-    let q : List ℕ = shiftedBack p (s .detail) in
-    moved s A B p c (at A q) (at-kept A q k) e
-cell-kept Rename s A B p c t k l f h e = moved s A B p c (at A p) (at-kept A p k) e
-cell-kept Update s A B p c t k l f h e =
-    moved s A B p c (overlaid B p A p) (overlaid-kept (A .shape .type) B A p p (second s A B p c k l f p) (at-kept A p k)) e
-cell-kept Put s A B p c t k l f h e = moved s A B p c _ (put-kept s A B p c k l f) e
-cell-kept Glue s A B p c t k l f h e = moved s A B p c (gluedCell (s .axis) A B p) (glued-kept s A B p c k l f) e
-cell-kept (Pair o) s A B p c t k l f h e = pair-kind o (A .shape .type) (at A p) (at B p) c (at-kept A p k) e
-cell-kept (RightScalar o) s A B p c t k l f h e = pair-kind o (A .shape .type) (at A p) (scalar s A) c (at-kept A p k) e
-cell-kept (LeftScalar o) s A B p c t k l f h e = pair-kind o (A .shape .type) (scalar s A) (at A p) c (scalar-kept s A t h) e
-cell-kept (Single o) s A B p c t k l f h e = single-kind o (A .shape .type) (at A p) c (at-kept A p k) e
+    → typesFit op s (A .shape .type) (B .shape .type) ≡ true → scalarOf s < 2 ^ 64 → cellAt op s A B p ≡ Is c → OfKind (resultType op (A .shape .type)) c
+unfolding cellAt resultType
+cell-kept (Moves m) s A B p c t k l f h e = subst (OfKind (A .shape .type)) (is-one _ c e) (moved-kept s A B p k l m f)
+cell-kept (Works w) s A B p c t k l f h e = made-kept w (A .shape .type) (at A p) (at B p) (scalar s A) c (at-kept A p k) (scalar-kept s A t h) e
 
 -- ---- the result's type
 
@@ -123,17 +120,9 @@ unfolding givesOne
 single-type o t h = typed (leb (singleNo o) (singleNo Absolute)) t h
 
 -- the result's type is a type
-pub result-type : (op : Operation) (s : Step) (A B : Shape) → isType (A .type) ≡ true → isType (resultOf op s A B .type) ≡ true
-unfolding resultOf
-result-type Trim s A B h = h
-result-type Slice s A B h = h
-result-type Reshape s A B h = h
-result-type Shift s A B h = h
-result-type Rename s A B h = h
-result-type Update s A B h = h
-result-type Put s A B h = h
-result-type Glue s A B h = h
-result-type (Pair o) s A B h = pair-type o (A .type) h
-result-type (RightScalar o) s A B h = pair-type o (A .type) h
-result-type (LeftScalar o) s A B h = pair-type o (A .type) h
-result-type (Single o) s A B h = single-type o (A .type) h
+pub result-type : (op : Operation) (t : ℕ) → isType t ≡ true → isType (resultType op t) ≡ true
+unfolding resultType
+result-type (Moves m) t h = h
+result-type (Works (Pair o)) t h = pair-type o t h
+result-type (Works (Scalar d o)) t h = pair-type o t h
+result-type (Works (Single o)) t h = single-type o t h

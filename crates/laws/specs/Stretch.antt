@@ -17,11 +17,11 @@ use Rattle.paper.specs.declared.Cell.the-variants.{Empty}
 use Rattle.paper.specs.Refusals.{if_then_else_}
 use Rattle.paper.specs.Axes.{cells, ordinality, atOffset, coordinate, build, Array}
 use Rattle.paper.specs.Recipe.{glued}
-use Rattle.paper.specs.Values.{inFirst, inSecond, gluedCell}
+use Rattle.paper.specs.Values.{inFirst, inSecond}
 use Rattle.paper.specs.Stretch.{stay}
 use Rattle.laws.specs.Places.{right-pos, length-build, getD-build}
 use Rattle.laws.specs.Limits.{Sound}
-use Rattle.laws.specs.Glue.{turn, inTurn, byTurns, blockCells, block-pos, Gluable, cells-first, cells-second, cells-blocks, glued-side, glued-left, glued-right, gluedCell-at}
+use Rattle.laws.specs.Glue.{turn, inTurn, byTurns, blockCells, block-pos, Gluable, cells-first, cells-second, cells-blocks, glued-side, glued-left, glued-right, gluedCell, gluedCell-at}
 
 -- ---- turns of w cells
 
@@ -55,7 +55,8 @@ module _ {C : Type 0} (d : C) (m n : ℕ) (cs ds : List C) (j i : ℕ) where
       let e : turn m n (j + i) * m + inTurn m n (j + i) ≡ turn m n j * m + inTurn m n j + i = omega (arith, ap (λ (x : ℕ). x * m) (t .0), t .1) in
       ap₂ (λ (b : Bool) (x : ℕ). if b then getD cs x d else getD ds (turn m n (j + i) * n + (inTurn m n (j + i) - m)) d) l e
 
-  pub turns-right : m ≤ inTurn m n j → inTurn m n j + i < m + n → byTurns d m n cs ds (j + i) ≡ getD ds (turn m n j * n + (inTurn m n j - m) + i) d
+  pub turns-right : m ≤ inTurn m n j → inTurn m n j + i < m + n
+      → byTurns d m n cs ds (j + i) ≡ getD ds (turn m n j * n + (inTurn m n j - m) + i) d
   turns-right g h =
       let t = same-turn (m + n) j i h in
       let l : ltb (inTurn m n (j + i)) m ≡ false = le-ltb (inTurn m n (j + i)) m (omega (arith, t .1)) in
@@ -108,10 +109,12 @@ module _ (k : ℕ) (E F : List Axis) (g : Gluable k E F) (o : ℕ) (one : 1 ≤ 
       omega (arith, e, turn-fits (cells (take (k - 1) E)) (wa + wb) (o - 1) (omega (arith, e)))
 
   -- on which side the coordinate i further lies
-  left-side : (i : ℕ) → o - 1 + i < cells (glued k E F) → inTurn wa wb (o - 1 + i) < wa → inFirst k E (atOffset (glued k E F) (o - 1 + i)) ≡ true
+  left-side : (i : ℕ) → o - 1 + i < cells (glued k E F) → inTurn wa wb (o - 1 + i) < wa
+      → inFirst k E (atOffset (glued k E F) (o - 1 + i)) ≡ true
   left-side i h l = glued-side k E F g (o - 1 + i) h ∙ lt-ltb (inTurn wa wb (o - 1 + i)) wa l
 
-  right-side : (i : ℕ) → o - 1 + i < cells (glued k E F) → wa ≤ inTurn wa wb (o - 1 + i) → inFirst k E (atOffset (glued k E F) (o - 1 + i)) ≡ false
+  right-side : (i : ℕ) → o - 1 + i < cells (glued k E F) → wa ≤ inTurn wa wb (o - 1 + i)
+      → inFirst k E (atOffset (glued k E F) (o - 1 + i)) ≡ false
   right-side i h l = glued-side k E F g (o - 1 + i) h ∙ le-ltb (inTurn wa wb (o - 1 + i)) wa l
 
   pub stay-left : Sound F → inTurn wa wb (o - 1) < wa → stay true (inFirst k E) (onward (glued k E F) o) ≡ wa - inTurn wa wb (o - 1)
@@ -166,7 +169,8 @@ module _ (k : ℕ) (A B : Array) (g : Gluable k (A .shape .axes) (B .shape .axes
       let h : o - 1 < cells (take (k - 1) E) * (m + n) = omega (arith, e) in
       div-lt-iff-lt-mul {x = o - 1} {y = cells (take (k - 1) E)} (right-pos (cells (take (k - 1) E)) (m + n) (o - 1) h) .1 h
 
-  cell : (i : ℕ) → o - 1 + i < cells G → getD (build G (gluedCell k A B)) (o - 1 + i) Empty ≡ byTurns Empty m n (A .cells) (B .cells) (o - 1 + i)
+  cell : (i : ℕ) → o - 1 + i < cells G → getD (build G (gluedCell k A B)) (o - 1 + i) Empty
+      ≡ byTurns Empty m n (A .cells) (B .cells) (o - 1 + i)
   cell i h = getD-build G (gluedCell k A B) (o - 1 + i) Empty h ∙ gluedCell-at k A B g (o - 1 + i) h
 
   pub stretch-left : inFirst k E (coordinate G o) ≡ true

@@ -1,13 +1,15 @@
--- What it says of a `do` block's lines that the whole was accepted or refused: each test in turn. Laws take an accepted block apart by
--- the first group, put one together by the second, and follow a refusal by the third.
+-- Tests: truth values joined, and what it says of a `do` block's lines that the whole was accepted or refused, each test in turn. Laws
+-- take an accepted block apart, put one together, and follow a refusal.
 use mathlib.Core.Path.{_≡_, refl, ap}
 use mathlib.Core.Bool.{Bool, true, false, _&&_}
 use mathlib.Core.Logic.{_⊎_, inl, inr}
 use mathlib.Core.Option.{Option, none, some}
-use Prim.Native.Nat.{ℕ}
+use Prim.Native.Nat.{ℕ, _≤_}
 use native.Mathlib.Omega.{arith}
+use borrow.Author.Tests.{leb-true}
+use lib.Dec.{leb}
 use Rattle.paper.specs.declared.Refusal.{Refusal}
-use Rattle.paper.specs.Refusals.{Res, got, refused, _>>=_, _>>_, ensure, present}
+use Rattle.paper.specs.Refusals.{Res, got, refused, _>>=_, _>>_, ensure, present, between}
 
 -- ---- a test made of two parts
 
@@ -21,6 +23,39 @@ and-right false c e = cc
 
 pub and-both : {b c : Bool} → b ≡ true → c ≡ true → (b && c) ≡ true
 and-both e f = rw (e, f)
+
+pub and-no : (b c : Bool) → b ≡ false → false ≡ (b && c)
+and-no b c e = rw e
+
+pub and-yes : (b c : Bool) → b ≡ true → c ≡ (b && c)
+and-yes b c e = rw e
+
+pub and-none : (b : Bool) → (b && false) ≡ false
+and-none true = refl
+and-none false = refl
+
+pub and-true : (b : Bool) → (b && true) ≡ b
+and-true true = refl
+and-true false = refl
+
+pub and-and : (x y z : Bool) → (x && (y && z)) ≡ ((x && y) && z)
+and-and true y z = refl
+and-and false y z = refl
+
+pub no-both : (b : Bool) → b ≡ true → b ≡ false → ⊥
+no-both b e f = let z : _≡_ {A = ℕ} 0 1 = cc in omega arith
+
+-- k is 1 to n
+pub between-true : (n k : ℕ) → between 1 n k ≡ true → (1 ≤ k) × (k ≤ n)
+between-true n k e = (leb-true 1 k (and-left (leb 1 k) (leb k n) e), leb-true k n (and-right (leb 1 k) (leb k n) e))
+
+-- ---- what is there, and what isn't
+
+pub some-one : {A : Type 0} (x y : A) → some x ≡ some y → x ≡ y
+some-one x y e = cc
+
+pub no-none : {A : Type 0} (x : A) → none ≡ some x → ⊥
+no-none x e = let z : _≡_ {A = ℕ} 0 1 = cc in omega arith
 
 -- ---- what an accepted test was
 
@@ -37,6 +72,10 @@ bind-got (refused r) f b e = absurd (no-refusal r b e)
 pub ensure-got : {B : Type 0} (t : Bool) (n k : ℕ) (m : Res B) (b : B) → (ensure t n k >> m) ≡ got b → (t ≡ true) × (m ≡ got b)
 ensure-got true n k m b e = (refl, e)
 ensure-got false n k m b e = absurd (no-refusal _ b e)
+
+pub ensured : (t : Bool) (n k : ℕ) → ensure t n k ≡ got tt → t ≡ true
+ensured true n k e = refl
+ensured false n k e = absurd (no-refusal _ tt e)
 
 pub present-got : {A : Type 0} (o : Option A) (r : Refusal) (a : A) → present o r ≡ got a → o ≡ some a
 present-got (some x) r a e = ap some (got-one x a e)
@@ -55,6 +94,7 @@ bind-yes m f a e = rw e
 pub none-refused : {A : Type 0} (a : A) (r : Refusal) → got a ≡ refused r → ⊥
 none-refused a r e = let z : _≡_ {A = ℕ} 0 1 = cc in omega arith
 
-pub bind-refused : {A B : Type 0} (m : Res A) (f : A → Res B) (r : Refusal) → (m >>= f) ≡ refused r → (m ≡ refused r) ⊎ ((a : A) × (f a ≡ refused r))
+pub bind-refused : {A B : Type 0} (m : Res A) (f : A → Res B) (r : Refusal) → (m >>= f) ≡ refused r
+    → (m ≡ refused r) ⊎ ((a : A) × (f a ≡ refused r))
 bind-refused (got a) f r e = inr (a, e)
 bind-refused (refused x) f r e = inl (ap refused (let q : x ≡ r = cc in q))

@@ -33,7 +33,8 @@ with-none (suc r) p x e = absurd (omega arith)
 abbrev raised : List Axis → List ℕ → ℕ → List ℕ
 raised E q d = take (length E) q ++ ((getD q (length E) 0 + d) ∷ [])
 
-raised-inside : (a : Axis) (E : List Axis) (q : List ℕ) (d : ℕ) → Inside (a ∷ E) q → getD q (length E) 0 + d ≤ getD (a ∷ E) (length E) noAxis .hi → Inside (a ∷ E) (raised E q d)
+raised-inside : (a : Axis) (E : List Axis) (q : List ℕ) (d : ℕ) → Inside (a ∷ E) q
+    → getD q (length E) 0 + d ≤ getD (a ∷ E) (length E) noAxis .hi → Inside (a ∷ E) (raised E q d)
 raised-inside a E [] d h b = absurd h
 raised-inside a [] (x ∷ []) d h b = (omega arith, omega arith, tt)
 raised-inside a [] (x ∷ y ∷ q) d h b = absurd (h .2)
@@ -50,10 +51,12 @@ module _ (a : Axis) (E : List Axis) (k d : ℕ) (h : k < cells (a ∷ E)) where
   abbrev q : List ℕ
   q = coordinate (a ∷ E) (k + 1)
 
-  raised-coordinate : getD (coordinate (a ∷ E) (k + 1)) (length E) 0 + d ≤ getD (a ∷ E) (length E) noAxis .hi → raised E (coordinate (a ∷ E) (k + 1)) d ≡ coordinate (a ∷ E) (k + d + 1)
+  raised-coordinate : getD (coordinate (a ∷ E) (k + 1)) (length E) 0 + d ≤ getD (a ∷ E) (length E) noAxis .hi
+      → raised E (coordinate (a ∷ E) (k + 1)) d ≡ coordinate (a ∷ E) (k + d + 1)
   raised-coordinate b =
       let i = coordinate-inside (a ∷ E) (k + 1) (omega arith) (omega arith) in
-      let o : ordinality (a ∷ E) (raised E q d) ≡ k + d + 1 = omega (arith, raised-offset a E q d i, offset-atOffset (a ∷ E) (k + 1 - 1) (omega arith)) in
+      let o : ordinality (a ∷ E) (raised E q d) ≡ k + d + 1 =
+      omega (arith, raised-offset a E q d i, offset-atOffset (a ∷ E) (k + 1 - 1) (omega arith)) in
       sym (coordinate-ordinality (a ∷ E) (raised E q d) (raised-inside a E q d i b)) ∙ ap (coordinate (a ∷ E)) o
 
 -- p is at cell k, counted from 0, and its last position raised by d is still on the axis
@@ -63,11 +66,14 @@ unfolding atOffset
 further [] r k d x p l h e f = with-none r p x l
 further (a ∷ E) r k d x p l h e f =
     let m : r - 1 ≡ length E = omega arith in
-    let t : take (r - 1) p ≡ take (length E) (coordinate (a ∷ E) (k + 1)) = sym (take-take (r - 1) r p (omega arith)) ∙ ap₂ (λ (j : ℕ) (u : List ℕ). take j u) m e in
-    let g : getD p (r - 1) 0 ≡ getD (coordinate (a ∷ E) (k + 1)) (length E) 0 = sym (getD-take r p (r - 1) 0 (omega arith)) ∙ ap₂ (λ (j : ℕ) (u : List ℕ). getD u j 0) m e in
+    let t : take (r - 1) p ≡ take (length E) (coordinate (a ∷ E) (k + 1)) =
+    sym (take-take (r - 1) r p (omega arith)) ∙ ap₂ (λ (j : ℕ) (u : List ℕ). take j u) m e in
+    let g : getD p (r - 1) 0 ≡ getD (coordinate (a ∷ E) (k + 1)) (length E) 0 =
+    sym (getD-take r p (r - 1) 0 (omega arith)) ∙ ap₂ (λ (j : ℕ) (u : List ℕ). getD u j 0) m e in
     let z : x ≡ getD (coordinate (a ∷ E) (k + 1)) (length E) 0 + d = omega (arith, f (omega arith)) in
     let b : axisAt r (a ∷ E) .hi ≡ getD (a ∷ E) (length E) noAxis .hi = ap (λ (j : ℕ). getD (a ∷ E) j noAxis .hi) m in
-    with-last r p x (omega arith) ∙ ap₂ (λ (u : List ℕ) (v : ℕ). u ++ (v ∷ [])) t z ∙ raised-coordinate a E k d h (omega (arith, f (omega arith)))
+    with-last r p x (omega arith) ∙ ap₂ (λ (u : List ℕ) (v : ℕ). u ++ (v ∷ [])) t z
+    ∙ raised-coordinate a E k d h (omega (arith, f (omega arith)))
 
 -- ---- the line that a loop over the cells is on, of an extent with r axes
 
@@ -102,7 +108,8 @@ pub line-none : (E : List Axis) (r top : ℕ) (p : List ℕ) (k : ℕ) → InLin
 line-none E r top p k j h b = absurd (omega arith)
 
 -- the same line, where cell k is on it, and at the next cell
-module _ (E : List Axis) (r top : ℕ) (p : List ℕ) (end k : ℕ) (v : InLine E r top p end k) (q : List ℕ) (z : ℕ) (e : q ≡ p) (f : z ≡ end) where
+module _ (E : List Axis) (r top : ℕ) (p : List ℕ) (end k : ℕ) (v : InLine E r top p end k) (q : List ℕ) (z : ℕ) (e : q ≡ p)
+    (f : z ≡ end) where
   pub line-still : k < end → OnLine E r top q z k
   line-still h = rw (e, f) (h, v)
 
@@ -110,21 +117,31 @@ module _ (E : List Axis) (r top : ℕ) (p : List ℕ) (end k : ℕ) (v : InLine 
   line-more = rw (e, f) (λ j h b. v j (omega arith) b)
 
 -- found at cell k
-module _ (E : List Axis) (r top : ℕ) (l : r ≡ length E) (t : LineTop E r top) (p : List ℕ) (k : ℕ) (h : k < cells E) (e : take r p ≡ coordinate E (k + 1)) where
+module _ (E : List Axis) (r top : ℕ) (l : r ≡ length E) (t : LineTop E r top) (p : List ℕ) (k : ℕ) (h : k < cells E)
+    (e : take r p ≡ coordinate E (k + 1)) where
   pub line-below : r ≤ mostAxes → Below p r top
   line-below m =
       record {
         few = m;
         some = t .some;
         last = λ b.
-            let g : getD p (r - 1) 0 ≡ getD (coordinate E (k + 1)) (r - 1) 0 = sym (getD-take r p (r - 1) 0 (omega arith)) ∙ ap (λ (u : List ℕ). getD u (r - 1) 0) e in
-            omega (arith, t .last b, inside-axis r E b (omega arith) (coordinate E (k + 1)) (coordinate-inside E (k + 1) (omega arith) (omega arith)));
+            let g : getD p (r - 1) 0 ≡ getD (coordinate E (k + 1)) (r - 1) 0 =
+            sym (getD-take r p (r - 1) 0 (omega arith)) ∙ ap (λ (u : List ℕ). getD u (r - 1) 0) e in
+            omega (
+              arith,
+              t .last b,
+              inside-axis r E b (omega arith) (coordinate E (k + 1))
+                  (coordinate-inside E (k + 1) (omega arith) (omega arith)),
+            );
       }
 
   line-left : (n : ℕ) → Left p r top n → InLine E r top p (k + n) k
   line-left n v j g b =
-      let x : k + (j - k) + 1 ≡ j + 1 = omega arith in
-      (omega (arith, v .upto), further E r k (j - k) (top - (k + n - j)) p l h e (λ m. omega (arith, v .last m, t .last m)) ∙ ap (coordinate E) x)
+      let x : k + (j - k) + 1 ≡ j + 1 = omega arith in (
+        omega (arith, v .upto),
+        further E r k (j - k) (top - (k + n - j)) p l h e (λ m. omega (arith, v .last m, t .last m))
+            ∙ ap (coordinate E) x,
+      )
 
   pub line-found : (n : ℕ) → Left p r top n → (q : List ℕ) (z : ℕ) → q ≡ p → z ≡ k + n → OnLine E r top q z k
   line-found n v q z c d = rw (c, d) (omega (arith, v .some), line-left n v)

@@ -43,10 +43,12 @@ pub record ListedAs (work : List ℕ) (at : ℕ) (E : List Axis) (start : ℕ) (
 -- ---- the next cell
 
 cell-next : (t n at k : ℕ) (bs : List ℕ) → k < n
-    → drop k (cellsFrom t n (drop at bs)) ≡ orEmpty (cellOf t (part (at + k * cellBytes) cellBytes bs)) ∷ drop (k + 1) (cellsFrom t n (drop at bs))
+    → drop k (cellsFrom t n (drop at bs))
+    ≡ orEmpty (cellOf t (part (at + k * cellBytes) cellBytes bs)) ∷ drop (k + 1) (cellsFrom t n (drop at bs))
 cell-next t n at k bs h =
     let cs = cellsFrom t n (drop at bs) in
-    let c : getD (cellsFrom t n (drop at bs)) k Empty ≡ orEmpty (cellOf t (part (at + k * cellBytes) cellBytes bs)) = cell-no n t k (drop at bs) h ∙ ap (λ (x : List ℕ). orEmpty (cellOf t (take cellBytes x))) (drop-drop (k * cellBytes) at bs) in
+    let c : getD (cellsFrom t n (drop at bs)) k Empty ≡ orEmpty (cellOf t (part (at + k * cellBytes) cellBytes bs)) =
+    cell-no n t k (drop at bs) h ∙ ap (λ (x : List ℕ). orEmpty (cellOf t (take cellBytes x))) (drop-drop (k * cellBytes) at bs) in
     drop-cons cs k Empty (omega (arith, length-cells t n (drop at bs))) ∙ ap₂ (λ (x : Cell) (j : ℕ). x ∷ drop j cs) c (sym (add-one k))
 
 -- ---- the loop: k cells passed, w rows written
@@ -73,7 +75,8 @@ over-more bs x d at n e f =
     let t : take at (over bs d) ≡ bs = take-at bs (drop (length bs) d) at (sym e) in
     let r : drop at (over bs d) ≡ drop (length bs) d = drop-at bs (drop (length bs) d) at (sym e) in
     let q : length bs + n ≡ length (bs ++ x) = omega (arith, length-append bs x) in
-    let u : drop (at + n) (over bs d) ≡ drop (length (bs ++ x)) d = sym (drop-drop n at (over bs d)) ∙ ap (drop n) r ∙ drop-drop n (length bs) d ∙ ap (λ (j : ℕ). drop j d) q in
+    let u : drop (at + n) (over bs d) ≡ drop (length (bs ++ x)) d =
+    sym (drop-drop n at (over bs d)) ∙ ap (drop n) r ∙ drop-drop n (length bs) d ∙ ap (λ (j : ℕ). drop j d) q in
     rw (t, u, take-all n x (omega arith))
 
 module _ (s : Shape) (cs : List Cell) (first room : ℕ) (d₀ : List ℕ) where
@@ -93,11 +96,13 @@ module _ (s : Shape) (cs : List Cell) (first room : ℕ) (d₀ : List ℕ) where
         last = λ h. absurd (omega arith);
       }
 
-  module _ (d : List ℕ) (k w : ℕ) (v : Going s cs first room d₀ d k w) (h : k < length cs) (g : w < room) (c : Cell) (q : drop k cs ≡ c ∷ drop (k + 1) cs) where
+  module _ (d : List ℕ) (k w : ℕ) (v : Going s cs first room d₀ d k w) (h : k < length cs) (g : w < room) (c : Cell)
+      (q : drop k cs ≡ c ∷ drop (k + 1) cs) where
     -- a cell that is not TRUE
     pub going-no : isTrue c ≡ false → Going s cs first room d₀ d (k + 1) w
     going-no t =
-        let e : trues (k + 1) (drop k cs) ≡ trues (k + 1 + 1) (drop (k + 1) cs) = ap (trues (k + 1)) q ∙ trues-no (k + 1) c (drop (k + 1) cs) t in
+        let e : trues (k + 1) (drop k cs) ≡ trues (k + 1 + 1) (drop (k + 1) cs) =
+        ap (trues (k + 1)) q ∙ trues-no (k + 1) c (drop (k + 1) cs) t in
         record {
           done = v .done;
           many = v .many;
@@ -111,23 +116,31 @@ module _ (s : Shape) (cs : List Cell) (first room : ℕ) (d₀ : List ℕ) where
         }
 
     -- a TRUE one, whose row was put
-    pub going-yes : isTrue c ≡ true → w * rowBytes s + rowBytes s ≤ length d₀ → (y : List ℕ) → y ≡ paste d (w * rowBytes s) (row s (k + 1)) (rowBytes s) → Going s cs first room d₀ y (k + 1) (w + 1)
+    pub going-yes : isTrue c ≡ true → w * rowBytes s + rowBytes s ≤ length d₀ → (y : List ℕ)
+        → y ≡ paste d (w * rowBytes s) (row s (k + 1)) (rowBytes s) → Going s cs first room d₀ y (k + 1) (w + 1)
     unfolding concat
     going-yes t f y p =
-        let e : trues (k + 1) (drop k cs) ≡ (k + 1) ∷ trues (k + 1 + 1) (drop (k + 1) cs) = ap (trues (k + 1)) q ∙ trues-yes (k + 1) c (drop (k + 1) cs) t in
+        let e : trues (k + 1) (drop k cs) ≡ (k + 1) ∷ trues (k + 1 + 1) (drop (k + 1) cs) =
+        ap (trues (k + 1)) q ∙ trues-yes (k + 1) c (drop (k + 1) cs) t in
         let m : room - w ≡ suc (room - (w + 1)) = omega arith in
-        let n : take (room - w) (trues (k + 1) (drop k cs)) ≡ (k + 1) ∷ take (room - (w + 1)) (trues (k + 1 + 1) (drop (k + 1) cs)) = rw (e, m) in
+        let n : take (room - w) (trues (k + 1) (drop k cs)) ≡ (k + 1) ∷ take (room - (w + 1)) (trues (k + 1 + 1) (drop (k + 1) cs)) =
+        rw (e, m) in
         let l : rowBytes s ≡ length (row s (k + 1)) = omega (arith, length-rows s ((k + 1) ∷ []), ap length (append-nil (row s (k + 1)))) in
-        let b : rowsOf s (v .done) ++ row s (k + 1) ≡ rowsOf s (v .done ++ ((k + 1) ∷ [])) = ap (λ (x : List ℕ). rowsOf s (v .done) ++ x) (sym (append-nil (row s (k + 1)))) ∙ concat-map (row s) (v .done) ((k + 1) ∷ []) in
+        let b : rowsOf s (v .done) ++ row s (k + 1) ≡ rowsOf s (v .done ++ ((k + 1) ∷ [])) =
+        ap (λ (x : List ℕ). rowsOf s (v .done) ++ x) (sym (append-nil (row s (k + 1)))) ∙ concat-map (row s) (v .done) ((k + 1) ∷ []) in
         record {
           done = v .done ++ ((k + 1) ∷ []);
           many = ap (λ (j : ℕ). j + 1) (v .many) ∙ sym (length-append (v .done) ((k + 1) ∷ []));
-          all = append-assoc (v .done) ((k + 1) ∷ []) (take (room - (w + 1)) (trues (k + 1 + 1) (drop (k + 1) cs))) ∙ ap (λ (x : List ℕ). v .done ++ x) (sym n) ∙ v .all;
+          all =
+              append-assoc (v .done) ((k + 1) ∷ []) (take (room - (w + 1)) (trues (k + 1 + 1) (drop (k + 1) cs)))
+              ∙ ap (λ (x : List ℕ). v .done ++ x) (sym n) ∙ v .all;
           rows =
               p ∙ ap (λ (x : List ℕ). paste x (w * rowBytes s) (row s (k + 1)) (rowBytes s)) (v .rows)
-              ∙ over-more (rowsOf s (v .done)) (row s (k + 1)) d₀ (w * rowBytes s) (rowBytes s) (ap (λ (j : ℕ). j * rowBytes s) (v .many) ∙ sym (length-rows s (v .done))) l
+              ∙ over-more (rowsOf s (v .done)) (row s (k + 1)) d₀ (w * rowBytes s) (rowBytes s)
+              (ap (λ (j : ℕ). j * rowBytes s) (v .many) ∙ sym (length-rows s (v .done))) l
               ∙ ap (λ (x : List ℕ). over x d₀) b;
-          long = ap length p ∙ length-paste d (w * rowBytes s) (row s (k + 1)) (rowBytes s) (omega (arith, v .long)) (omega arith) ∙ v .long;
+          long =
+              ap length p ∙ length-paste d (w * rowBytes s) (row s (k + 1)) (rowBytes s) (omega (arith, v .long)) (omega arith) ∙ v .long;
           turns = omega arith;
           fewer = omega (arith, v .fewer);
           fits = omega arith;
@@ -169,7 +182,8 @@ Listing work at n E first room d₀ d k w = Going (result BOOLEAN E) (cellsFrom 
 
 -- a turn of the loop over cell k, which is TRUE where b says so: its row was put, or nothing was done
 pub data Met (E : List Axis) (size : ℕ) (d : List ℕ) (k w : ℕ) (b : Bool) (y : List ℕ) (x : ℕ) : Type 0 where
-  wrote : b ≡ true → y ≡ paste d (w * size) (row (result BOOLEAN E) (k + 1)) (rowBytes (result BOOLEAN E)) → x ≡ w + 1 → Met E size d k w b y x
+  wrote : b ≡ true → y ≡ paste d (w * size) (row (result BOOLEAN E) (k + 1)) (rowBytes (result BOOLEAN E)) → x ≡ w + 1
+      → Met E size d k w b y x
   skipped : b ≡ false → y ≡ d → x ≡ w → Met E size d k w b y x
 
 module _ (work : List ℕ) (at n : ℕ) (E : List Axis) (first size : ℕ) (d₀ : List ℕ) (z : size ≡ rowBytes (result BOOLEAN E)) where
@@ -185,17 +199,22 @@ module _ (work : List ℕ) (at n : ℕ) (E : List Axis) (first size : ℕ) (d₀
   pub list-start : first ≤ n → size ≤ length d₀ → Listing work at n E first (length d₀ / size) d₀ d₀ first 0
   list-start h g = going-start s cs first (length d₀ / size) d₀ (omega (arith, long-cs)) (one-fits size (length d₀) (omega arith) g)
 
-  pub list-upto : (room : ℕ) (d : List ℕ) (k w : ℕ) → Listing work at n E first room d₀ d k w → k ≤ n
-  list-upto room d k w v = omega (arith, v .turns, long-cs)
+  pub list-upto : {room : ℕ} {d : List ℕ} {k w : ℕ} → Listing work at n E first room d₀ d k w → k ≤ n
+  list-upto v = omega (arith, v .turns, long-cs)
 
   -- a turn: what it finds and does, and the listing after it
-  pub list-more : (d : List ℕ) (k w : ℕ) → Listing work at n E first (length d₀ / size) d₀ d k w → k < n → w < length d₀ / size → (b : Bool) → b ≡ isTrue (orEmpty (cellOf BOOLEAN (part (at + k * cellBytes) cellBytes work)))
-      → (y : List ℕ) (x : ℕ) → Met E size d k w b y x → Listing work at n E first (length d₀ / size) d₀ y (k + 1) x
-  list-more d k w v h g b e y x (skipped f p q) = rw (p, q) (going-no s cs first (length d₀ / size) d₀ d k w v (omega (arith, long-cs)) g _ (cell-next BOOLEAN n at k work h) (sym e ∙ f))
-  list-more d k w v h g b e y x (wrote f p q) =
+  pub list-more : {d : List ℕ} {k w : ℕ} → Listing work at n E first (length d₀ / size) d₀ d k w → k < n → w < length d₀ / size
+      → {b : Bool} → b ≡ isTrue (orEmpty (cellOf BOOLEAN (part (at + k * cellBytes) cellBytes work))) → {y : List ℕ} {x : ℕ}
+      → Met E size d k w b y x
+      → Listing work at n E first (length d₀ / size) d₀ y (k + 1) x
+  list-more {d} {k} {w} v h g e (skipped f p q) =
+      let t = sym e ∙ f in
+      rw (p, q) (going-no s cs first (length d₀ / size) d₀ d k w v (omega (arith, long-cs)) g _ (cell-next BOOLEAN n at k work h) t)
+  list-more {d} {k} {w} v h g e {y} (wrote f p q) =
+      let t = sym e ∙ f in
       let r : w * rowBytes (result BOOLEAN E) + rowBytes (result BOOLEAN E) ≤ length d₀ = rw (← z) (row-fits w size (length d₀) g) in
       let o = p ∙ ap (λ (j : ℕ). paste d (w * j) (row s (k + 1)) (rowBytes s)) z in
-      rw q (going-yes s cs first (length d₀ / size) d₀ d k w v (omega (arith, long-cs)) g _ (cell-next BOOLEAN n at k work h) (sym e ∙ f) r y o)
+      rw q (going-yes s cs first (length d₀ / size) d₀ d k w v (omega (arith, long-cs)) g _ (cell-next BOOLEAN n at k work h) t r y o)
 
 -- a row tells of a shape's axes alone
 row-axes : (s t : Shape) → s .axes ≡ t .axes → row s ≡ row t
@@ -206,8 +225,8 @@ row-axes s t e = ap {B = ℕ → List ℕ} (λ (E : List Axis) (o : ℕ). leByte
 abbrev pagedAs : ℕ → ℕ → List ℕ → List ℕ → Paged
 pagedAs w o u d = record { answer = got (record { written = w; next = record { 0 = o } }); work = u; rows = d }
 
-module _ (work : List ℕ) (at n start room : ℕ) (E : List Axis) (d₀ d : List ℕ) (k w : ℕ) (h : n ≡ cells E) (b : 1 ≤ start) (g : room ≡ length d₀ / rowBytes (result BOOLEAN E))
-    (v : Listing work at n E (start - 1) room d₀ d k w) (z : Ended n room k w) where
+module _ (work : List ℕ) (at n start : ℕ) (E : List Axis) (d₀ : List ℕ) {d : List ℕ} {room k w : ℕ} (h : n ≡ cells E) (b : 1 ≤ start)
+    (g : room ≡ length d₀ / rowBytes (result BOOLEAN E)) (v : Listing work at n E (start - 1) room d₀ d k w) (z : Ended n room k w) where
   abbrev held : List Cell
   held = cellsFrom BOOLEAN n (drop at work)
 
@@ -216,7 +235,8 @@ module _ (work : List ℕ) (at n start room : ℕ) (E : List Axis) (d₀ d : Lis
 
   all-done : Ended n room k w → v .done ≡ take room (trues start (drop (start - 1) held))
   all-done (full x) = all-full (result BOOLEAN E) held (start - 1) room d₀ d k w v x ∙ from-start
-  all-done (passed x) = all-passed (result BOOLEAN E) held (start - 1) room d₀ d k w v (omega (arith, length-cells BOOLEAN n (drop at work))) ∙ from-start
+  all-done (passed x) =
+      all-passed (result BOOLEAN E) held (start - 1) room d₀ d k w v (omega (arith, length-cells BOOLEAN n (drop at work))) ∙ from-start
 
   module _ (A : Array) (e : A .shape .axes ≡ E) where
     -- one past the last row's ordinality, which is where the loop stands; or all cells passed
@@ -224,7 +244,8 @@ module _ (work : List ℕ) (at n start room : ℕ) (E : List Axis) (d₀ d : Lis
     unfolding goOn
     goes-on = by (eqb (length (v .done)) room) refl z
       where
-        by : (b : Bool) → eqb (length (v .done)) room ≡ b → Ended n room k w → (if b then lastOf 0 (v .done) + 1 else cells (A .shape .axes) + 1) ≡ k + 1
+        by : (b : Bool) → eqb (length (v .done)) room ≡ b → Ended n room k w
+            → (if b then lastOf 0 (v .done) + 1 else cells (A .shape .axes) + 1) ≡ k + 1
         by true q y = ap (λ (j : ℕ). j + 1) (v .last (omega (arith, eqb-true (length (v .done)) room q, v .many)))
         by false q (full x) = absurd (omega (arith, eqb-false (length (v .done)) room q, v .many, v .fits))
         by false q (passed x) = ap (λ (j : ℕ). j + 1) (ap cells e ∙ sym h ∙ omega (arith, v .turns, length-cells BOOLEAN n (drop at work)))
@@ -234,10 +255,13 @@ module _ (work : List ℕ) (at n start room : ℕ) (E : List Axis) (d₀ d : Lis
   listed-as =
       record {
         page = λ A u e f.
-            let m : length d₀ / rowBytes (A .shape) ≡ room = ap (λ (X : List Axis). length d₀ / (limitBytes + limitBytes * length X)) e ∙ sym g in
+            let m : length d₀ / rowBytes (A .shape) ≡ room =
+            ap (λ (X : List Axis). length d₀ / (limitBytes + limitBytes * length X)) e ∙ sym g in
             let c : A .cells ≡ held = f ∙ ap (λ (j : ℕ). cellsFrom BOOLEAN j (drop at work)) (sym h) in
-            let o : take (length d₀ / rowBytes (A .shape)) (trues start (drop (start - 1) (A .cells))) ≡ v .done = ap₂ (λ (j : ℕ) (l : List Cell). take j (trues start (drop (start - 1) l))) m c ∙ sym (all-done z) in
-            let r : over (rowsOf (A .shape) (v .done)) d₀ ≡ d = ap (λ (f : ℕ → List ℕ). over (concat (map f (v .done))) d₀) (row-axes (A .shape) (result BOOLEAN E) e) ∙ sym (v .rows) in
+            let o : take (length d₀ / rowBytes (A .shape)) (trues start (drop (start - 1) (A .cells))) ≡ v .done =
+            ap₂ (λ (j : ℕ) (l : List Cell). take j (trues start (drop (start - 1) l))) m c ∙ sym (all-done z) in
+            let r : over (rowsOf (A .shape) (v .done)) d₀ ≡ d =
+            ap (λ (f : ℕ → List ℕ). over (concat (map f (v .done))) d₀) (row-axes (A .shape) (result BOOLEAN E) e) ∙ sym (v .rows) in
             ap₂ (λ (j : ℕ) (os : List ℕ). pagedAs (length os) (goOn A j os) u (over (rowsOf (A .shape) os) d₀)) m o
             ∙ ap₂ (λ (x y : ℕ). pagedAs x y u (over (rowsOf (A .shape) (v .done)) d₀)) (sym (v .many)) (goes-on A e)
             ∙ ap (pagedAs w (k + 1) u) r;

@@ -56,7 +56,8 @@ module _ (s : List ℕ) (at : ℕ) (h : at + cellBytes ≤ length s) where
   pub unmarked : (getD s at 0 ≡ 1 → ⊥) → false ≡ isTrue (orEmpty (cellOf BOOLEAN (part at cellBytes s)))
   unmarked e = no-mark (getD s at 0) (leOf (part (at + 1) wordBytes s)) e ∙ ap (λ (bs : List ℕ). isTrue (orEmpty (cellOf BOOLEAN bs))) nine
 
-  pub marked : (n : ℕ) → getD s at 0 ≡ 1 → n ≡ leOf (part (at + 1) wordBytes s) → eqb n 1 ≡ isTrue (orEmpty (cellOf BOOLEAN (part at cellBytes s)))
+  pub marked : (n : ℕ) → getD s at 0 ≡ 1 → n ≡ leOf (part (at + 1) wordBytes s)
+      → eqb n 1 ≡ isTrue (orEmpty (cellOf BOOLEAN (part at cellBytes s)))
   marked n e f =
       by-number n
       ∙ ap₂ (λ (mark m : ℕ). isTrue (orEmpty (cellFrom BOOLEAN mark m))) (sym e) f
@@ -90,11 +91,13 @@ module _ (p d₀ : List ℕ) (at : ℕ) (h : at + length p * limitBytes ≤ leng
   pub put-start : Putting p d₀ at d₀ 0
   put-start = record { turns = omega arith; long = refl; first = paste-zero d₀ at (positionsBytes p) }
 
-  pub put-more : (d : List ℕ) (i : ℕ) → Putting p d₀ at d i → i < length p → (n : ℕ) → n ≡ ofZ w32 (position (getD p i 0)) → (y : List ℕ) → FourPut d (at + i * limitBytes) n y
+  pub put-more : (d : List ℕ) (i : ℕ) → Putting p d₀ at d i → i < length p → (n : ℕ) → n ≡ ofZ w32 (position (getD p i 0)) → (y : List ℕ)
+      → FourPut d (at + i * limitBytes) n y
       → Putting p d₀ at y (i + 1)
   put-more d i v k n e y q =
       let l = length-positions p in
-      let f : leBytes limitBytes n ≡ take limitBytes (drop (i * limitBytes) (positionsBytes p)) = ap (leBytes limitBytes) e ∙ sym (position-of p i k) in
+      let f : leBytes limitBytes n ≡ take limitBytes (drop (i * limitBytes) (positionsBytes p)) =
+      ap (leBytes limitBytes) e ∙ sym (position-of p i k) in
       let g : i * limitBytes + limitBytes ≡ (i + 1) * limitBytes = omega arith in
       let r : y ≡ paste d₀ at (positionsBytes p) ((i + 1) * limitBytes) =
       q ∙ ap₂ (λ (u x : List ℕ). take (at + i * limitBytes) u ++ x ++ drop (at + i * limitBytes + limitBytes) u) (v .first) f
@@ -107,7 +110,9 @@ module _ (p d₀ : List ℕ) (at : ℕ) (h : at + length p * limitBytes ≤ leng
       }
 
   pub put-end : (d : List ℕ) (i : ℕ) → Putting p d₀ at d i → length p ≤ i → d ≡ paste d₀ at (positionsBytes p) (length p * limitBytes)
-  put-end d i v k = let e : i ≡ length p = omega (arith, v .turns) in v .first ∙ ap (λ (j : ℕ). paste d₀ at (positionsBytes p) (j * limitBytes)) e
+  put-end d i v k =
+      let e : i ≡ length p = omega (arith, v .turns) in
+      v .first ∙ ap (λ (j : ℕ). paste d₀ at (positionsBytes p) (j * limitBytes)) e
 
 -- ---- a row
 
@@ -125,7 +130,8 @@ unfolding row rowOf
 row-at E o p e = ap (λ (u : List ℕ). leBytes limitBytes o ++ positionsBytes u) e
 
 -- bytes put, and more after them
-paste-more : (d s t : List ℕ) (at n m : ℕ) → n ≡ length s → at ≤ length d → paste (paste d at s n) (at + n) t m ≡ paste d at (s ++ t) (n + m)
+paste-more : (d s t : List ℕ) (at n m : ℕ) → n ≡ length s → at ≤ length d
+    → paste (paste d at s n) (at + n) t m ≡ paste d at (s ++ t) (n + m)
 paste-more d s t at n m e h =
     let a : take n s ≡ take n (s ++ t) = take-all n s (omega arith) ∙ sym (take-at s t n (sym e)) in
     let b : t ≡ drop n (s ++ t) = sym (drop-at s t n (sym e)) in
@@ -133,17 +139,24 @@ paste-more d s t at n m e h =
     ∙ paste-paste d at (s ++ t) n m h (omega (arith, length-append s t))
 
 -- the ordinality put, and positions after it; and one more
-module _ (d : List ℕ) (at o : ℕ) (y : List ℕ) (q : FourPut d at o y) (h : at ≤ length d) (p : List ℕ) (n : ℕ) (l : n ≡ length p) (z : List ℕ) (r : z ≡ paste y (at + limitBytes) (positionsBytes p) (n * limitBytes)) where
+module _ (d : List ℕ) (at o : ℕ) (y : List ℕ) (q : FourPut d at o y) (h : at ≤ length d) (p : List ℕ) (n : ℕ) (l : n ≡ length p)
+    (z : List ℕ) (r : z ≡ paste y (at + limitBytes) (positionsBytes p) (n * limitBytes)) where
   pub row-put : z ≡ paste d at (rowOf o p) (limitBytes + n * limitBytes)
   unfolding rowOf leBytes
-  row-put = r ∙ ap (λ (u : List ℕ). paste u (at + limitBytes) (positionsBytes p) (n * limitBytes)) q ∙ paste-more d (leBytes limitBytes o) (positionsBytes p) at limitBytes (n * limitBytes) refl h
+  row-put =
+      r ∙ ap (λ (u : List ℕ). paste u (at + limitBytes) (positionsBytes p) (n * limitBytes)) q
+      ∙ paste-more d (leBytes limitBytes o) (positionsBytes p) at limitBytes (n * limitBytes) refl h
 
-  pub row-last : (x w : ℕ) → w ≡ ofZ w32 (position x) → (u : List ℕ) → FourPut z (at + limitBytes + n * limitBytes) w u → u ≡ paste d at (rowOf o (p ++ (x ∷ []))) (limitBytes + n * limitBytes + limitBytes)
+  pub row-last : (x w : ℕ) → w ≡ ofZ w32 (position x) → (u : List ℕ) → FourPut z (at + limitBytes + n * limitBytes) w u
+      → u ≡ paste d at (rowOf o (p ++ (x ∷ []))) (limitBytes + n * limitBytes + limitBytes)
   unfolding rowOf leBytes concat
   row-last x w e u f =
       let b : leBytes limitBytes w ≡ positionBytes x = ap (leBytes limitBytes) e in
-      let c : rowOf o p ++ positionBytes x ≡ rowOf o (p ++ (x ∷ [])) = append-assoc (leBytes limitBytes o) (positionsBytes p) (positionBytes x) ∙ ap (λ (v : List ℕ). leBytes limitBytes o ++ v) (concat-map positionBytes p (x ∷ [])) in
-      let i : limitBytes + n * limitBytes ≡ length (rowOf o p) = omega (arith, length-append (leBytes limitBytes o) (positionsBytes p), length-positions p) in
+      let c : rowOf o p ++ positionBytes x ≡ rowOf o (p ++ (x ∷ [])) =
+      append-assoc (leBytes limitBytes o) (positionsBytes p) (positionBytes x)
+      ∙ ap (λ (v : List ℕ). leBytes limitBytes o ++ v) (concat-map positionBytes p (x ∷ [])) in
+      let i : limitBytes + n * limitBytes ≡ length (rowOf o p) =
+      omega (arith, length-append (leBytes limitBytes o) (positionsBytes p), length-positions p) in
       let j : at + limitBytes + n * limitBytes ≡ at + (limitBytes + n * limitBytes) = omega arith in
       f ∙ ap (λ (v : List ℕ). paste z (at + limitBytes + n * limitBytes) v limitBytes) b
       ∙ ap₂ (λ (v : List ℕ) (k : ℕ). paste v k (positionBytes x) limitBytes) row-put j

@@ -17,16 +17,14 @@ ghost use Rattle.listing.specs.Lists.{Listable, ListedAs};
 use cell::bytes::put4;
 use cell::bytes::word;
 use extent::rank_of;
+use paper::CELL_BYTES;
 use paper::Extent;
+use paper::LIMIT_BYTES;
 use paper::Listed;
 use paper::Ordinality;
 use place::Coordinate;
 use place::coordinate_of;
-use positions::LIMIT;
 use positions::bits_of;
-
-// The bytes of a cell.
-const CELL: usize = 9;
 
 // The nine bytes at `at` are TRUE: the mark of a filled cell, and the number 1.
 fn is_true(s: &[u8], at: usize) -> bool
@@ -46,7 +44,7 @@ fn put_positions(d: &mut [u8], at: usize, n: usize, p: Coordinate)
 {
     let mut i = 0;
     while i < n {
-        put4(d, at + i * LIMIT, bits_of(p.at[i]));
+        put4(d, at + i * LIMIT_BYTES, bits_of(p.at[i]));
         i += 1;
     }
 }
@@ -68,11 +66,11 @@ fn write_row(rows: &mut [u8], at: usize, rank: usize, p: Coordinate, x: u32, o: 
 {
     put4(rows, at, o.0);
     let axis = last_axis(rank);
-    put_positions(rows, at + LIMIT, axis, p);
+    put_positions(rows, at + LIMIT_BYTES, axis, p);
     if rank <= axis {
         return;
     }
-    put4(rows, at + LIMIT + axis * LIMIT, bits_of(x));
+    put4(rows, at + LIMIT_BYTES + axis * LIMIT_BYTES, bits_of(x));
 }
 
 // One past the upper limit of the last axis, on which a line of cells runs; 1 where there is no axis.
@@ -113,7 +111,7 @@ pub fn list(
 {
     let rank = rank_of(e);
     let top = line_top(e, rank);
-    let size = LIMIT + LIMIT * rank;
+    let size = LIMIT_BYTES + LIMIT_BYTES * rank;
     let room = rows.len() / size;
     let mut p = Coordinate {
         at: [0u32; paper::AXES],
@@ -122,7 +120,7 @@ pub fn list(
     let mut written: usize = 0;
     let mut k = start.0 as usize - 1;
     while k < n && written < room {
-        if is_true(work, at + k * CELL) {
+        if is_true(work, at + k * CELL_BYTES) {
             let o = Ordinality(k as u32 + 1);
             if end <= k {
                 p = coordinate_of(e, o);

@@ -25,8 +25,8 @@ fn is_known(c: Cell) -> bool
     is_truth(true, c) | is_truth(false, c)
 }
 
-// v where one is v, its opposite where both are that, else unknown: where both are known and none is v, both are its opposite. No test waits for
-// another, so that a loop over cells has no branch here.
+// v where one is v, its opposite where both are that, else unknown: where both are known and none is v, both are its opposite. No test
+// waits for another, so that a loop over cells has no branch here.
 pub fn decided_by(v: bool, a: Cell, b: Cell) -> Cell
     ensures { λ r. ⌜ r ≡ decidedBy v a b ⌝ }
 {

@@ -1,14 +1,12 @@
 // The types that an operator takes, and its result's type.
 use crate::numbers::pair_number;
 use crate::numbers::single_number;
+use paper::BOOLEAN;
+use paper::INT;
 use paper::PairOp;
 use paper::SingleOp;
 ghost use mathlib.Core.Path.{_≡_};
 ghost use Rattle.paper.specs.Operators.{takes, gives, takesOne, givesOne};
-
-const INT: u8 = 1;
-
-const BOOLEAN: u8 = 3;
 
 pub fn takes_pair(op: PairOp, kind: u8) -> bool
     ensures { λ r. ⌜ r ≡ takes op kind ⌝ }

@@ -1,48 +1,38 @@
 -- Cells in blocks: around an axis k the cells go in blocks, one for each coordinate of the axes before; a block has a layer for each
 -- position of the axis, and a layer is the cells of the axes after. An axis put in or taken out is a matter of blocks and layers.
-use Prim.Native.Nat.{ℕ, _+_, _-_, _*_, _/_, _%_, _≤_, _<_}
+use Prim.Native.Nat.{ℕ, _+_, _-_, _*_, _/_, _%_, _<_}
 use mathlib.Core.Path.{_≡_, sym, ap, ap₂, _∙_}
 use mathlib.Core.List.{List, _∷_, _++_}
 use native.Mathlib.Nat.{mod-lt, div-lt-iff-lt-mul}
 use native.Mathlib.Omega.{arith}
-use lib.Arith.{digits-lt, digits-div, digits-mod}
-use lib.Dec.{eqb, ltb}
 use lib.ListN.{length, getD, take, drop}
 use lib.Seq.{getD-at}
 use Rattle.paper.specs.declared.Axis.{Axis}
-use Rattle.paper.specs.Refusals.{if_then_else_}
 use Rattle.paper.specs.Axes.{cells, offset, atOffset, axisAt, without, putIn}
 use Rattle.laws.specs.Places.{right-pos, offset-atOffset, atOffset-inside, inside-length}
+use Rattle.laws.specs.Limits.{sound-drop, cells-pos}
 use Rattle.laws.specs.Joins.{cells-append, offset-append, atOffset-append, axes-at, drop-index, length-before, without-at, putIn-at}
-use Rattle.laws.specs.Glue.{turn, inTurn, blockCells}
-use Rattle.origin.specs.declared.Origin.{Origin}
-use Rattle.origin.specs.declared.Origin.the-variants.{FromA, FromB}
-use Rattle.origin.specs.Origins.{lyingIn, overA}
+use Rattle.laws.specs.Glue.{blockCells}
+use Rattle.origin.specs.Asks.{Axial}
 
--- the cells of a layer: of the axes after axis k
-abbrev pub layerCells : ℕ → List Axis → ℕ
-layerCells k E = cells (drop k E)
+-- ---- axes before and axes after
 
--- with the position x put in at axis k, cell j of the other axes is this cell
-abbrev pub sliceCell : ℕ → List Axis → ℕ → ℕ → ℕ
-sliceCell k E x j = j / layerCells k E * blockCells k E + ((x - axisAt k E .lo) * layerCells k E + j % layerCells k E)
+apart : (E F : List Axis) (j : ℕ) → j < cells (E ++ F) → (j / cells F < cells E) × (j % cells F < cells F)
+apart E F j h =
+    let l : j < cells E * cells F = omega (arith, cells-append E F) in
+    let z = right-pos (cells E) (cells F) j l in
+    (div-lt-iff-lt-mul {x = j} {y = cells E} z .1 l, mod-lt j z)
 
--- cell j's position on axis k, and its cell among the other axes
-abbrev pub positionOn : ℕ → List Axis → ℕ → ℕ
-positionOn k E j = axisAt k E .lo + j % blockCells k E / layerCells k E
+front-length : (E : List Axis) (i : ℕ) → i < cells E → length (atOffset E i) ≡ length E
+front-length E i h = inside-length E (atOffset E i) (atOffset-inside E i h)
 
-abbrev pub restCell : ℕ → List Axis → ℕ → ℕ
-restCell k E j = j / blockCells k E * layerCells k E + j % blockCells k E % layerCells k E
+offset-front : (E F : List Axis) (i : ℕ) (q : List ℕ) → i < cells E → offset (E ++ F) (atOffset E i ++ q) ≡ i * cells F + offset F q
+offset-front E F i q h =
+    offset-append E F (atOffset E i) q (front-length E i h) ∙ ap (λ (n : ℕ). n * cells F + offset F q) (offset-atOffset E i h)
 
--- on the layer at x the patch F lies over the cells of E
-abbrev pub putOrigin : ℕ → List Axis → List Axis → ℕ → ℕ → Origin
-putOrigin k E F x j = if eqb (positionOn k E j) x then overA j (lyingIn F (atOffset (without k E) (restCell k E j))) else FromA j
+-- ---- around axis k
 
--- m cells of A and n of B in turn
-abbrev pub turnOrigin : ℕ → ℕ → ℕ → Origin
-turnOrigin m n j = if ltb (inTurn m n j) m then FromA (turn m n j * m + inTurn m n j) else FromB (turn m n j * n + (inTurn m n j - m))
-
-module _ (k : ℕ) (E : List Axis) (one : 1 ≤ k) (last : k ≤ length E) where
+module _ {k : ℕ} {E : List Axis} (x : Axial k E) where
   abbrev pre : List Axis
   pre = take (k - 1) E
 
@@ -52,84 +42,60 @@ module _ (k : ℕ) (E : List Axis) (one : 1 ≤ k) (last : k ≤ length E) where
   abbrev a : Axis
   a = axisAt k E
 
-  length-pre : length pre ≡ k - 1
-  length-pre = length-before k E (omega arith)
+  parted : E ≡ pre ++ a ∷ post
+  parted = axes-at k E (x .one) (x .last)
 
-  block : blockCells k E ≡ cells (a ∷ post)
-  block = ap cells (drop-index k E _ one last)
+  block : cells (a ∷ post) ≡ blockCells k E
+  block = sym (ap cells (drop-index k E _ (x .one) (x .last)))
 
-  -- ---- a position put in
+  before : (i : ℕ) → i < cells pre → length (atOffset pre i) ≡ k - 1
+  before i h = let l = x .last in front-length pre i h ∙ length-before k E (omega arith)
 
-  module _ (x j : ℕ) (h : j < cells (without k E)) where
-    all-cells : j < cells pre * cells post
-    all-cells = omega (arith, cells-append pre post)
+  -- cell j of the other axes, with the position y put in
+  pub slice-offset : (y j : ℕ) → j < cells (without k E)
+      → offset E (putIn k y (atOffset (without k E) j)) ≡ j / cells post * blockCells k E + ((y - a .lo) * cells post + j % cells post)
+  unfolding offset
+  slice-offset y j h =
+      let q = apart pre post j h in
+      let front = atOffset pre (j / cells post) in
+      let behind = atOffset post (j % cells post) in
+      ap (λ (p : List ℕ). offset E (putIn k y p)) (atOffset-append pre post j h)
+      ∙ ap₂ offset parted (putIn-at k front y behind (x .one) (before _ (q .0)))
+      ∙ offset-front pre (a ∷ post) (j / cells post) (y ∷ behind) (q .0)
+      ∙ ap₂ (λ (m n : ℕ). j / cells post * m + ((y - a .lo) * cells post + n)) block (offset-atOffset post (j % cells post) (q .1))
 
-    layer-pos : 0 < cells post
-    layer-pos = right-pos (cells pre) (cells post) j all-cells
-
-    before-lt : j / cells post < cells pre
-    before-lt = div-lt-iff-lt-mul {x = j} {y = cells pre} layer-pos .1 all-cells
-
-    front-length : length (atOffset pre (j / cells post)) ≡ length pre
-    front-length = inside-length pre (atOffset pre (j / cells post)) (atOffset-inside pre (j / cells post) before-lt)
-
-    pub slice-offset : offset E (putIn k x (atOffset (without k E) j)) ≡ sliceCell k E x j
-    unfolding offset
-    slice-offset =
-        let front = atOffset pre (j / cells post) in
-        let behind = atOffset post (j % cells post) in
-        ap (λ (p : List ℕ). offset E (putIn k x p)) (atOffset-append pre post j h)
-        ∙ ap (offset E) (putIn-at k front x behind one (front-length ∙ length-pre))
-        ∙ ap (λ (X : List Axis). offset X (front ++ x ∷ behind)) (axes-at k E one last)
-        ∙ offset-append pre (a ∷ post) front (x ∷ behind) front-length
-        ∙ ap₂ (λ (m n : ℕ). m * cells (a ∷ post) + ((x - a .lo) * cells post + n)) (offset-atOffset pre (j / cells post) before-lt) (offset-atOffset post (j % cells post) (mod-lt j layer-pos))
-        ∙ ap (λ (w : ℕ). j / cells post * w + ((x - a .lo) * cells post + j % cells post)) (sym block)
-
-  -- ---- a position taken out
-
+  -- cell j's position on the axis, and its cell among the other axes
   module _ (j : ℕ) (h : j < cells E) where
     abbrev w : ℕ
     w = cells (a ∷ post)
 
     here : j < cells (pre ++ a ∷ post)
-    here = omega (arith, ap cells (axes-at k E one last))
+    here = omega (arith, ap cells parted)
 
-    whole : j < cells pre * w
-    whole = omega (arith, here, cells-append pre (a ∷ post))
+    abbrev front : List ℕ
+    front = atOffset pre (j / w)
 
-    block-pos : 0 < w
-    block-pos = right-pos (cells pre) w j whole
+    abbrev behind : List ℕ
+    behind = atOffset post (j % w % cells post)
 
-    blocks-lt : j / w < cells pre
-    blocks-lt = div-lt-iff-lt-mul {x = j} {y = cells pre} block-pos .1 whole
-
-    layers-pos : 0 < cells post
-    unfolding cells
-    layers-pos = right-pos _ (cells post) (j % w) (mod-lt j block-pos)
-
-    first-length : length (atOffset pre (j / w)) ≡ k - 1
-    first-length = inside-length pre (atOffset pre (j / w)) (atOffset-inside pre (j / w) blocks-lt) ∙ length-pre
-
-    parts : atOffset E j ≡ atOffset pre (j / w) ++ (a .lo + j % w / cells post) ∷ atOffset post (j % w % cells post)
+    parts : atOffset E j ≡ front ++ (a .lo + j % w / cells post) ∷ behind
     unfolding atOffset
-    parts = ap (λ (X : List Axis). atOffset X j) (axes-at k E one last) ∙ atOffset-append pre (a ∷ post) j here
+    parts = ap (λ (X : List Axis). atOffset X j) parted ∙ atOffset-append pre (a ∷ post) j here
 
-    pub position-on : getD (atOffset E j) (k - 1) 0 ≡ positionOn k E j
+    first-lt : j / w < cells pre
+    first-lt = apart pre (a ∷ post) j here .0
+
+    pub position-on : getD (atOffset E j) (k - 1) 0 ≡ a .lo + j % blockCells k E / cells post
     position-on =
         ap (λ (p : List ℕ). getD p (k - 1) 0) parts
-        ∙ getD-at (atOffset pre (j / w)) (a .lo + j % w / cells post) (atOffset post (j % w % cells post)) 0 (k - 1) first-length
-        ∙ ap (λ (n : ℕ). a .lo + j % n / cells post) (sym block)
+        ∙ getD-at front (a .lo + j % w / cells post) behind 0 (k - 1) (before _ first-lt)
+        ∙ ap (λ (n : ℕ). a .lo + j % n / cells post) block
 
-    pub rest-lt : restCell k E j < cells (without k E)
-    rest-lt =
-        omega (arith, cells-append pre post, ap (λ (n : ℕ). j / n * cells post + j % n % cells post) block, digits-lt blocks-lt (mod-lt (j % w) layers-pos))
-
-    pub rest-coordinate : without k (atOffset E j) ≡ atOffset (without k E) (restCell k E j)
-    rest-coordinate =
-        let r = mod-lt (j % w) layers-pos in
-        let i : ℕ = j / w * cells post + j % w % cells post in
-        let l : i < cells (pre ++ post) = omega (arith, cells-append pre post, digits-lt blocks-lt r) in
-        ap (without k) parts
-        ∙ without-at k (atOffset pre (j / w)) (a .lo + j % w / cells post) (atOffset post (j % w % cells post)) one first-length
-        ∙ sym (atOffset-append pre post i l ∙ ap₂ (λ (m n : ℕ). atOffset pre m ++ atOffset post n) (digits-div (j / w) r) (digits-mod (j / w) r))
-        ∙ ap (λ (n : ℕ). atOffset (without k E) (j / n * cells post + j % n % cells post)) (sym block)
+    pub rest-offset : offset (without k E) (without k (atOffset E j)) ≡ j / blockCells k E * cells post + j % blockCells k E % cells post
+    rest-offset =
+        let l = mod-lt (j % w) (cells-pos post (sound-drop E k (x .small .sound))) in
+        ap (λ (p : List ℕ). offset (without k E) (without k p)) parts
+        ∙ ap (offset (without k E)) (without-at k front (a .lo + j % w / cells post) behind (x .one) (before _ first-lt))
+        ∙ offset-front pre post (j / w) behind first-lt
+        ∙ ap (λ (n : ℕ). j / w * cells post + n) (offset-atOffset post (j % w % cells post) l)
+        ∙ ap (λ (n : ℕ). j / n * cells post + j % n % cells post) block

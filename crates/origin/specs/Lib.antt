@@ -1,8 +1,8 @@
--- Where a moved cell comes from: the definitions, blocks of cells, shifted coordinates, what the code asks and counts, and the case of
--- each operation.
+-- Where a moved cell comes from: the definitions, what the code asks, that the paper's coordinate lies in its array, and what the code
+-- counts in blocks.
 pub mod Origins
-pub mod Blocks
 pub mod Shifts
 pub mod Asks
+pub mod Lies
+pub mod Blocks
 pub mod Counts
-pub mod Cases

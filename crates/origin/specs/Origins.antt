@@ -1,53 +1,53 @@
--- Where a cell of a result comes from: the operations that move cells, the cell that an origin names, and what it means that a cell comes
--- from there. Then where a coordinate lies in an extent.
-use Prim.Native.Nat.{ℕ, _<_}
-use mathlib.Core.Path.{_≡_, refl, sym, ap, subst, _∙_}
+-- Where a cell of a moved result comes from: the paper's coordinate of A or of B, as a cell of that array counted from 0, and the cell
+-- that stands there. Then the forms in which the code finds it: a coordinate in an extent, and two arrays' cells in turn.
+use Prim.Native.Nat.{ℕ, _+_, _-_, _*_, _<_}
+use mathlib.Core.Path.{_≡_, refl}
 use mathlib.Core.Bool.{Bool, true, false}
-use mathlib.Core.List.{List, []}
+use mathlib.Core.List.{List}
+use native.Mathlib.Omega.{arith}
+use lib.Dec.{eqb, ltb}
 use lib.ListN.{length, getD}
 use Rattle.paper.specs.declared.Axis.{Axis}
 use Rattle.paper.specs.declared.Cell.{Cell}
 use Rattle.paper.specs.declared.Cell.the-variants.{Empty}
-use Rattle.paper.specs.declared.Answer.the-variants.{Is}
-use Rattle.paper.specs.declared.Operation.{Operation}
-use Rattle.paper.specs.declared.Operation.the-variants.{Trim, Slice, Reshape, Shift, Rename, Update, Put, Glue, Pair, RightScalar, LeftScalar, Single}
+use Rattle.paper.specs.declared.Move.{Move}
+use Rattle.paper.specs.declared.Operation.the-variants.{Moves}
 use Rattle.paper.specs.Refusals.{if_then_else_}
-use Rattle.paper.specs.Axes.{cells, inside, offset, atOffset, Array, at, shaped}
-use Rattle.paper.specs.Recipe.{Step, uses, axisIn, agree, fitsIn, resultOf}
-use Rattle.paper.specs.Values.{overlaid, cellAt}
-use Rattle.laws.specs.Places.{Inside, inside-true, offset-lt}
-use Rattle.laws.specs.Arrays.{at-inside, at-outside}
+use Rattle.paper.specs.Axes.{cells, inside, offset, ordinality, without, Shape, Array, at}
+use Rattle.paper.specs.Recipe.{Step, uses, axisIn, agree, fitsIn, resultAxes}
+use Rattle.paper.specs.Values.{Whence, fromA, fromB, nowhere, overlaid, taken}
+use Rattle.laws.specs.Places.{Inside, true-inside, offset-lt}
+use Rattle.laws.specs.Arrays.{at-inside}
+use Rattle.laws.specs.Glue.{turn, inTurn}
 use Rattle.extent.specs.Judged.{Small}
 use Rattle.origin.specs.declared.Origin.{Origin}
 use Rattle.origin.specs.declared.Origin.the-variants.{Nowhere, FromA, FromB}
-use Rattle.origin.specs.declared.Lying.{Lying}
-use Rattle.origin.specs.declared.Lying.the-variants.{After, Outside}
-
--- operations 1 to 8 move cells
-abbrev pub moves : Operation → Bool
-moves Trim = true
-moves Slice = true
-moves Reshape = true
-moves Shift = true
-moves Rename = true
-moves Update = true
-moves Put = true
-moves Glue = true
-moves (Pair o) = false
-moves (RightScalar o) = false
-moves (LeftScalar o) = false
-moves (Single o) = false
+use Rattle.origin.specs.declared.Found.{Found}
+use Rattle.origin.specs.declared.Found.the-variants.{After, Outside}
 
 -- a step that moves cells and passed its tests: E and F are the axes of A and B, G those of the result
-pub record Moving (st : Step) (E F G : List Axis) : Type 0 where
-  pub moving : moves (st .operation) ≡ true
+pub record Moving (m : Move) (st : Step) (E F G : List Axis) : Type 0 where
   pub first : Small E
   pub second : Small F
   pub result : Small G
-  pub axis : axisIn (uses (st .operation)) (length E) (st .axis) ≡ true
-  pub agrees : agree (st .operation) (st .axis) E F ≡ true
-  pub fits : fitsIn (st .operation) st (shaped 0 E []) (shaped 0 F []) ≡ true
-  pub axes : G ≡ resultOf (st .operation) st (shaped 0 E []) (shaped 0 F []) .axes
+  pub axis : axisIn (uses (Moves m)) (length E) (st .axis) ≡ true
+  pub agrees : agree (Moves m) (st .axis) E F ≡ true
+  pub left : Shape
+  pub right : Shape
+  pub left-axes : left .axes ≡ E
+  pub right-axes : right .axes ≡ F
+  pub fits : fitsIn (Moves m) st left right ≡ true
+  pub axes : G ≡ resultAxes (Moves m) st E F
+
+pub moving-as : {m n : Move} {st : Step} {E F G : List Axis} → m ≡ n → Moving m st E F G → Moving n st E F G
+moving-as e M = rw e at M
+
+-- ---- the cell that the paper's coordinate is
+
+unfoldable pub originAt : List Axis → List Axis → Whence → Origin
+originAt E F (fromA p) = FromA (offset E p)
+originAt E F (fromB q) = FromB (offset F q)
+originAt E F nowhere = Nowhere
 
 -- the cell that an origin names
 abbrev pub originCell : Origin → List Cell → List Cell → Cell
@@ -61,75 +61,82 @@ inArray Nowhere m n = Unit {0}
 inArray (FromA j) m n = j < m
 inArray (FromB j) m n = j < n
 
--- the cells of B, where the operation uses one
-abbrev pub cellsOfB : Operation → List Axis → ℕ
-cellsOfB op F = if uses op .b then cells F else 0
+-- the coordinate lies in its array
+abbrev pub Lies : List Axis → List Axis → Whence → Type 0
+Lies E F (fromA p) = Inside E p
+Lies E F (fromB q) = Inside F q
+Lies E F nowhere = Unit {0}
 
--- cell k of the result, from 0, comes from r, whatever the arrays hold
-pub record Comes (st : Step) (E F G : List Axis) (k : ℕ) (r : Origin) : Type 0 where
-  pub lies : inArray r (cells E) (cellsOfB (st .operation) F)
-  pub is : (A B : Array) → A .shape .axes ≡ E → B .shape .axes ≡ F → cellAt (st .operation) st A B (atOffset G k) ≡ Is (originCell r (A .cells) (B .cells))
+-- the cell of an array of axes E at a coordinate
+at-in : (A : Array) (E : List Axis) (p : List ℕ) → A .shape .axes ≡ E → Inside E p → at A p ≡ getD (A .cells) (offset E p) Empty
+at-in A E p e h = rw (← e) (at-inside A p (rw (← e) at h))
 
--- ---- where a coordinate lies in an extent
+module _ (E F : List Axis) where
+  pub origin-inside : (w : Whence) → Lies E F w → inArray (originAt E F w) (cells E) (cells F)
+  unfolding originAt
+  origin-inside (fromA p) h = offset-lt E p h
+  origin-inside (fromB q) h = offset-lt F q h
+  origin-inside nowhere h = tt
 
-unfoldable pub lyingIn : List Axis → List ℕ → Lying
-lyingIn E p = if inside E p then After (offset E p) else Outside
+  pub taken-origin : (w : Whence) (A B : Array) → A .shape .axes ≡ E → B .shape .axes ≡ F → Lies E F w
+      → taken A B w ≡ originCell (originAt E F w) (A .cells) (B .cells)
+  unfolding taken originAt
+  taken-origin (fromA p) A B e f h = at-in A E p e h
+  taken-origin (fromB q) A B e f h = at-in B F q f h
+  taken-origin nowhere A B e f h = refl
+
+-- ---- a coordinate found in an extent
+
+unfoldable pub foundIn : List Axis → List ℕ → Found
+foundIn E p = if inside E p then After (offset E p) else Outside
 
 -- A's cell there, or none
-abbrev pub inA : Lying → Origin
+abbrev pub inA : Found → Origin
 inA (After j) = FromA j
 inA Outside = Nowhere
 
 -- B's cell there, or A's cell k
-abbrev pub overA : ℕ → Lying → Origin
+abbrev pub overA : ℕ → Found → Origin
 overA k (After j) = FromB j
 overA k Outside = FromA k
 
-pub lying-yes : (E : List Axis) (p : List ℕ) → inside E p ≡ true → lyingIn E p ≡ After (offset E p)
-unfolding lyingIn
-lying-yes E p e = rw e
+module _ (E : List Axis) (p : List ℕ) where
+  pub found-at : (o : ℕ) → inside E p ≡ true → o ≡ ordinality E p → After (o - 1) ≡ foundIn E p
+  unfolding foundIn
+  found-at o i e = let n : o - 1 ≡ offset E p = omega arith in rw (i, n)
 
-pub lying-no : (E : List Axis) (p : List ℕ) → inside E p ≡ false → lyingIn E p ≡ Outside
-unfolding lyingIn
-lying-no E p e = rw e
+  pub found-none : inside E p ≡ false → Outside ≡ foundIn E p
+  unfolding foundIn
+  found-none i = rw i
 
--- the cell of an array of axes E at a coordinate
-module _ (A : Array) (E : List Axis) (e : A .shape .axes ≡ E) (p : List ℕ) where
-  pub at-in : Inside E p → at A p ≡ getD (A .cells) (offset E p) Empty
-  at-in h = at-inside A p (subst (λ (X : List Axis). Inside X p) (sym e) h) ∙ ap (λ (X : List Axis). getD (A .cells) (offset X p) Empty) e
+  module _ (F : List Axis) where
+    pub found-first : inA (foundIn E p) ≡ originAt E F (if inside E p then fromA p else nowhere)
+    unfolding foundIn originAt
+    found-first = by (inside E p)
+      where
+        by : (b : Bool) → inA (if b then After (offset E p) else Outside) ≡ originAt E F (if b then fromA p else nowhere)
+        by true = refl
+        by false = refl
 
-  pub at-lying : (ds : List Cell) → at A p ≡ originCell (inA (lyingIn E p)) (A .cells) ds
-  at-lying ds = by (inside E p) refl
-    where
-      by : (b : Bool) → inside E p ≡ b → at A p ≡ originCell (inA (lyingIn E p)) (A .cells) ds
-      by true i = at-in (inside-true E p i) ∙ sym (ap (λ (l : Lying). originCell (inA l) (A .cells) ds) (lying-yes E p i))
-      by false i = at-outside A p (ap (λ (X : List Axis). inside X p) e ∙ i) ∙ sym (ap (λ (l : Lying). originCell (inA l) (A .cells) ds) (lying-no E p i))
+    pub found-inside : Inside E p → inA (foundIn E p) ≡ originAt E F (fromA p)
+    unfolding foundIn originAt
+    found-inside h = rw (true-inside E p h)
 
--- it lies in its array
-pub lies-in : (E : List Axis) (p : List ℕ) (n : ℕ) → inArray (inA (lyingIn E p)) (cells E) n
-lies-in E p n = by (inside E p) refl
-  where
-    by : (b : Bool) → inside E p ≡ b → inArray (inA (lyingIn E p)) (cells E) n
-    by true i = subst (λ (l : Lying). inArray (inA l) (cells E) n) (sym (lying-yes E p i)) (offset-lt E p (inside-true E p i))
-    by false i = subst (λ (l : Lying). inArray (inA l) (cells E) n) (sym (lying-no E p i)) tt
+    pub found-over : {k : ℕ} (q : List ℕ) → offset E p ≡ k → overA k (foundIn F q) ≡ originAt E F (overlaid F q p)
+    unfolding foundIn originAt
+    found-over q e = rw (← e) (by (inside F q))
+      where
+        by : (b : Bool) → overA (offset E p) (if b then After (offset F q) else Outside) ≡ originAt E F (if b then fromB q else fromA p)
+        by true = refl
+        by false = refl
 
-pub lies-over : (F : List Axis) (q : List ℕ) (m k : ℕ) → k < m → inArray (overA k (lyingIn F q)) m (cells F)
-lies-over F q m k h = by (inside F q) refl
-  where
-    by : (b : Bool) → inside F q ≡ b → inArray (overA k (lyingIn F q)) m (cells F)
-    by true i = subst (λ (l : Lying). inArray (overA k l) m (cells F)) (sym (lying-yes F q i)) (offset-lt F q (inside-true F q i))
-    by false i = subst (λ (l : Lying). inArray (overA k l) m (cells F)) (sym (lying-no F q i)) h
+-- ---- put and glue
 
--- B's cell where q lies in B, else A's at p, which is its cell k
-module _ (A B : Array) (F : List Axis) (f : B .shape .axes ≡ F) (p q : List ℕ) (k : ℕ) (h : at A p ≡ getD (A .cells) k Empty) where
-  pub overlaid-lying : overlaid B q A p ≡ originCell (overA k (lyingIn F q)) (A .cells) (B .cells)
-  unfolding overlaid
-  overlaid-lying = by (inside F q) refl
-    where
-      by : (b : Bool) → inside F q ≡ b → (if inside (B .shape .axes) q then at B q else at A p) ≡ originCell (overA k (lyingIn F q)) (A .cells) (B .cells)
-      by true i =
-          ap (λ (b : Bool). if b then at B q else at A p) (ap (λ (X : List Axis). inside X q) f ∙ i)
-          ∙ at-in B F f q (inside-true F q i) ∙ sym (ap (λ (l : Lying). originCell (overA k l) (A .cells) (B .cells)) (lying-yes F q i))
-      by false i =
-          ap (λ (b : Bool). if b then at B q else at A p) (ap (λ (X : List Axis). inside X q) f ∙ i)
-          ∙ h ∙ sym (ap (λ (l : Lying). originCell (overA k l) (A .cells) (B .cells)) (lying-no F q i))
+-- with position x on axis k a coordinate comes of the patch F, where its other positions lie in it
+abbrev pub putFrom : ℕ → List Axis → ℕ → List ℕ → Whence
+putFrom k F x p = if eqb (getD p (k - 1) 0) x then overlaid F (without k p) p else fromA p
+
+-- m cells of A and n of B in turn
+abbrev pub turnOrigin : ℕ → ℕ → ℕ → Origin
+turnOrigin m n j =
+    if ltb (inTurn m n j) m then FromA (turn m n j * m + inTurn m n j) else FromB (turn m n j * n + (inTurn m n j - m))

@@ -35,10 +35,12 @@ unfolding eachAnew cells
 cells-shifted [] d s t = refl
 cells-shifted (a ∷ E) d s t =
     let z = signedAt 0 d in
-    let w : moved (a .hi) z + 1 - moved (a .lo) z ≡ width a = omega (arith, moved-by (a .lo) z (omega arith), moved-by (a .hi) z (t .1)) in
+    let low = moved-by (a .lo) z (omega arith) in
+    let w : moved (a .hi) z + 1 - moved (a .lo) z ≡ width a = omega (arith, moved-by (a .hi) z (t .1)) in
     ap₂ _*_ w (cells-shifted E (drop limitBytes d) (s .2) (t .2))
 
-pub shifted-back : (E : List Axis) (d : List ℕ) (k : ℕ) → Sound E → Sound (shifted E d) → k < cells E → shiftedBack (atOffset (shifted E d) k) d ≡ atOffset E k
+pub shifted-back : (E : List Axis) (d : List ℕ) (k : ℕ) → Sound E → Sound (shifted E d) → k < cells E
+    → shiftedBack (atOffset (shifted E d) k) d ≡ atOffset E k
 unfolding eachAnew cells atOffset shiftedBack
 shifted-back [] d k s t h = refl
 shifted-back (a ∷ E) d k s t h =
@@ -46,6 +48,8 @@ shifted-back (a ∷ E) d k s t h =
     let E' = shifted E (drop limitBytes d) in
     let c = cells-shifted E (drop limitBytes d) (s .2) (t .2) in
     let n = right-pos (width a) (cells E) k h in
-    let p : distance (position (moved (a .lo) z + k / cells E) -ℤ z) ≡ a .lo + k / cells E = moved-back (moved (a .lo) z + k / cells E) (a .lo + k / cells E) z (omega (arith, moved-by (a .lo) z (omega arith))) in
+    let x = a .lo + k / cells E in
+    let y = moved (a .lo) z + k / cells E in
+    let p : distance (position y -ℤ z) ≡ x = moved-back y x z (omega (arith, moved-by (a .lo) z (omega arith))) in
     ap (λ (m : ℕ). distance (position (moved (a .lo) z + k / m) -ℤ z) ∷ shiftedBack (atOffset E' (k % m)) (drop limitBytes d)) c
     ∙ ap₂ (λ (x : ℕ) (l : List ℕ). x ∷ l) p (shifted-back E (drop limitBytes d) (k % cells E) (s .2) (t .2) (mod-lt k n))

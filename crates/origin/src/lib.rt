@@ -1,21 +1,22 @@
-// Where each cell of a result comes from, for the operations that move cells as they are: a cell of A, a cell of B, or none. Cells are
-// counted from 0 in row-major order. Around an axis they go in blocks, so that an axis left out, put in or glued is a matter of counting.
+// Where each cell of a moved result comes from: a cell of A, a cell of B, or none. Cells are counted from 0 in row-major order. Around an
+// axis they go in blocks, so that an axis left out, put in or glued is a matter of counting.
 ghost use mathlib.Core.Path.{_≡_};
 ghost use Prim.Native.Nat.{_+_, _*_, _≤_, _<_};
-ghost use lib.ListN.{drop};
+ghost use lib.ListN.{length, drop};
 ghost use Rattle.paper.specs.Limits.{mostCells, detailBytes};
-ghost use Rattle.paper.specs.Axes.{cells, atOffset};
+ghost use Rattle.paper.specs.Axes.{cells, offset, atOffset, without, putIn};
+ghost use Rattle.paper.specs.Values.{whence};
 ghost use Rattle.paper.specs.Answers.{axesOf};
 ghost use Rattle.laws.specs.Glue.{blockCells};
 ghost use Rattle.positions.specs.Runs.{Holds};
+ghost use Rattle.extent.specs.Judged.{Small};
 ghost use Rattle.step.specs.Steps.{stepIn};
-ghost use Rattle.origin.specs.Origins.{Moving, Comes, lyingIn, inA, overA};
-ghost use Rattle.origin.specs.Blocks.{layerCells, sliceCell, putOrigin, turnOrigin};
-ghost use Rattle.origin.specs.Asks.{Beside, Among, Axial, Sliced, Patched, InTurns, Countable};
+ghost use Rattle.origin.specs.Origins.{Moving, originAt, foundIn, inA, overA, putFrom, turnOrigin};
+ghost use Rattle.origin.specs.Asks.{Beside, Axial, Sliced, Patched, InTurns, Countable};
 ghost use Rattle.origin.specs.declared.Origin.the-variants.{FromA};
 use paper::AxisIndex;
 use paper::Extent;
-use paper::Operation;
+use paper::Move;
 use paper::Ordinality;
 use positions::position_at;
 use step::StepHead;
@@ -27,48 +28,48 @@ pub enum Origin {
     FromB(usize),
 }
 
-// Where a coordinate lies in an extent: so many cells after the first, or outside.
-enum Lying {
+// Where a coordinate is found in an extent: so many cells after the first, or outside.
+enum Found {
     After(usize),
     Outside,
 }
 
 // ---- by coordinate
 
-// Where the coordinate of cell k of an extent lies in another.
-fn lies_at(t: Extent, k: usize, e: Extent) -> Lying
+// Where the coordinate of cell k of an extent is found in another.
+fn found_at(t: Extent, k: usize, e: Extent) -> Found
     requires { ⌜ Beside (axesOf t) (axesOf e) k ⌝ }
-    ensures { λ r. ⌜ r ≡ lyingIn (axesOf e) (atOffset (axesOf t) k) ⌝ }
+    ensures { λ r. ⌜ r ≡ foundIn (axesOf e) (atOffset (axesOf t) k) ⌝ }
 {
     let p = place::coordinate_of(t, Ordinality(k as u32 + 1));
     if !place::is_inside(e, p) {
-        return Lying::Outside;
+        return Found::Outside;
     }
     let o = place::ordinality_of(e, p);
-    Lying::After(o.0 as usize - 1)
+    Found::After(o.0 as usize - 1)
 }
 
 // A's cell there, or none.
 fn in_first(t: Extent, k: usize, e: Extent) -> Origin
     requires { ⌜ Beside (axesOf t) (axesOf e) k ⌝ }
-    ensures { λ r. ⌜ r ≡ inA (lyingIn (axesOf e) (atOffset (axesOf t) k)) ⌝ }
+    ensures { λ r. ⌜ r ≡ inA (foundIn (axesOf e) (atOffset (axesOf t) k)) ⌝ }
 {
-    let found = lies_at(t, k, e);
+    let found = found_at(t, k, e);
     match found {
-        Lying::After(j) => return Origin::FromA(j),
-        Lying::Outside => return Origin::Nowhere,
+        Found::After(j) => return Origin::FromA(j),
+        Found::Outside => return Origin::Nowhere,
     }
 }
 
 // B's cell there, or A's cell j.
 fn laid_over(t: Extent, k: usize, f: Extent, j: usize) -> Origin
     requires { ⌜ Beside (axesOf t) (axesOf f) k ⌝ }
-    ensures { λ r. ⌜ r ≡ overA j (lyingIn (axesOf f) (atOffset (axesOf t) k)) ⌝ }
+    ensures { λ r. ⌜ r ≡ overA j (foundIn (axesOf f) (atOffset (axesOf t) k)) ⌝ }
 {
-    let found = lies_at(t, k, f);
+    let found = found_at(t, k, f);
     match found {
-        Lying::After(i) => return Origin::FromB(i),
-        Lying::Outside => return Origin::FromA(j),
+        Found::After(i) => return Origin::FromB(i),
+        Found::Outside => return Origin::FromA(j),
     }
 }
 
@@ -76,7 +77,8 @@ fn laid_over(t: Extent, k: usize, f: Extent, j: usize) -> Origin
 
 // The cells of the axes after the first `before`.
 fn cells_after(e: Extent, before: usize) -> usize
-    requires { ⌜ Among (axesOf e) before ⌝ }
+    requires { ⌜ Small (axesOf e) ⌝ }
+    requires { ⌜ before ≤ length (axesOf e) ⌝ }
     ensures { λ r. ⌜ (r ≡ cells (drop before (axesOf e))) × (1 ≤ r) × (r ≤ mostCells) ⌝ }
 {
     let mut n: u64 = 1;
@@ -100,7 +102,7 @@ pub fn block_of(e: Extent, k: AxisIndex) -> usize
 // The cells of a layer: of the axes after axis k.
 fn layer_of(e: Extent, k: AxisIndex) -> usize
     requires { ⌜ Axial (k .0) (axesOf e) ⌝ }
-    ensures { λ r. ⌜ (r ≡ layerCells (k .0) (axesOf e)) × (1 ≤ r) × (r ≤ mostCells) ⌝ }
+    ensures { λ r. ⌜ (r ≡ cells (drop (k .0) (axesOf e))) × (1 ≤ r) × (r ≤ mostCells) ⌝ }
 {
     cells_after(e, k.0 as usize)
 }
@@ -116,7 +118,7 @@ fn counted(blocks: usize, size: usize, rest: usize) -> usize
 // Cell j of the axes but axis k, at position x of that axis.
 fn sliced(e: Extent, k: AxisIndex, x: u32, j: usize) -> Origin
     requires { ⌜ Sliced (k .0) (axesOf e) x j ⌝ }
-    ensures { λ r. ⌜ r ≡ FromA (sliceCell (k .0) (axesOf e) x j) ⌝ }
+    ensures { λ r. ⌜ r ≡ FromA (offset (axesOf e) (putIn (k .0) x (atOffset (without (k .0) (axesOf e)) j))) ⌝ }
 {
     let block = block_of(e, k);
     let layer = layer_of(e, k);
@@ -128,7 +130,7 @@ fn sliced(e: Extent, k: AxisIndex, x: u32, j: usize) -> Origin
 // B's cell where cell j has position x on axis k and lies in B by its other positions, else A's.
 fn patched(e: Extent, f: Extent, k: AxisIndex, x: u32, j: usize) -> Origin
     requires { ⌜ Patched (k .0) (axesOf e) (axesOf f) j ⌝ }
-    ensures { λ r. ⌜ r ≡ putOrigin (k .0) (axesOf e) (axesOf f) x j ⌝ }
+    ensures { λ r. ⌜ r ≡ originAt (axesOf e) (axesOf f) (putFrom (k .0) (axesOf f) x (atOffset (axesOf e) j)) ⌝ }
 {
     let block = block_of(e, k);
     let layer = layer_of(e, k);
@@ -142,7 +144,7 @@ fn patched(e: Extent, f: Extent, k: AxisIndex, x: u32, j: usize) -> Origin
 }
 
 // m cells of A and n of B in turn: cell j of them.
-fn in_turns(m: usize, n: usize, j: usize) -> Origin
+pub fn in_turns(m: usize, n: usize, j: usize) -> Origin
     requires { ⌜ InTurns m n j ⌝ }
     ensures { λ r. ⌜ r ≡ turnOrigin m n j ⌝ }
 {
@@ -154,30 +156,34 @@ fn in_turns(m: usize, n: usize, j: usize) -> Origin
     Origin::FromB(counted(turn, n, inner - m))
 }
 
-// ---- by operation
+// ---- by move
 
 // Where cell k of a step's result comes from; a and b are the extents of its operands, t that of its result.
-pub fn origin_of(step: StepHead, a: Extent, b: Extent, t: Extent, k: usize, s: &[u8]) -> Origin
+pub fn origin_of(
+    m: Move,
+    step: StepHead,
+    a: Extent,
+    b: Extent,
+    t: Extent,
+    k: usize,
+    s: &[u8],
+) -> Origin
     requires { ⌜ Holds (step .at) detailBytes (now s) ⌝ }
-    requires { ⌜ Moving (stepIn (now s) step) (axesOf a) (axesOf b) (axesOf t) ⌝ }
+    requires { ⌜ Moving m (stepIn (now s) step) (axesOf a) (axesOf b) (axesOf t) ⌝ }
     requires { ⌜ k < cells (axesOf t) ⌝ }
-    ensures { λ r. ⌜ Comes (stepIn (now (s .entry)) step) (axesOf a) (axesOf b) (axesOf t) k r ⌝ }
+    ensures { λ r. ⌜ r ≡ originAt (axesOf a) (axesOf b)
+        (whence m (stepIn (now (s .entry)) step) (axesOf a) (axesOf b) (atOffset (axesOf t) k)) ⌝ }
 {
-    let op = step.operation;
     let at = step.at;
     let axis = AxisIndex(step.axis as u32);
-    match op {
-        Operation::Trim => return in_first(t, k, a),
-        Operation::Slice => return sliced(a, axis, position_at(s, at), k),
-        Operation::Reshape => return in_first(t, k, a),
-        Operation::Shift => return Origin::FromA(k),
-        Operation::Rename => return Origin::FromA(k),
-        Operation::Update => return laid_over(t, k, b, k),
-        Operation::Put => return patched(a, b, axis, position_at(s, at), k),
-        Operation::Glue => return in_turns(block_of(a, axis), block_of(b, axis), k),
-        Operation::Pair(_) => return Origin::Nowhere,
-        Operation::RightScalar(_) => return Origin::Nowhere,
-        Operation::LeftScalar(_) => return Origin::Nowhere,
-        Operation::Single(_) => return Origin::Nowhere,
+    match m {
+        Move::Trim => return in_first(t, k, a),
+        Move::Slice => return sliced(a, axis, position_at(s, at), k),
+        Move::Reshape => return in_first(t, k, a),
+        Move::Shift => return Origin::FromA(k),
+        Move::Rename => return Origin::FromA(k),
+        Move::Update => return laid_over(t, k, b, k),
+        Move::Put => return patched(a, b, axis, position_at(s, at), k),
+        Move::Glue => return in_turns(block_of(a, axis), block_of(b, axis), k),
     }
 }

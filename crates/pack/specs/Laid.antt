@@ -2,24 +2,23 @@
 -- that packing gives these bytes.
 use Prim.Native.Nat.{ℕ, zero, suc, _+_, _*_, _≤_, _<_}
 use mathlib.Core.Path.{_≡_, refl, sym, ap, ap₂, _∙_}
-use mathlib.Core.Bool.{Bool, true, false, _&&_}
+use mathlib.Core.Bool.{true, false, _&&_}
 use mathlib.Core.List.{List, [], _∷_, _++_, map}
 use mathlib.Core.Option.{Option, none, some}
 use native.Mathlib.Omega.{arith}
-use borrow.Author.Tests.{le-leb, leb-true, leb-false, eqb-true, eqb-false}
-use lib.Dec.{eqb, leb}
+use borrow.Author.Tests.{le-leb}
+use lib.Dec.{leb}
 use lib.ListN.{length, take, drop, replicate, length-append, length-take, length-drop, length-map, length-replicate}
 use lib.Seq.{take-append-le, take-add, length-take-le}
 use Rattle.paper.specs.declared.Axis.{Axis}
 use Rattle.paper.specs.declared.Cell.{Cell}
-use Rattle.paper.specs.declared.Extent.{Extent}
 use Rattle.paper.specs.declared.Form.{Form}
 use Rattle.paper.specs.Limits.{mostArrays, mostAxes, mostCells, axisBytes, typeBytes, cellBytes}
 use Rattle.paper.specs.Refusals.{got, refused, _>>_, if_then_else_, refusal, ensure, between, badBytes1, smallOutput14}
 use Rattle.paper.specs.Numbers.{concat, none?}
-use Rattle.paper.specs.Axes.{cells, goodExtent, axisWithin, within, Shape, Array, shaped}
+use Rattle.paper.specs.Axes.{cells, goodExtent, axisWithin, within, Shape, Array}
 use Rattle.paper.specs.Cells.{isType, cellOf, cellsBytes}
-use Rattle.paper.specs.Bundle.{mark, arrayOf, axesBytes, arrayBytes, bundleBytes, packArrays, packed}
+use Rattle.paper.specs.Bundle.{mark, arrayOf, packArray, axesBytes, arrayBytes, bundleBytes, packArrays, packed}
 use Rattle.paper.specs.Answers.{axesOf, shapeOf}
 use Rattle.laws.specs.Answers.{noHead}
 use Rattle.laws.specs.Cells.{bytes-back}
@@ -36,40 +35,17 @@ use Rattle.pack.specs.Put.{axes-length}
 abbrev pub noForm : Form
 noForm = noHead .form
 
--- an extent's axes, where its rank says no more than there is room for; else none, since they are not all there
-abbrev pub heldAxes : Extent → List Axis
-heldAxes e = if leb (e .rank) mostAxes then axesOf e else []
-
--- a form's shape: so an extent that says too many axes has a bad axis count, and does not lie inside a maximum that says too many
-unfoldable pub heldShape : Form → Shape
-heldShape f = shaped (f .kind) (heldAxes (f .extent)) (heldAxes (f .maximum))
-
 abbrev pub shapesOf : ℕ → List Form → List Shape
-shapesOf count forms = map heldShape (take count (forms ++ replicate count noForm))
+shapesOf count forms = map shapeOf (take count (forms ++ replicate count noForm))
 
 pub shapes-length : (count : ℕ) (forms : List Form) → length (shapesOf count forms) ≡ count
 shapes-length count forms =
-    length-map (take count (forms ++ replicate count noForm)) heldShape
-    ∙ length-take-le count (forms ++ replicate count noForm) (omega (arith, length-append forms (replicate count noForm), length-replicate count noForm))
+    length-map (take count (forms ++ replicate count noForm)) shapeOf
+    ∙ length-take-le count (forms ++ replicate count noForm)
+    (omega (arith, length-append forms (replicate count noForm), length-replicate count noForm))
 
-pub shapes-few : (count : ℕ) (forms : List Form) → count ≤ length forms → shapesOf count forms ≡ map heldShape (take count forms)
-shapes-few count forms h = ap (map heldShape) (take-append-le count forms (replicate count noForm) h)
-
--- nothing is missing where both ranks are small enough
-pub held-whole : (f : Form) → f .extent .rank ≤ mostAxes → f .maximum .rank ≤ mostAxes → heldShape f ≡ shapeOf f
-unfolding heldShape
-held-whole f h k =
-    let a : leb (f .extent .rank) mostAxes ≡ true = le-leb _ _ h in
-    let b : leb (f .maximum .rank) mostAxes ≡ true = le-leb _ _ k in
-    rw (a, b)
-
--- the axis count is good where the rank is
-pub held-count : (e : Extent) → length (e .axes) ≡ mostAxes → between 1 mostAxes (length (heldAxes e)) ≡ between 1 mostAxes (e .rank)
-held-count e l = by (leb (e .rank) mostAxes) refl
-  where
-    by : (b : Bool) → leb (e .rank) mostAxes ≡ b → between 1 mostAxes (length (heldAxes e)) ≡ between 1 mostAxes (e .rank)
-    by true q = let n : length (take (e .rank) (e .axes)) ≡ e .rank = length-take-le (e .rank) (e .axes) (omega (arith, leb-true (e .rank) mostAxes q)) in rw (q, n, q)
-    by false q = let o : leb 1 (e .rank) ≡ true = le-leb 1 (e .rank) (omega (arith, leb-false (e .rank) mostAxes q)) in rw (q, o)
+pub shapes-few : (count : ℕ) (forms : List Form) → count ≤ length forms → shapesOf count forms ≡ map shapeOf (take count forms)
+shapes-few count forms h = ap (map shapeOf) (take-append-le count forms (replicate count noForm) h)
 
 -- ---- one form
 
@@ -87,7 +63,6 @@ mostBytes = typeBytes + mostAxes * axisBytes + mostCells * cellBytes
 
 -- every test of it passed
 pub record Ready (f : Form) (bs : List ℕ) : Type 0 where
-  pub whole : heldShape f ≡ shapeOf f
   pub type : isType (f .kind) ≡ true
   pub rank : between 1 mostAxes (length (axesOf (f .extent))) ≡ true
   pub good : (goodExtent (axesOf (f .extent)) && within (axesOf (f .extent)) (axesOf (f .maximum))) ≡ true
@@ -102,7 +77,8 @@ first-one : (c : Option Cell) (x o : ℕ) → 0 < o → (if is? c then x else o)
 first-one none x o p e = absurd (omega arith)
 first-one (some c) x o p e = (refl, e)
 
-cells-written : (n t o : ℕ) (bs : List ℕ) → 0 < o → n * cellBytes ≤ length bs → Bytes bs → firstBad t o n bs ≡ 0 → cellsBytes (cellsFrom t n bs) ≡ take (n * cellBytes) bs
+cells-written : (n t o : ℕ) (bs : List ℕ) → 0 < o → n * cellBytes ≤ length bs → Bytes bs → firstBad t o n bs ≡ 0
+    → cellsBytes (cellsFrom t n bs) ≡ take (n * cellBytes) bs
 unfolding firstBad cellsFrom concat
 cells-written zero t o bs p l h e = refl
 cells-written (suc n) t o bs p l h e =
@@ -111,7 +87,8 @@ cells-written (suc n) t o bs p l h e =
     let w : suc n * cellBytes ≡ cellBytes + n * cellBytes = omega arith in
     ap₂ (λ (x y : List ℕ). x ++ y)
     (bytes-back t (take cellBytes bs) _ s (bytes-take cellBytes bs h) (f .0))
-    (cells-written n t (o + 1) (drop cellBytes bs) (omega arith) (omega (arith, length-drop cellBytes bs)) (bytes-drop cellBytes bs h) (f .1))
+    (cells-written n t (o + 1) (drop cellBytes bs) (omega arith) (omega (arith, length-drop cellBytes bs)) (bytes-drop cellBytes bs h)
+    (f .1))
     ∙ sym (take-add cellBytes (n * cellBytes) bs) ∙ ap (λ (j : ℕ). take j bs) (sym w)
 
 -- the array that it is
@@ -132,18 +109,25 @@ module _ (f : Form) (bs : List ℕ) (v : Ready f bs) where
   ready-small = good-small E (and-left (goodExtent E) (within E M) (v .good))
 
   pub ready-long : length (formBytes f bs) ≡ typeBytes + length E * axisBytes + cellRoom f
-  ready-long = omega (arith, length-append (axesBytes E M) (take (cellRoom f) bs), axes-length E M ready-alike, length-take-le (cellRoom f) bs (v .fits))
+  ready-long =
+      omega (
+        arith,
+        length-append (axesBytes E M) (take (cellRoom f) bs),
+        axes-length E M ready-alike,
+        length-take-le (cellRoom f) bs (v .fits),
+      )
 
-  pub ready-of : (k : ℕ) → arrayOf k (shapeOf f) bs ≡ got (arrayIn f bs, drop (cellRoom f) bs)
-  unfolding arrayOf arrayIn
-  ready-of k =
+  pub ready-packed : (k : ℕ) → packArray k (shapeOf f) bs ≡ got (arrayIn f bs, drop (cellRoom f) bs)
+  unfolding packArray arrayOf arrayIn
+  ready-packed k =
       let l : leb (cellRoom f) (length bs) ≡ true = le-leb (cellRoom f) (length bs) (v .fits) in
-      rw (v .good, l, cells-judged (cellsIn f) k (f .kind) 1 bs (omega arith), v .clean)
+      rw (v .type, v .rank, v .good, l, cells-judged (cellsIn f) k (f .kind) 1 bs (omega arith), v .clean)
 
   ready-bytes : Bytes bs → arrayBytes (arrayIn f bs) ≡ formBytes f bs
   unfolding arrayBytes arrayIn
   ready-bytes h =
-      ap (λ (x : List ℕ). f .kind ∷ length E ∷ (axesBytes E M ++ x)) (cells-written (cellsIn f) (f .kind) 1 bs (omega arith) (v .fits) h (v .clean))
+      ap (λ (x : List ℕ). f .kind ∷ length E ∷ (axesBytes E M ++ x))
+      (cells-written (cellsIn f) (f .kind) 1 bs (omega arith) (v .fits) h (v .clean))
 
 -- ---- forms, one after the other
 
@@ -170,16 +154,18 @@ unfolding arraysIn
 arrays-count [] bs = refl
 arrays-count (f ∷ fs) bs = ap suc (arrays-count fs (drop (cellRoom f) bs))
 
-arrays-packed : (fs : List Form) (k : ℕ) (bs : List ℕ) → AllReady fs bs → packArrays k (map heldShape fs) bs ≡ got (arraysIn fs bs, restOf fs bs)
+arrays-packed : (fs : List Form) (k : ℕ) (bs : List ℕ) → AllReady fs bs
+    → packArrays k (map shapeOf fs) bs ≡ got (arraysIn fs bs, restOf fs bs)
 unfolding packArrays arraysIn restOf
 arrays-packed [] k bs v = refl
-arrays-packed (f ∷ fs) k bs v = rw (v .0 .whole, v .0 .type, v .0 .rank, ready-of f bs (v .0) k, arrays-packed fs (k + 1) (drop (cellRoom f) bs) (v .1))
+arrays-packed (f ∷ fs) k bs v = rw (ready-packed f bs (v .0) k, arrays-packed fs (k + 1) (drop (cellRoom f) bs) (v .1))
 
 arrays-bytes : (fs : List Form) (bs : List ℕ) → AllReady fs bs → Bytes bs → concat (map arrayBytes (arraysIn fs bs)) ≡ laidBytes fs bs
 unfolding concat arraysIn laidBytes
 arrays-bytes [] bs v h = refl
 arrays-bytes (f ∷ fs) bs v h =
-    ap₂ (λ (x y : List ℕ). x ++ y) (ready-bytes f bs (v .0) h) (arrays-bytes fs (drop (cellRoom f) bs) (v .1) (bytes-drop (cellRoom f) bs h))
+    ap₂ (λ (x y : List ℕ). x ++ y) (ready-bytes f bs (v .0) h)
+    (arrays-bytes fs (drop (cellRoom f) bs) (v .1) (bytes-drop (cellRoom f) bs h))
 
 -- ---- the bundle
 
@@ -187,7 +173,8 @@ arrays-bytes (f ∷ fs) bs v h =
 abbrev pub bundleOf : ℕ → List Form → List ℕ → List ℕ
 bundleOf count fs bs = mark ++ (count ∷ laidBytes fs bs)
 
-module _ (count : ℕ) (forms : List Form) (bs : List ℕ) (room : ℕ) (h : count ≤ length forms) (b : between 1 mostArrays count ≡ true) (v : AllReady (take count forms) bs) where
+module _ (count : ℕ) (forms : List Form) (bs : List ℕ) (room : ℕ) (h : count ≤ length forms) (b : between 1 mostArrays count ≡ true)
+    (v : AllReady (take count forms) bs) where
   -- every form passed its tests, and cell bytes are left over
   pub packed-left : none? (restOf (take count forms) bs) ≡ false → packed (shapesOf count forms) bs room ≡ refused (refusal badBytes1 0 0)
   unfolding packed

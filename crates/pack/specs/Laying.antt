@@ -2,28 +2,27 @@
 -- event, and packing as a whole.
 use Prim.Native.Nat.{ℕ, _+_, _*_, _≤_, _<_}
 use mathlib.Core.Path.{_≡_, refl, sym, ap, ap₂, subst, _∙_}
-use mathlib.Core.Bool.{true, false}
+use mathlib.Core.Bool.{Bool, true, false}
 use mathlib.Core.List.{List, [], _∷_, _++_}
 use native.Mathlib.Omega.{arith}
-use borrow.Author.Tests.{le-leb, lt-leb, leb-true}
+use borrow.Author.Tests.{le-leb, lt-leb}
 use lib.Dec.{leb}
 use lib.ListN.{length, take, drop, set, length-append, length-drop, length-set, drop-of-length-le}
 use lib.Seq.{drop-drop}
 use Rattle.paper.specs.declared.Form.{Form}
 use Rattle.paper.specs.declared.Refusal.{Refusal}
-use Rattle.paper.specs.declared.PackAnswer.{PackAnswer}
-use Rattle.paper.specs.declared.PackAnswer.the-variants.{Got, Refused}
+use Rattle.paper.specs.declared.NumberAnswer.{NumberAnswer}
+use Rattle.paper.specs.declared.NumberAnswer.the-variants.{Got, Refused}
 use Rattle.paper.specs.Limits.{mostArrays, mostCells, axisBytes, typeBytes, cellBytes}
-use Rattle.paper.specs.Refusals.{got, refused, refusal, between, smallOutput14}
+use Rattle.paper.specs.Refusals.{got, refused, _>>=_, _>>_, refusal, ensure, smallOutput14}
 use Rattle.paper.specs.Numbers.{part}
 use Rattle.paper.specs.Axes.{Shape}
-use Rattle.paper.specs.Bundle.{mark, markBytes, axesBytes, packed, packInto, pack}
-use Rattle.paper.specs.Answers.{axesOf, packSaid}
+use Rattle.paper.specs.Bundle.{mark, markBytes, axesBytes, packed, putInto, pack}
+use Rattle.paper.specs.Answers.{axesOf, numberSaid}
 use Rattle.laws.specs.Numbers.{Bytes}
-use Rattle.laws.specs.Tests.{and-left}
+use Rattle.laws.specs.Tests.{between-true}
 use Rattle.extent.specs.Judged.{fewCells}
 use Rattle.bundle.specs.Read.{cellsIn}
-use Rattle.bundle.specs.Whole.{range-le}
 use Rattle.pack.specs.declared.judge.Verdict.{Verdict}
 use Rattle.pack.specs.declared.put.Ends.{Ends}
 use Rattle.laws.specs.Put.{put, put-none, put-byte, length-put, after}
@@ -45,7 +44,8 @@ pub record ArrayPut (form : Form) (bs : List ℕ) (from : ℕ) (d : List ℕ) (a
   pub cells : r .from ≡ from + cellRoom form
   pub next : r .at ≡ at + length (formBytes form (drop from bs))
 
-module _ {form : Form} {bs : List ℕ} {from : ℕ} {d : List ℕ} {at : ℕ} (q : ArrayRoom form bs from d at) {n : ℕ} (en : n ≡ length (axesOf (form .extent)))
+module _ {form : Form} {bs : List ℕ} {from : ℕ} {d : List ℕ} {at : ℕ} (q : ArrayRoom form bs from d at) {n : ℕ}
+    (en : n ≡ length (axesOf (form .extent)))
     {m : ℕ} (em : m ≡ fewCells (axesOf (form .extent))) where
   abbrev axes : List ℕ
   axes = axesBytes (axesOf (form .extent)) (axesOf (form .maximum))
@@ -65,11 +65,14 @@ module _ {form : Form} {bs : List ℕ} {from : ℕ} {d : List ℕ} {at : ℕ} (q
   -- the buffer after the axes is as long as before
   pub axes-kept : (y : List ℕ) → y ≡ put (set (set d at (form .kind)) (at + 1) n) (at + typeBytes) axes → length y ≡ length d
   axes-kept y p =
-      let l : length (set (set d at (form .kind)) (at + 1) n) ≡ length d = length-set (set d at (form .kind)) (at + 1) n ∙ length-set d at (form .kind) in
-      ap length p ∙ length-put (set (set d at (form .kind)) (at + 1) n) (at + typeBytes) axes (omega (arith, its-axes, its-long, q .room)) ∙ l
+      let l : length (set (set d at (form .kind)) (at + 1) n) ≡ length d =
+      length-set (set d at (form .kind)) (at + 1) n ∙ length-set d at (form .kind) in
+      ap length p ∙ length-put (set (set d at (form .kind)) (at + 1) n) (at + typeBytes) axes (omega (arith, its-axes, its-long, q .room))
+      ∙ l
 
   -- type, axis count, axes, cells, one after the other
-  pub array-put : (y z : List ℕ) → y ≡ put (set (set d at (form .kind)) (at + 1) n) (at + typeBytes) axes → z ≡ put y (at + typeBytes + n * axisBytes) (part from (m * cellBytes) bs)
+  pub array-put : (y z : List ℕ) → y ≡ put (set (set d at (form .kind)) (at + 1) n) (at + typeBytes) axes
+      → z ≡ put y (at + typeBytes + n * axisBytes) (part from (m * cellBytes) bs)
       → z ≡ put d at (formBytes form (drop from bs))
   array-put y z p w =
       let l = its-long in
@@ -80,7 +83,9 @@ module _ {form : Form} {bs : List ℕ} {from : ℕ} {d : List ℕ} {at : ℕ} (q
       let l₁ = length-set d at (form .kind) in
       let e₂ = after d at (form .kind ∷ []) (n ∷ []) d₁ _ (at + 1) (omega arith) refl e₁ (put-byte d₁ (at + 1) n (omega arith)) in
       let e₃ = after d at t axes _ y (at + typeBytes) (omega arith) refl e₂ p in
-      let e₄ = after d at (t ++ axes) (part from (m * cellBytes) bs) y z (at + typeBytes + n * axisBytes) (omega (arith, its-axes)) (omega (arith, its-axes)) e₃ w in
+      let e₄ =
+      after d at (t ++ axes) (part from (m * cellBytes) bs) y z (at + typeBytes + n * axisBytes) (omega (arith, its-axes))
+      (omega (arith, its-axes)) e₃ w in
       e₄ ∙ ap₂ (λ (i j : ℕ). put d at (form .kind ∷ i ∷ (axes ++ take (j * cellBytes) (drop from bs)))) en its-cells
 
 -- ---- arrays in a loop
@@ -100,7 +105,8 @@ pub record Laying (fs : List Form) (bs d₀ d : List ℕ) (from at i : ℕ) : Ty
   pub room : at + length (laidBytes (drop i fs) (drop from bs)) ≤ length d
   pub left : put d at (laidBytes (drop i fs) (drop from bs)) ≡ put d₀ (markBytes + 1) (laidBytes fs bs)
 
-pub laying-start : (fs : List Form) (bs d : List ℕ) → AllReady fs bs → markBytes + 1 + length (laidBytes fs bs) ≤ length d → Laying fs bs d d 0 (markBytes + 1) 0
+pub laying-start : (fs : List Form) (bs d : List ℕ) → AllReady fs bs → markBytes + 1 + length (laidBytes fs bs) ≤ length d
+    → Laying fs bs d d 0 (markBytes + 1) 0
 laying-start fs bs d v h = record { turns = omega arith; long = refl; start = omega arith; ready = v; room = h; left = refl }
 
 module _ {fs : List Form} {bs d₀ d : List ℕ} {from at i : ℕ} (v : Laying fs bs d₀ d from at i) where
@@ -109,7 +115,8 @@ module _ {fs : List Form} {bs d₀ d : List ℕ} {from at i : ℕ} (v : Laying f
     unfolding laidBytes
     parted = rw (e, drop-drop (cellRoom f) from bs)
 
-    both-long : length (laidBytes (drop i fs) (drop from bs)) ≡ length (formBytes f (drop from bs)) + length (laidBytes (drop (i + 1) fs) (drop (from + cellRoom f) bs))
+    both-long : length (laidBytes (drop i fs) (drop from bs))
+        ≡ length (formBytes f (drop from bs)) + length (laidBytes (drop (i + 1) fs) (drop (from + cellRoom f) bs))
     both-long = ap length parted ∙ length-append (formBytes f (drop from bs)) _
 
     its-ready : Ready f (drop from bs) × AllReady (drop (i + 1) fs) (drop (cellRoom f) (drop from bs))
@@ -124,14 +131,17 @@ module _ {fs : List Form} {bs d₀ d : List ℕ} {from at i : ℕ} (v : Laying f
         let b : at + length (formBytes f (drop from bs)) ≤ length d = laying-room .room in
         let l : length y ≡ length d = ap length (p .bytes) ∙ length-put d at x b in
         let w : AllReady (drop (i + 1) fs) (drop (from + cellRoom f) bs) = rw drop-drop at (its-ready .1) in
-        let z : laidBytes (drop (i + 1) fs) (drop (r .from) bs) ≡ laidBytes (drop (i + 1) fs) (drop (from + cellRoom f) bs) = ap (λ (j : ℕ). laidBytes (drop (i + 1) fs) (drop j bs)) (p .cells) in
+        let z : laidBytes (drop (i + 1) fs) (drop (r .from) bs) ≡ laidBytes (drop (i + 1) fs) (drop (from + cellRoom f) bs) =
+        ap (λ (j : ℕ). laidBytes (drop (i + 1) fs) (drop j bs)) (p .cells) in
         record {
           turns = omega arith;
           long = l ∙ v .long;
           start = omega (arith, p .cells, its-ready .0 .fits, v .start, length-drop from bs);
           ready = subst (λ (j : ℕ). AllReady (drop (i + 1) fs) (drop j bs)) (sym (p .cells)) w;
           room = omega (arith, ap length z, v .room, both-long, p .next);
-          left = ap (put y (r .at)) z ∙ after d at x (laidBytes (drop (i + 1) fs) (drop (from + cellRoom f) bs)) y _ (r .at) b (p .next) (p .bytes) refl ∙ ap (put d at) (sym parted) ∙ v .left;
+          left =
+              ap (put y (r .at)) z ∙ after d at x (laidBytes (drop (i + 1) fs) (drop (from + cellRoom f) bs)) y _ (r .at) b (p .next)
+              (p .bytes) refl ∙ ap (put d at) (sym parted) ∙ v .left;
         }
 
   pub laying-end : length fs ≤ i → d ≡ put d₀ (markBytes + 1) (laidBytes fs bs)
@@ -140,45 +150,52 @@ module _ {fs : List Form} {bs d₀ d : List ℕ} {from at i : ℕ} (v : Laying f
 
 -- ---- packing
 
-range : (n : ℕ) → between 1 mostArrays n ≡ true → (1 ≤ n) × (n ≤ mostArrays)
-range n e = (leb-true 1 n (and-left (leb 1 n) (leb n mostArrays) e), range-le mostArrays n e)
-
 -- the promise: the answer and the output buffer after are those that the paper's packing gives of these shapes and cells
-pub record PackedInto (ss : List Shape) (bs out : List ℕ) (r : PackAnswer) (y : List ℕ) : Type 0 where
-  pub said : packSaid r ≡ pack ss bs out .answer
-  pub wrote : y ≡ pack ss bs out .out
+pub record PackedInto (ss : List Shape) (bs out : List ℕ) (r : NumberAnswer) (y : List ℕ) : Type 0 where
+  pub said : numberSaid r ≡ pack ss bs out .answer
+  pub wrote : y ≡ pack ss bs out .buffer
 
-pub pack-refused : (ss : List Shape) (bs out : List ℕ) (x : Refusal) → packed ss bs (length out) ≡ refused x → PackedInto ss bs out (Refused x) out
-unfolding packInto
+pub pack-refused : (ss : List Shape) (bs out : List ℕ) (x : Refusal) → packed ss bs (length out) ≡ refused x
+    → PackedInto ss bs out (Refused x) out
+unfolding putInto
 pack-refused ss bs out x e = record { said = rw e; wrote = rw e }
 
-module _ {count : ℕ} {forms : List Form} {bs : List ℕ} (out : List ℕ) (l : length forms ≡ mostArrays) (g : Bytes bs) {r : Verdict} (j : JudgedAll count forms bs r) (z : r .refusal .number ≡ 0) where
+module _ {count : ℕ} {forms : List Form} {bs : List ℕ} {r : Verdict} (j : JudgedAll count forms bs r) (z : r .refusal .number ≡ 0) where
   abbrev bundle : List ℕ
   bundle = bundleOf count (take count forms) bs
 
   pub count-least : (1 ≤ count) × (count ≤ mostArrays)
-  count-least = range count (j .counted z)
+  count-least = between-true mostArrays count (j .counted z)
 
   its-length : length bundle ≡ r .long
   its-length = omega (arith, j .long z)
 
-  pub pack-small : length out < r .long → PackedInto (shapesOf count forms) bs out (Refused (refusal smallOutput14 0 0)) out
-  pack-small h =
-      let f : leb (length bundle) (length out) ≡ false = lt-leb (length bundle) (length out) (omega (arith, its-length)) in
-      pack-refused _ bs out _ (packed-ready count forms bs (length out) (omega (arith, count-least)) (j .counted z) (j .ready z) (j .rest z) g ∙ rw f)
-
-  pub all-room : r .long ≤ length out → (y : List ℕ) → y ≡ put out 0 (mark ++ (count ∷ [])) → AllRoom count forms bs y
-  all-room h y p =
+  -- the mark is written
+  pub all-room : (out : List ℕ) → r .long ≤ length out → (y : List ℕ) → y ≡ put out 0 (mark ++ (count ∷ [])) → AllRoom count forms bs y
+  all-room out h y p =
       let e : length y ≡ length out = ap length p ∙ length-put out 0 (mark ++ (count ∷ [])) (omega (arith, j .long z)) in
       record { few = count-least .1; ready = j .ready z; room = omega (arith, j .long z) }
 
-  pub pack-got : r .long ≤ length out → (y w : List ℕ) → y ≡ put out 0 (mark ++ (count ∷ [])) → w ≡ put y (markBytes + 1) (laidBytes (take count forms) bs)
-      → PackedInto (shapesOf count forms) bs out (Got (r .long)) w
-  unfolding packInto
-  pack-got h y w p q =
-      let f : leb (length bundle) (length out) ≡ true = le-leb (length bundle) (length out) (omega (arith, its-length)) in
-      let e : packed (shapesOf count forms) bs (length out) ≡ got bundle =
-      packed-ready count forms bs (length out) (omega (arith, count-least)) (j .counted z) (j .ready z) (j .rest z) g ∙ rw f in
-      let u = after out 0 (mark ++ (count ∷ [])) (laidBytes (take count forms) bs) y w (markBytes + 1) (omega (arith, j .long z)) refl p q in
-      let n : 0 + length bundle ≡ length bundle = omega arith in
-      record { said = rw e (ap got (sym its-length)); wrote = rw e (u ∙ ap (λ (i : ℕ). bundle ++ drop i out) n) }
+  module _ (l : length forms ≡ mostArrays) (g : Bytes bs) (out : List ℕ) where
+    by-room : (b : Bool) → leb (length bundle) (length out) ≡ b
+        → packed (shapesOf count forms) bs (length out) ≡ (ensure b smallOutput14 0 >> got bundle)
+    by-room b e =
+        packed-ready count forms bs (length out) (omega (arith, count-least)) (j .counted z) (j .ready z) (j .rest z) g
+        ∙ ap (λ (b : Bool). ensure b smallOutput14 0 >> got bundle) e
+
+    pub pack-small : length out < r .long → (x : Refusal) → x ≡ refusal smallOutput14 0 0
+        → PackedInto (shapesOf count forms) bs out (Refused x) out
+    pack-small h x e =
+        let f = lt-leb (length bundle) (length out) (omega (arith, its-length)) in
+        pack-refused _ bs out x (by-room false f ∙ ap refused (sym e))
+
+    pub pack-got : r .long ≤ length out → (y w : List ℕ) → y ≡ put out 0 (mark ++ (count ∷ []))
+        → w ≡ put y (markBytes + 1) (laidBytes (take count forms) bs) → PackedInto (shapesOf count forms) bs out (Got (r .long)) w
+    unfolding putInto
+    pack-got h y w p q =
+        let f = le-leb (length bundle) (length out) (omega (arith, its-length)) in
+        let e : packed (shapesOf count forms) bs (length out) ≡ got bundle = by-room true f in
+        let u =
+        after out 0 (mark ++ (count ∷ [])) (laidBytes (take count forms) bs) y w (markBytes + 1) (omega (arith, j .long z)) refl p q in
+        let n : 0 + length bundle ≡ length bundle = omega arith in
+        record { said = rw e (ap got (sym its-length)); wrote = rw e (u ∙ ap (λ (i : ℕ). bundle ++ drop i out) n) }

@@ -1,7 +1,7 @@
 -- What the bundle's writers cite: names, positions and axes. A loop that writes keeps it true that
 -- what is left, put where it now stands, gives what the whole gave at the start.
 use Prim.Native.Nat.{ℕ, _+_, _*_, _/_, _%_, _^_, _≤_, _<_}
-use mathlib.Core.Path.{_≡_, refl, sym, ap, _∙_}
+use mathlib.Core.Path.{_≡_, refl, sym, ap, subst, _∙_}
 use mathlib.Core.List.{List, [], _∷_, _++_}
 use native.Mathlib.Omega.{arith}
 use lib.ListN.{length, take, drop, length-append}
@@ -9,12 +9,13 @@ use Rattle.paper.specs.declared.Axis.{Axis}
 use Rattle.paper.specs.declared.Extent.{Extent}
 use mir.Syntax.{w32}
 use mir.Val.{ofZ}
-use Rattle.paper.specs.Limits.{limitBytes, pairBytes, nameBytes, axisBytes}
+use Rattle.paper.specs.Limits.{mostAxes, limitBytes, pairBytes, nameBytes, axisBytes}
 use Rattle.paper.specs.Numbers.{leBytes, position, positionBytes}
 use Rattle.paper.specs.Bundle.{axesBytes}
 use Rattle.paper.specs.Answers.{axesOf}
 use Rattle.laws.specs.Put.{put, put-none, length-put, put-put, after}
-use Rattle.extent.specs.Rank.{Rank, axisNo, axes-up, axes-end}
+use Rattle.laws.specs.Answers.{count-few}
+use Rattle.extent.specs.Rank.{Rank, rank-told, axisNo, axes-up, axes-end}
 
 -- ---- numbers and axes
 
@@ -45,10 +46,12 @@ eight-bytes n = halves
 abbrev pub FourPut : List ℕ → ℕ → ℕ → List ℕ → Type 0
 FourPut d at n y = y ≡ take at d ++ leBytes limitBytes n ++ drop (at + limitBytes) d
 
-pub name-put : (d y z : List ℕ) (at n : ℕ) → at + nameBytes ≤ length d → FourPut d at (n % 256 ^ limitBytes) y → FourPut y (at + limitBytes) (n / 256 ^ limitBytes) z → z ≡ put d at (leBytes nameBytes n)
+pub name-put : (d y z : List ℕ) (at n : ℕ) → at + nameBytes ≤ length d → FourPut d at (n % 256 ^ limitBytes) y
+    → FourPut y (at + limitBytes) (n / 256 ^ limitBytes) z → z ≡ put d at (leBytes nameBytes n)
 unfolding leBytes
 name-put d y z at n h p q =
-    after d at (leBytes limitBytes (n % 256 ^ limitBytes)) (leBytes limitBytes (n / 256 ^ limitBytes)) y z (at + limitBytes) (omega arith) refl p q ∙ ap (put d at) (eight-bytes n)
+    after d at (leBytes limitBytes (n % 256 ^ limitBytes)) (leBytes limitBytes (n / 256 ^ limitBytes)) y z (at + limitBytes)
+    (omega arith) refl p q ∙ ap (put d at) (eight-bytes n)
 
 -- and of a position's
 pub record PositionPut (d : List ℕ) (at p : ℕ) (y : List ℕ) : Type 0 where
@@ -62,7 +65,8 @@ position-put d at p y v = v .four ∙ ap (λ (n : ℕ). put d at (leBytes limitB
 
 -- an axis with its maximum
 abbrev pub axisPart : Axis → Axis → List ℕ
-axisPart a m = leBytes nameBytes (a .name) ++ (positionBytes (a .lo) ++ (positionBytes (a .hi) ++ (positionBytes (m .lo) ++ positionBytes (m .hi))))
+axisPart a m =
+    leBytes nameBytes (a .name) ++ (positionBytes (a .lo) ++ (positionBytes (a .hi) ++ (positionBytes (m .lo) ++ positionBytes (m .hi))))
 
 pub axis-long : (a m : Axis) → length (axisPart a m) ≡ axisBytes
 unfolding leBytes
@@ -70,15 +74,21 @@ axis-long a m = refl
 
 -- five parts, one after the other
 module _ (d₀ d₁ d₂ d₃ d₄ d₅ : List ℕ) (at : ℕ) (a m : Axis) (h : at + axisBytes ≤ length d₀) where
-  pub axis-put : d₁ ≡ put d₀ at (leBytes nameBytes (a .name)) → PositionPut d₁ (at + nameBytes) (a .lo) d₂ → PositionPut d₂ (at + (nameBytes + limitBytes)) (a .hi) d₃ → PositionPut d₃ (at + (nameBytes + pairBytes)) (m .lo) d₄
+  pub axis-put : d₁ ≡ put d₀ at (leBytes nameBytes (a .name)) → PositionPut d₁ (at + nameBytes) (a .lo) d₂
+      → PositionPut d₂ (at + (nameBytes + limitBytes)) (a .hi) d₃ → PositionPut d₃ (at + (nameBytes + pairBytes)) (m .lo) d₄
       → PositionPut d₄ (at + (nameBytes + pairBytes + limitBytes)) (m .hi) d₅ → d₅ ≡ put d₀ at (axisPart a m)
   unfolding leBytes
   axis-put n p q r s =
       let x = leBytes nameBytes (a .name) in
       let b = after d₀ at x (positionBytes (a .lo)) d₁ d₂ (at + nameBytes) (omega arith) refl n (position-put d₁ _ _ d₂ p) in
-      let c = after d₀ at (x ++ positionBytes (a .lo)) (positionBytes (a .hi)) d₂ d₃ (at + (nameBytes + limitBytes)) (omega arith) refl b (position-put d₂ _ _ d₃ q) in
-      let e = after d₀ at ((x ++ positionBytes (a .lo)) ++ positionBytes (a .hi)) (positionBytes (m .lo)) d₃ d₄ (at + (nameBytes + pairBytes)) (omega arith) refl c (position-put d₃ _ _ d₄ r) in
-      after d₀ at (((x ++ positionBytes (a .lo)) ++ positionBytes (a .hi)) ++ positionBytes (m .lo)) (positionBytes (m .hi)) d₄ d₅ (at + (nameBytes + pairBytes + limitBytes)) (omega arith) refl e (position-put d₄ _ _ d₅ s)
+      let c =
+      after d₀ at (x ++ positionBytes (a .lo)) (positionBytes (a .hi)) d₂ d₃ (at + (nameBytes + limitBytes)) (omega arith) refl b
+      (position-put d₂ _ _ d₃ q) in
+      let e =
+      after d₀ at ((x ++ positionBytes (a .lo)) ++ positionBytes (a .hi)) (positionBytes (m .lo)) d₃ d₄ (at + (nameBytes + pairBytes))
+      (omega arith) refl c (position-put d₃ _ _ d₄ r) in
+      after d₀ at (((x ++ positionBytes (a .lo)) ++ positionBytes (a .hi)) ++ positionBytes (m .lo)) (positionBytes (m .hi)) d₄ d₅
+      (at + (nameBytes + pairBytes + limitBytes)) (omega arith) refl e (position-put d₄ _ _ d₅ s)
 
 axes-cons : (a m : Axis) (E M : List Axis) → axesBytes (a ∷ E) (m ∷ M) ≡ axisPart a m ++ axesBytes E M
 unfolding axesBytes leBytes
@@ -87,6 +97,10 @@ axes-cons a m E M = refl
 axes-none : (M : List Axis) → axesBytes [] M ≡ []
 unfolding axesBytes
 axes-none M = refl
+
+-- the number of an extent's axes, however it was had
+pub ranked : (e : Extent) (r : ℕ) → length (e .axes) ≡ mostAxes → r ≡ length (axesOf e) → Rank e r
+ranked e r l n = let k = rank-told e _ l refl (count-few (e .rank)) in subst (Rank e) (k .number ∙ sym n) k
 
 -- as many axes and maxima, and room for them
 pub record AxesRoom (e m : Extent) (at : ℕ) (d : List ℕ) : Type 0 where
@@ -109,13 +123,17 @@ module _ {e m : Extent} {d₀ : List ℕ} {at : ℕ} where
         let x = axisPart (axisNo e i) (axisNo m i) in
         let z = axesBytes (drop (i + 1) (axesOf e)) (drop (i + 1) (axesOf m)) in
         let n = axis-long (axisNo e i) (axisNo m i) in
-        let b : at + i * axisBytes + length (axisPart (axisNo e i) (axisNo m i)) ≤ length d = omega (arith, n, v .long, q .room, re .number) in
+        let b : at + i * axisBytes + length (axisPart (axisNo e i) (axisNo m i)) ≤ length d =
+        omega (arith, n, v .long, q .room, re .number) in
         let f : at + (i + 1) * axisBytes ≡ at + i * axisBytes + length (axisPart (axisNo e i) (axisNo m i)) = omega (arith, n) in
-        let p : axesBytes (drop i (axesOf e)) (drop i (axesOf m)) ≡ x ++ z = rw (axes-up e r re i h, axes-up m r rm i h) (axes-cons _ _ _ _) in
+        let p : axesBytes (drop i (axesOf e)) (drop i (axesOf m)) ≡ x ++ z =
+        rw (axes-up e r re i h, axes-up m r rm i h) (axes-cons _ _ _ _) in
         record {
           turns = omega (arith, re .number);
           long = ap length w ∙ length-put d (at + i * axisBytes) x b ∙ v .long;
-          left = ap (λ (u : List ℕ). put u (at + (i + 1) * axisBytes) z) w ∙ put-put d (at + i * axisBytes) x b (at + (i + 1) * axisBytes) z f ∙ ap (put d (at + i * axisBytes)) (sym p) ∙ v .left;
+          left =
+              ap (λ (u : List ℕ). put u (at + (i + 1) * axisBytes) z) w ∙ put-put d (at + i * axisBytes) x b (at + (i + 1) * axisBytes) z f
+              ∙ ap (put d (at + i * axisBytes)) (sym p) ∙ v .left;
         }
 
     pub axes-done : r ≤ i → d ≡ put d₀ at (axesBytes (axesOf e) (axesOf m))
@@ -128,4 +146,5 @@ pub axes-length : (E M : List Axis) → length M ≡ length E → length (axesBy
 axes-length [] M h = ap length (axes-none M)
 axes-length (a ∷ E) [] h = absurd (omega arith)
 axes-length (a ∷ E) (m ∷ M) h =
-    ap length (axes-cons a m E M) ∙ length-append (axisPart a m) (axesBytes E M) ∙ omega (arith, axis-long a m, axes-length E M (omega arith))
+    ap length (axes-cons a m E M) ∙ length-append (axisPart a m) (axesBytes E M)
+    ∙ omega (arith, axis-long a m, axes-length E M (omega arith))

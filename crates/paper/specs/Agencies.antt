@@ -12,7 +12,7 @@ use Rattle.paper.specs.declared.Cell.{Cell}
 use Rattle.paper.specs.declared.Cell.the-variants.{Empty, Int, Truth}
 use Rattle.paper.specs.Limits.{INT, FLOAT, smallestInt, largestInt}
 use Rattle.paper.specs.Numbers.{text, same}
-use Rattle.paper.specs.Bundle.{Packed, bundleBytes}
+use Rattle.paper.specs.Bundle.{After, bundleBytes}
 use Rattle.paper.specs.Json.{jsonText, writeJson}
 use Rattle.paper.specs.Opened.{opened}
 use Rattle.paper.specs.Written.{all, axis, array, ints, counted, said, one, m1}
@@ -47,11 +47,11 @@ abbrev bundle : List ℕ
 bundle = bundleBytes (array INT square (ints (pos 1 ∷ pos 2 ∷ pos 5 ∷ pos 6 ∷ [])) ∷ array FLOAT (line 1) (Empty ∷ []) ∷ [])
 
 -- what the call says and leaves: array k, in a buffer of n bytes, all 7
-abbrev call : List ℕ → ℕ → ℕ → Packed
+abbrev call : List ℕ → ℕ → ℕ → After
 call bs k n = writeJson bs k (replicate n 7)
 
-abbrev leaves : Packed → List ℕ → List ℕ → Bool
-leaves p answer out = all (same (said one (p .answer)) answer ∷ same (p .out) out ∷ [])
+abbrev leaves : After → List ℕ → List ℕ → Bool
+leaves p answer out = all (same (said one (p .answer)) answer ∷ same (p .buffer) out ∷ [])
 
 abbrev printed : List ℕ
 printed = text "{\"data\":[[1,2],[5,6]]}"

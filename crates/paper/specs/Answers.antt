@@ -2,7 +2,7 @@
 -- every case. A promise says that the answer, so read, is what the definitions above give.
 use Prim.Native.Nat.{ℕ, _+_, _-_, _*_}
 use mathlib.Core.List.{List, [], _∷_, _++_, map}
-use lib.Dec.{eqb}
+use lib.Dec.{eqb, leb}
 use lib.ListN.{take, length, replicate}
 use Rattle.paper.specs.declared.Axis.{Axis}
 use Rattle.paper.specs.declared.Extent.{Extent}
@@ -10,8 +10,8 @@ use Rattle.paper.specs.declared.Form.{Form}
 use Rattle.paper.specs.declared.Cell.{Cell}
 use Rattle.paper.specs.declared.Refusal.{Refusal}
 use Rattle.paper.specs.declared.Reading.{Reading}
-use Rattle.paper.specs.declared.PackAnswer.{PackAnswer}
-use Rattle.paper.specs.declared.PackAnswer.the-variants as Pack
+use Rattle.paper.specs.declared.NumberAnswer.{NumberAnswer}
+use Rattle.paper.specs.declared.NumberAnswer.the-variants as Number
 use Rattle.paper.specs.declared.ReferenceAnswer.{ReferenceAnswer}
 use Rattle.paper.specs.declared.ReferenceAnswer.the-variants as Reference
 use Rattle.paper.specs.declared.Seen.{Seen}
@@ -21,16 +21,12 @@ use Rattle.paper.specs.declared.Walk.{Walk}
 use Rattle.paper.specs.declared.Totalled.{Totalled}
 use Rattle.paper.specs.declared.TotalAnswer.{TotalAnswer}
 use Rattle.paper.specs.declared.TotalAnswer.the-variants as Total
-use Rattle.paper.specs.declared.RunAnswer.{RunAnswer}
-use Rattle.paper.specs.declared.RunAnswer.the-variants as Run
 use Rattle.paper.specs.declared.Listed.{Listed}
 use Rattle.paper.specs.declared.PageAnswer.{PageAnswer}
 use Rattle.paper.specs.declared.PageAnswer.the-variants as Page
 use Rattle.paper.specs.declared.Part.{Part}
 use Rattle.paper.specs.declared.StretchAnswer.{StretchAnswer}
 use Rattle.paper.specs.declared.StretchAnswer.the-variants as Stretch
-use Rattle.paper.specs.declared.JsonAnswer.{JsonAnswer}
-use Rattle.paper.specs.declared.JsonAnswer.the-variants as Json
 use Rattle.paper.specs.Limits.{mostAxes, axisBytes, typeBytes, cellBytes}
 use Rattle.paper.specs.Refusals.{Res, got, refused, _>>=_, if_then_else_}
 use Rattle.paper.specs.Axes.{cells, noAxis, Shape, Array, shaped}
@@ -39,9 +35,13 @@ use Rattle.paper.specs.Reference.{Walked}
 
 -- ---- extents
 
--- an extent's axes: the first `rank`
-abbrev pub axesOf : Extent → List Axis
-axesOf e = take (e .rank) (e .axes)
+-- as many axes as a count tells of; none where an array has no room for so many
+abbrev pub axisCount : ℕ → ℕ
+axisCount n = if leb n mostAxes then n else 0
+
+-- an extent's axes
+unfoldable pub axesOf : Extent → List Axis
+axesOf e = take (axisCount (e .rank)) (e .axes)
 
 -- the extent that has these axes, and nothing past the last
 abbrev pub extentOf : List Axis → Extent
@@ -75,9 +75,9 @@ readSaid r = unless (r .refusal) (map (λ h. (shapeOf (h .form), h .at)) (take (
 
 -- ---- the other answers
 
-abbrev pub packSaid : PackAnswer → Res ℕ
-packSaid (Pack.Got n) = got n
-packSaid (Pack.Refused r) = refused r
+abbrev pub numberSaid : NumberAnswer → Res ℕ
+numberSaid (Number.Got n) = got n
+numberSaid (Number.Refused r) = refused r
 
 abbrev pub referenceSaid : ReferenceAnswer → Res Cell
 referenceSaid (Reference.Got c) = got c
@@ -94,10 +94,6 @@ abbrev pub totalSaid : TotalAnswer → Res Totalled
 totalSaid (Total.Got t) = got t
 totalSaid (Total.Refused r) = refused r
 
-abbrev pub runSaid : RunAnswer → Res ℕ
-runSaid (Run.Got n) = got n
-runSaid (Run.Refused r) = refused r
-
 abbrev pub pageSaid : PageAnswer → Res Listed
 pageSaid (Page.Got l) = got l
 pageSaid (Page.Refused r) = refused r
@@ -105,7 +101,3 @@ pageSaid (Page.Refused r) = refused r
 abbrev pub stretchSaid : StretchAnswer → Res Part
 stretchSaid (Stretch.Got p) = got p
 stretchSaid (Stretch.Refused r) = refused r
-
-abbrev pub jsonSaid : JsonAnswer → Res ℕ
-jsonSaid (Json.Got n) = got n
-jsonSaid (Json.Refused r) = refused r

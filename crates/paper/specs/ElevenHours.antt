@@ -65,7 +65,7 @@ table =
     same (said paged (pageFrom 1 .answer)) (0 ∷ 1 ∷ 5 ∷ [])
     ∷ same (pageFrom 1 .rows) ((3 ∷ 0 ∷ 0 ∷ 0 ∷ positionBytes (distance (pos 2))) ++ (positionBytes (distance (pos 1)) ++ replicate 13 7))
     -- the values: the rests, step 4's four cells after twelve others, are 960 960, 360 1560
-    ∷ same (part (9 * 12) (9 * 4) (run roster recipe (replicate 180 7) .work)) (cellsBytes (ints (pos 960 ∷ pos 960 ∷ pos 360 ∷ pos 1560 ∷ [])))
+    ∷ same (part (9 * 12) (9 * 4) (run roster recipe (replicate 180 7) .buffer)) (cellsBytes (ints (pos 960 ∷ pos 960 ∷ pos 360 ∷ pos 1560 ∷ [])))
     -- the work area: 180 bytes done, 179 refused 10
     ∷ same (said one (run roster recipe (replicate 180 7) .answer)) (0 ∷ 20 ∷ [])
     ∷ same (said one (run roster recipe (replicate 179 7) .answer)) (10 ∷ 0 ∷ 0 ∷ [])

@@ -9,10 +9,10 @@ use Rattle.paper.specs.declared.Axis.{Axis}
 use Rattle.paper.specs.declared.Cell.{Cell}
 use Rattle.paper.specs.declared.Cell.the-variants.{Empty, Int, Float, Truth}
 use Rattle.paper.specs.Limits.{FLOAT}
-use Rattle.paper.specs.Refusals.{Res, got, refused, _>>=_, _>>_, ensure, unfit7, smallOutput14}
+use Rattle.paper.specs.Refusals.{Res, got, _>>=_, _>>_, ensure, unfit7, smallOutput14}
 use Rattle.paper.specs.Numbers.{text}
 use Rattle.paper.specs.Axes.{width, cells}
-use Rattle.paper.specs.Bundle.{Packed, packInto}
+use Rattle.paper.specs.Bundle.{After, putInto}
 use Rattle.paper.specs.Reference.{chosen}
 use Rattle.paper.specs.Rests.{decimal}
 
@@ -59,5 +59,5 @@ written bundle k room = do
   got json
 
 -- the text's length; as in packing, the buffer after the text is untouched, and all of it with a refusal
-abbrev pub writeJson : List ℕ → ℕ → List ℕ → Packed
-writeJson bundle k out = packInto out (written bundle k (length out))
+abbrev pub writeJson : List ℕ → ℕ → List ℕ → After
+writeJson bundle k out = putInto out (written bundle k (length out))

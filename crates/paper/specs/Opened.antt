@@ -14,11 +14,11 @@ use Rattle.paper.specs.Rests as Rests
 use Rattle.paper.specs.Json as Json
 
 unfoldable pub numbers : Unit {0}
-unfolding Numbers.leBytes Numbers.position Numbers.distance Numbers.lastOf Numbers.from Numbers.concat Numbers.total Numbers.same Numbers.zeros
+unfolding Numbers.leBytes Numbers.position Numbers.distance Numbers.lastOf Numbers.from Numbers.concat Numbers.total Numbers.alike Numbers.zeros
 numbers = tt
 
 unfoldable pub axes : Unit {0}
-unfolding Axes.nameRest Axes.isName Axes.named Axes.goodNames Axes.goodLimits Axes.cells Axes.alike Axes.inside Axes.offset Axes.atOffset Axes.build Axes.placeOf Axes.at
+unfolding Axes.nameRest Axes.isName Axes.named Axes.goodNames Axes.goodLimits Axes.cells Axes.offset Axes.atOffset Axes.build Axes.placeOf Axes.at
 axes = tt
 
 unfoldable pub cells : Unit {0}
@@ -30,7 +30,7 @@ unfolding Operators.takes Operators.gives Operators.takesOne Operators.givesOne 
 operators = tt
 
 unfoldable pub bundle : Unit {0}
-unfolding Bundle.eachAxis Bundle.cellsOf Bundle.arrayOf Bundle.readArray Bundle.readArrays Bundle.readBundle Bundle.axesBytes Bundle.arrayBytes Bundle.bundleBytes Bundle.packArrays Bundle.packed Bundle.packInto
+unfolding Bundle.eachAxis Bundle.cellsOf Bundle.arrayOf Bundle.readArray Bundle.readArrays Bundle.readBundle Bundle.axesBytes Bundle.arrayBytes Bundle.bundleBytes Bundle.packArray Bundle.packArrays Bundle.packed Bundle.putInto
 bundle = tt
 
 unfoldable pub reference : Unit {0}
@@ -42,19 +42,19 @@ unfolding Totals.totals? Totals.filledFrom Totals.holds Totals.best Totals.bestO
 totals = tt
 
 unfoldable pub recipe : Unit {0}
-unfolding Recipe.operation Recipe.operand Recipe.uses Recipe.unusedZero Recipe.isScalar Recipe.typesFit Recipe.agree Recipe.eachAnew Recipe.glued Recipe.fitsIn Recipe.resultOf Recipe.planStep Recipe.planSteps Recipe.planRecipe
+unfolding Recipe.operation Recipe.operand Recipe.uses Recipe.unusedZero Recipe.isScalar Recipe.takesType Recipe.typesFit Recipe.agree Recipe.eachAnew Recipe.glued Recipe.fitsIn Recipe.resultType Recipe.resultAxes Recipe.stepTests Recipe.stepResult Recipe.stepOver Recipe.planStep Recipe.planSteps Recipe.planRecipe
 recipe = tt
 
 unfoldable pub values : Unit {0}
-unfolding Values.shiftedBack Values.overlaid Values.gluedCell Values.cellAt Values.settled Values.valueOf Values.valuesFrom
+unfolding Values.shiftedBack Values.whence Values.taken Values.made Values.cellAt Values.settled Values.valueOf Values.valuesFrom
 values = tt
 
 unfoldable pub listing : Unit {0}
-unfolding Listing.planned Listing.workAfter Listing.runTests Listing.runAfter Listing.row Listing.pageTests Listing.listed Listing.goOn Listing.pageOf Listing.pageValues Listing.pageAfter
+unfolding Listing.planned Listing.workAfter Listing.runTests Listing.runAfter Listing.row Listing.listTests Listing.pageTests Listing.listed Listing.goOn Listing.pageOf Listing.pageValues Listing.pageAfter
 listing = tt
 
 unfoldable pub stretch : Unit {0}
-unfolding Stretch.judge Stretch.stay Stretch.stretchAt Stretch.stretch Stretch.handedOut
+unfolding Stretch.judge Stretch.stay Stretch.stretchAt Stretch.glueTests Stretch.stretch Stretch.handedOut
 stretch = tt
 
 unfoldable pub rests : Unit {0}

@@ -8,17 +8,14 @@ ghost use Rattle.paper.specs.Numbers.{position, distance, positionAt, moved};
 ghost use Rattle.positions.specs.Runs.{Holds};
 ghost use Rattle.positions.specs.Moves.{Near, lower};
 use cell::bytes::half;
+use paper::REACH;
 
-// The bytes of a limit, the bits at which signed numbers turn negative, and those of the lowest position.
-pub const LIMIT: usize = 4;
-
+// The bits at which signed numbers turn negative, and those of the lowest position.
 const TURNING: u32 = 2147483648;
 
 const LOWEST: u32 = 4293967296;
 
-// The distance of 0, and one that is no position's.
-pub const REACH: u32 = 1000000;
-
+// A distance that is no position's.
 const NOWHERE: u32 = 4294967295;
 
 // The distance m lower than d.

@@ -2,14 +2,14 @@
 // makes of them. A missing file counts as empty.
 ghost use Rattle.io.specs.Counts.{Counts};
 use libc::STDOUT_FILENO;
+use paper::FILE_BYTES;
+use paper::LIMIT_BYTES;
 
 // The bytes of a file at most, and one byte more, by which a longer file is seen.
-const FILE: usize = 32769;
+const FILE: usize = FILE_BYTES + 1;
 
-const WORK: usize = 32768;
-
-// A row of 20 bytes for each of 4,096 cells, and the longest text.
-const ROWS: usize = 81920;
+// A row for each of 4,096 cells, and the longest text.
+const ROWS: usize = 4096 * (LIMIT_BYTES + LIMIT_BYTES * paper::AXES);
 
 const TEXT: usize = 454684;
 
@@ -28,7 +28,7 @@ fn read_file(path: &[u8], buf: &mut [u8]) -> usize
 
 // Prints the text of a bundle and a recipe.
 fn print_text(roster: &[u8], recipe: &[u8]) {
-    let mut work = [0u8; WORK];
+    let mut work = [0u8; FILE_BYTES];
     let mut rows = [0u8; ROWS];
     let mut out = [0u8; TEXT];
     let n = report::report(roster, recipe, &mut work, &mut rows, &mut out);

@@ -109,7 +109,8 @@ module _ {B W : List ℕ} {base : ℕ} {q : Pairing} {n off : ℕ} {work : List 
   module _ {i x j y code : ℕ} (a : (i ≡ markFrom B (take base work) (q .first) off) × (x ≡ wordFrom B (take base work) (q .scalar) (q .first) off))
       (b : (j ≡ markFrom B (take base work) (q .second) off) × (y ≡ wordFrom B (take base work) (q .scalar) (q .second) off)) (e : code ≡ q .code) where
     -- a word that is no NaN's, read
-    read-so : (f : Source) (w : ℕ) → w ≡ wordFrom B (take base work) (q .scalar) f off → NoNan (wordAt B (take base W) (q .scalar) f k) → NoNan w
+    read-so : (f : Source) (w : ℕ) → w ≡ wordFrom B (take base work) (q .scalar) f off → NoNan (wordAt B (take base W) (q .scalar) f k)
+        → NoNan w
     read-so f w h =
         subst NoNan
         (sym (h ∙ ap (wordFrom B (take base work) (q .scalar) f) (t .upto .at) ∙ ap (λ (D : List ℕ). wordAt B D (q .scalar) f k) (t .upto .ahead .earlier)))

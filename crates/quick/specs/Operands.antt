@@ -60,7 +60,8 @@ pub record Reaches (bundle done : List ℕ) (f : Source) (k : ℕ) : Type 0 wher
   pub room : Lies bundle done f (k * cellBytes)
 
 -- read where it lies
-pub raw-there : (bundle done side : List ℕ) (f : Source) (w x off : ℕ) → eqb (f .which) scalarSide ≡ false → side ≡ bytesIn (f .which) bundle done
+pub raw-there : (bundle done side : List ℕ) (f : Source) (w x off : ℕ) → eqb (f .which) scalarSide ≡ false
+    → side ≡ bytesIn (f .which) bundle done
     → x ≡ leOf (part (f .at + off + 1) wordBytes side) → (getD side (f .at + off) 0 ≡ markFrom bundle done f off) × (x ≡ wordFrom bundle done w f off)
 raw-there bundle done side f w x off e q h =
     (rw e (ap (λ (l : List ℕ). getD l (f .at + off) 0) q), rw e (h ∙ ap (λ (l : List ℕ). leOf (part (f .at + off + 1) wordBytes l)) q))

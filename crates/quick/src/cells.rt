@@ -15,8 +15,7 @@ use coded::ints;
 use coded::singles;
 use coded::truths;
 use paper::Answer;
-
-const CELL: usize = 9;
+use paper::CELL_BYTES;
 
 // What a code gives at two cells as they lie. The four are called here as well as by `computed`: a function with one caller becomes a part
 // of it, and a part that large is never put in line in a loop.
@@ -53,7 +52,7 @@ pub fn quick_cells(
     requires { ⌜ code ≡ q .code ⌝ }
     ensures { λ r. ⌜ Ahead (now (bundle .entry)) (now (work .entry)) base q n r (now (work .exit)) ⌝ }
 {
-    let end = n * CELL;
+    let end = n * CELL_BYTES;
     let mut off: usize = 0;
     while off < end {
         let done = &work[..base];
@@ -62,9 +61,9 @@ pub fn quick_cells(
         let got = worked(code, a, b);
         match got {
             Answer::Is(c) => write_cell(work, base + off, c),
-            Answer::Refused(_) => return off / CELL,
+            Answer::Refused(_) => return off / CELL_BYTES,
         }
-        off += CELL;
+        off += CELL_BYTES;
     }
-    off / CELL
+    off / CELL_BYTES
 }

@@ -3,9 +3,7 @@ ghost use mathlib.Core.Path.{_≡_};
 ghost use lib.Dec.{eqb};
 ghost use Rattle.quick.specs.Operands.{scalarSide, bytesIn, markFrom, wordFrom, markAt, wordAt, Lies, Reaches};
 use cell::bytes::word;
-
-// The bytes of a cell.
-const CELL: usize = 9;
+use paper::CELL_BYTES;
 
 // Where an operand's cells lie: in the bundle or in the work area, from a byte on; or one scalar stands for all.
 pub struct Source {
@@ -52,7 +50,8 @@ pub fn raw_told<'a>(
 ) -> Raw
     requires { ⌜ Lies (now bundle) (now done) from off ⌝ }
     requires { ⌜ eqb (from .which) scalarSide ≡ all ⌝ }
-    ensures { λ r. ⌜ (r .mark ≡ markFrom (now (bundle .entry)) (now (done .entry)) from off) × (r .bits ≡ wordFrom (now (bundle .entry)) (now (done .entry)) scalar from off) ⌝ }
+    ensures { λ r. ⌜ (r .mark ≡ markFrom (now (bundle .entry)) (now (done .entry)) from off)
+        × (r .bits ≡ wordFrom (now (bundle .entry)) (now (done .entry)) scalar from off) ⌝ }
 {
     if all {
         return Raw {
@@ -71,10 +70,11 @@ pub fn raw_told<'a>(
 // Cell k of an operand.
 pub fn raw_of<'a>(bundle: &'a [u8], done: &'a [u8], from: Source, scalar: u64, k: usize) -> Raw
     requires { ⌜ Reaches (now bundle) (now done) from k ⌝ }
-    ensures { λ r. ⌜ (r .mark ≡ markAt (now (bundle .entry)) (now (done .entry)) from k) × (r .bits ≡ wordAt (now (bundle .entry)) (now (done .entry)) scalar from k) ⌝ }
+    ensures { λ r. ⌜ (r .mark ≡ markAt (now (bundle .entry)) (now (done .entry)) from k)
+        × (r .bits ≡ wordAt (now (bundle .entry)) (now (done .entry)) scalar from k) ⌝ }
 {
     if from.which == SCALAR {
         return raw_told(bundle, done, from, scalar, true, 0);
     }
-    raw_told(bundle, done, from, scalar, false, k * CELL)
+    raw_told(bundle, done, from, scalar, false, k * CELL_BYTES)
 }

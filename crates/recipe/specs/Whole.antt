@@ -1,231 +1,437 @@
--- The whole recipe: the loop over its steps in remaining form, as a record with a law for each event.
-use Prim.Native.Nat.{ℕ, suc, _+_, _-_, _*_, _/_, _%_, _≤_, _<_}
-use mathlib.Core.Path.{_≡_, refl, sym, ap, ap₂, subst, _∙_}
-use mathlib.Core.Bool.{Bool, true, false}
-use mathlib.Core.List.{List, [], _∷_, _++_, map, map-append, append-assoc, append-nil}
+-- The whole recipe: what a plan holds in the paper's terms, and the two loops that make it, each as a record with a law for each event.
+use Prim.Native.Nat.{ℕ, zero, suc, _+_, _-_, _*_, _/_, _%_, _≤_, _<_}
+use mathlib.Core.Path.{_≡_, refl, sym, ap, ap₂, _∙_}
+use mathlib.Core.Bool.{Bool, true, false, _&&_}
+use mathlib.Core.List.{List, [], _∷_, _++_, map, map-append, append-nil}
 use native.Mathlib.Numerals.{add-one}
 use native.Mathlib.Omega.{arith}
-use borrow.Author.Tests.{eq-eqb, ne-eqb, eqb-true, eqb-false, le-leb, lt-leb}
+use borrow.Author.Tests.{eqb-true, eqb-false}
 use lib.Dec.{eqb}
-use lib.ListN.{length, getD, take, drop, set, length-set}
-use lib.Seq.{take-set-le, getD-set-same, getD-set-other, drop-drop, take-suc-set}
+use lib.ListN.{length, getD, take, drop, set, replicate, length-set, length-map, length-drop, length-replicate}
+use lib.Seq.{getD-take, getD-drop, getD-set-same, getD-set-other, drop-drop, drop-set-add, take-set-le, take-suc, take-suc-set, length-take-le}
+use Rattle.paper.specs.declared.Head.{Head}
+use Rattle.paper.specs.declared.Reading.{Reading}
 use Rattle.paper.specs.declared.Refusal.{Refusal}
-use Rattle.paper.specs.Limits.{mostSteps, mostCells, stepBytes, cellBytes, detailBytes}
-use Rattle.paper.specs.Refusals.{Res, got, refused, _>>=_, if_then_else_, refusal, unknown4}
+use Rattle.paper.specs.Limits.{mostArrays, mostSteps, mostCells, stepsFrom, stepBytes, cellBytes}
+use Rattle.paper.specs.Refusals.{Res, got, refused, refusal, unknown4, between}
 use Rattle.paper.specs.Numbers.{part, total}
-use Rattle.paper.specs.Axes.{cells, Shape}
-use Rattle.paper.specs.Recipe.{planStep, planSteps, planRecipe, cellsOfAll}
-use Rattle.paper.specs.Recipe as Paper
-use Rattle.paper.specs.Answers.{axesOf}
-use Rattle.positions.specs.Runs.{Holds}
+use Rattle.paper.specs.Recipe.{Planned, planStep, planSteps, planRecipe, cellsOfAll}
+use Rattle.paper.specs.Answers.{axesOf, unless}
+use Rattle.paper.specs.Axes.{cells}
+use Rattle.laws.specs.Answers.{noHead, unless-refused, unless-got}
+use Rattle.laws.specs.Tests.{and-right, between-true}
+use Rattle.laws.specs.Lists.{getD-mapped, inFrontOf, front-none, front-more, zipped, length-zipped, zipped-more, getD-zipped}
 use Rattle.extent.specs.Judged.{Small}
-use Rattle.step.specs.Steps.{resultFor}
-use Rattle.recipe.specs.declared.Planned.{Planned}
+use Rattle.quick.specs.Operands.{bundleSide, workSide}
+use Rattle.step.specs.declared.StepHead.{StepHead}
+use Rattle.recipe.specs.declared.Operand.{Operand}
 use Rattle.recipe.specs.declared.Plan.{Plan}
-use Rattle.recipe.specs.declared.One.{One}
-use Rattle.recipe.specs.Plans.{resultsOf, GoodResults}
-use Rattle.recipe.specs.Answered.{plannedOf, Said}
+use Rattle.recipe.specs.declared.steps.Stepped.{Stepped}
+use Rattle.recipe.specs.Operands.{noOperand, placed, shapeIn, small-none, Named, getD-same, none-named, array-more, result-more}
+use Rattle.recipe.specs.Stepped.{noStep, plannedOf, ResultLaid, Answered}
 
--- the steps planned
-abbrev pub stepsOf : List ℕ → Plan → List Paper.Planned
-stepsOf bs p = map (plannedOf bs) (take (p .count) (p .steps))
+-- ---- what a plan holds
 
--- or the refusal
-abbrev pub planOf : List ℕ → Plan → Res (List Paper.Planned)
-planOf bs p = if eqb (p .refusal .number) 0 then got (stepsOf bs p) else refused (p .refusal)
+-- the heads of n operands, from number k on
+abbrev pub headsFrom : ℕ → ℕ → List Operand → List Head
+headsFrom k n l = map (λ (o : Operand). o .head) (take n (drop k l))
 
--- a step planned where n cells come before its result
-abbrev pub placed : ℕ → Planned → Planned
-placed n x = record { step = x .step; result = x .result; cells = x .cells; at = n * cellBytes }
+-- the bundle's arrays and the steps' results
+abbrev pub arraysOf : Plan → List Head
+arraysOf p = headsFrom 1 (p .arrays) (p .operands)
 
--- one step more
-abbrev pub withStep : Plan → One → Plan
-withStep p o = record { refusal = p .refusal; count = p .count + 1; cells = p .cells + o .planned .cells; steps = set (p .steps) (p .count) (placed (p .cells) (o .planned)) }
+abbrev pub resultsOf : Plan → List Head
+resultsOf p = headsFrom (suc stepsFrom) (p .count) (p .operands)
 
--- the cells of the results before step j, from 0
-abbrev pub cellsBefore : List ℕ → List Planned → ℕ → ℕ
-cellsBefore bs l j = cellsOfAll (map (plannedOf bs) (take j l))
+abbrev pub headsOf : Plan → List StepHead
+headsOf p = take (p .count) (p .steps)
 
--- where the result of a step laid, n cells coming before it, how many cells it has, and that its detail lies in the recipe
-pub record Laid (bs : List ℕ) (n : ℕ) (x : Planned) : Type 0 where
-  pub at : x .at ≡ n * cellBytes
-  pub count : x .cells ≡ cells (axesOf (x .result .extent))
-  pub detail : Holds (x .step .at) detailBytes bs
+-- the steps planned, or the refusal
+abbrev pub stepsOf : List ℕ → Plan → List Planned
+stepsOf bs p = zipped (plannedOf bs) (headsOf p) (resultsOf p)
 
--- steps planned before, in front of those planned now
-unfoldable pub before : List Paper.Planned → Res (List Paper.Planned) → Res (List Paper.Planned)
-before done (got l) = got (done ++ l)
-before done (refused r) = refused r
+abbrev pub planOf : List ℕ → Plan → Res (List Planned)
+planOf bs p = unless (p .refusal) (stepsOf bs p)
 
-joined : (done : List Paper.Planned) (P : Paper.Planned) (m : Res (List Paper.Planned)) → before done (m >>= (λ ps. got (P ∷ ps))) ≡ before (done ++ (P ∷ [])) m
-unfolding before
-joined done P (got l) = ap got (sym (append-assoc done (P ∷ []) l))
-joined done P (refused r) = refl
+-- what stands under each number is small
+abbrev pub AllSmall : List Operand → Type 0
+AllSmall l = (n : ℕ) → Small (axesOf (getD l n (noOperand false) .head .form .extent))
 
--- the steps of p planned, of n
-pub record Loop (R : List Shape) (s : List ℕ) (n : ℕ) (p : Plan) : Type 0 where
+-- each step's result lies after those before it, of which there are n cells
+abbrev pub LaidFrom : List ℕ → ℕ → List StepHead → List Head → Type 0
+LaidFrom bs n [] rs = Unit {0}
+LaidFrom bs n (h ∷ hs) [] = Unit {0}
+LaidFrom bs n (h ∷ hs) (r ∷ rs) = ResultLaid bs (n * cellBytes) h r × LaidFrom bs (n + r .cells) hs rs
+
+abbrev pub cellsIn : List Head → ℕ
+cellsIn rs = total (map (λ (r : Head). r .cells) rs)
+
+-- one operand more
+module _ (k i : ℕ) (l : List Operand) (n : ℕ) (x : Operand) where
+  heads-many : k + i ≤ length l → length (headsFrom k i l) ≡ i
+  heads-many h =
+      length-map (take i (drop k l)) (λ (o : Operand). o .head) ∙ length-take-le i (drop k l) (omega (arith, length-drop k l))
+
+  heads-more : n ≡ k + i → n < length l → headsFrom k (i + 1) (set l n x) ≡ headsFrom k i l ++ (x .head ∷ [])
+  heads-more e h =
+      let d : drop k (set l n x) ≡ set (drop k l) i x = ap (λ (j : ℕ). drop k (set l j x)) e ∙ drop-set-add k l i x in
+      let t : take (i + 1) (drop k (set l n x)) ≡ take i (drop k l) ++ (x ∷ [])
+      = ap₂ (λ (j : ℕ) (m : List Operand). take j m) (add-one i) d ∙ take-suc-set (drop k l) i x (omega (arith, length-drop k l)) in
+      ap (map (λ (o : Operand). o .head)) t ∙ map-append (λ (o : Operand). o .head) (take i (drop k l)) (x ∷ [])
+
+  heads-same : k + i ≤ n → headsFrom k i (set l n x) ≡ headsFrom k i l
+  heads-same h =
+      let e : k + (n - k) ≡ n = omega arith in
+      ap (map (λ (o : Operand). o .head))
+      (ap (λ (j : ℕ). take i (drop k (set l j x))) (sym e) ∙ ap (take i) (drop-set-add k l (n - k) x) ∙ take-set-le i (drop k l) (n - k) x (omega arith))
+
+small-set : (l : List Operand) (k : ℕ) (x : Operand) → k < length l → AllSmall l → Small (axesOf (x .head .form .extent))
+    → AllSmall (set l k x)
+small-set l k x h v w n = by (eqb n k) refl
+  where
+    by : (b : Bool) → eqb n k ≡ b → Small (axesOf (getD (set l k x) n (noOperand false) .head .form .extent))
+    by true e = rw (eqb-true n k e, getD-set-same l k x (noOperand false) h) w
+    by false e = rw (getD-set-other l k n x (noOperand false) (eqb-false n k e)) (v n)
+
+-- ---- no step yet
+
+abbrev pub noPlan : Refusal → Plan
+noPlan x = record {
+  refusal = x;
+  arrays = 0;
+  count = 0;
+  cells = 0;
+  steps = replicate mostSteps noStep;
+  operands = replicate (suc (stepsFrom + mostSteps)) (noOperand false);
+}
+
+-- the bundle's arrays, and that they are good
+abbrev pub arraysIn : Reading → List Head
+arraysIn r = take (r .count) (r .heads)
+
+pub record GoodArrays (r : Reading) : Type 0 where
+  pub room : r .count ≤ length (r .heads)
+  pub few : r .count ≤ mostArrays
+  pub small : (j : ℕ) (d : Head) → j < r .count → Small (axesOf (getD (r .heads) j d .form .extent))
+
+-- some of them are named
+pub record Begun (R : Reading) (p : Plan) : Type 0 where
+  pub none : p .refusal ≡ refusal 0 0 0
+  pub count : p .count ≡ 0
+  pub cells : p .cells ≡ 0
+  pub long : length (p .steps) ≡ mostSteps
+  pub turns : p .arrays ≤ R .count
+  pub wide : length (p .operands) ≡ suc (stepsFrom + mostSteps)
+  pub same : arraysOf p ≡ take (p .arrays) (R .heads)
+  pub named : Named (arraysOf p) [] (p .operands)
+  pub small : AllSmall (p .operands)
+
+pub begun-none : (R : Reading) (p : Plan) → p ≡ noPlan (refusal 0 0 0) → Begun R p
+begun-none R p e = rw e (record {
+  none = refl;
+  count = refl;
+  cells = refl;
+  long = length-replicate mostSteps noStep;
+  turns = omega arith;
+  wide = length-replicate (suc (stepsFrom + mostSteps)) (noOperand false);
+  same = refl;
+  named = none-named;
+  small = λ n. rw (getD-same (suc (stepsFrom + mostSteps)) n (noOperand false)) small-none;
+})
+
+-- one array more
+abbrev pub withArray : Plan → Head → Plan
+withArray p h = record {
+  refusal = p .refusal;
+  arrays = p .arrays + 1;
+  count = p .count;
+  cells = p .cells;
+  steps = p .steps;
+  operands = set (p .operands) (p .arrays + 1) (placed bundleSide h);
+}
+
+pub begun-more : (R : Reading) (p : Plan) (d : Head) → GoodArrays R → Begun R p → p .arrays < R .count
+    → Begun R (withArray p (getD (R .heads) (p .arrays) d))
+begun-more R p d g v h =
+    let j = p .arrays in
+    let x = placed bundleSide (getD (R .heads) j d) in
+    let b : j + 1 < length (p .operands) = omega (arith, v .wide, g .few) in
+    let m = heads-many 1 j (p .operands) (j + 1) x (omega arith) in
+    let e = heads-more 1 j (p .operands) (j + 1) x (omega arith) b in
+    let f : suc (length (arraysOf p)) ≡ j + 1 = omega (arith, m) in
+    record {
+      none = v .none;
+      count = v .count;
+      cells = v .cells;
+      long = v .long;
+      turns = omega arith;
+      wide = length-set (p .operands) (j + 1) x ∙ v .wide;
+      same = e ∙ ap (λ (l : List Head). l ++ (x .head ∷ [])) (v .same) ∙ sym (rw (add-one j) (take-suc (R .heads) j d (omega (arith, g .room))));
+      named = rw (e, ← f) (array-more (arraysOf p) [] (p .operands) (v .named) (x .head) (omega (arith, m, g .few)));
+      small = small-set (p .operands) (j + 1) x b (v .small) (g .small j d h);
+    }
+
+-- ---- the loop over the steps
+
+-- those of p are planned, of n
+pub record Loop (s : List ℕ) (n : ℕ) (p : Plan) : Type 0 where
   pub turns : p .count ≤ n
   pub few : n ≤ mostSteps
   pub room : n * stepBytes ≤ length s
-  pub none : p .refusal ≡ refusal 0 0 0
   pub long : length (p .steps) ≡ mostSteps
-  pub steps : before (stepsOf s p) (planSteps (p .count + 1) (n - p .count) R (resultsOf p) (drop (p .count * stepBytes) s)) ≡ planSteps 1 n R [] s
-  pub small : (j : ℕ) (d : Planned) → j < p .count → Small (axesOf (getD (p .steps) j d .result .extent))
-  pub laid : (j : ℕ) (d : Planned) → j < p .count → Laid s (cellsBefore s (p .steps) j) (getD (p .steps) j d)
-  pub sum : p .cells ≡ cellsOfAll (stepsOf s p)
+  pub wide : length (p .operands) ≡ suc (stepsFrom + mostSteps)
   pub most : p .cells ≤ p .count * mostCells
+  pub arrays : p .arrays ≤ mostArrays
+  pub none : p .refusal ≡ refusal 0 0 0
+  pub named : Named (arraysOf p) (resultsOf p) (p .operands)
+  pub small : AllSmall (p .operands)
+  pub steps : inFrontOf (stepsOf s p) (planSteps (p .count + 1) (n - p .count) (map shapeIn (arraysOf p)) (map shapeIn (resultsOf p)) (drop (p .count * stepBytes) s))
+      ≡ planSteps 1 n (map shapeIn (arraysOf p)) [] s
+  pub laid : LaidFrom s 0 (headsOf p) (resultsOf p)
+  pub sum : p .cells ≡ cellsIn (resultsOf p)
 
-less : (j i : ℕ) → j < i + 1 → (j ≡ i → ⊥) → j < i
-less j i h n = omega arith
+pub loop-start : (R : Reading) (s : List ℕ) (n : ℕ) (p : Plan) → GoodArrays R → Begun R p → n ≤ mostSteps → n * stepBytes ≤ length s
+    → Loop s n p
+unfolding total
+loop-start R s n p g b h l =
+    let c = b .count in
+    let e : n - 0 ≡ n = omega arith in
+    record {
+      turns = omega arith;
+      few = h;
+      room = l;
+      long = b .long;
+      wide = b .wide;
+      most = omega (arith, b .cells);
+      arrays = omega (arith, b .turns, g .few);
+      none = b .none;
+      named = rw c (b .named);
+      small = b .small;
+      steps = rw (c, e) (front-none _);
+      laid = rw c tt;
+      sum = rw c (b .cells);
+    }
+
+-- one step more
+abbrev pub withStep : Plan → Stepped → Plan
+withStep p o = record {
+  refusal = p .refusal;
+  arrays = p .arrays;
+  count = p .count + 1;
+  cells = p .cells + o .result .cells;
+  steps = set (p .steps) (p .count) (o .step);
+  operands = set (p .operands) (stepsFrom + (p .count + 1)) (placed workSide (o .result));
+}
 
 total-more : (l : List ℕ) (n : ℕ) → total (l ++ (n ∷ [])) ≡ total l + n
 unfolding total
 total-more [] n = omega arith
 total-more (m ∷ l) n = let e = total-more l n in omega arith
 
-module _ (R : List Shape) (s : List ℕ) (n : ℕ) (p : Plan) (v : Loop R s n p) (h : p .count < n) (o : One)
-    (w : Said s o (λ k. planStep k R (resultsOf p) (part (p .count * stepBytes) stepBytes s))) where
+laid-more : (bs : List ℕ) (n : ℕ) (hs : List StepHead) (rs : List Head) (h : StepHead) (r : Head) → length hs ≡ length rs
+    → LaidFrom bs n hs rs
+    → ResultLaid bs ((n + cellsIn rs) * cellBytes) h r → LaidFrom bs n (hs ++ (h ∷ [])) (rs ++ (r ∷ []))
+unfolding total
+laid-more bs n [] [] h r e v k = let z : n + 0 ≡ n = omega arith in (rw z at k, tt)
+laid-more bs n [] (q ∷ rs) h r e v k = absurd (omega arith)
+laid-more bs n (g ∷ hs) [] h r e v k = absurd (omega arith)
+laid-more bs n (g ∷ hs) (q ∷ rs) h r e v k =
+    let z : n + (q .cells + cellsIn rs) ≡ n + q .cells + cellsIn rs = omega arith in
+    (v .0, laid-more bs (n + q .cells) hs rs h r (omega arith) (v .1) (rw z at k))
+
+module _ (s : List ℕ) (n : ℕ) (p : Plan) (v : Loop s n p) (h : p .count < n) (o : Stepped)
+    (w : Answered s (p .cells * cellBytes) o (planStep (p .count + 1) (map shapeIn (arraysOf p)) (map shapeIn (resultsOf p)) (part (p .count * stepBytes) stepBytes s))) where
   abbrev i : ℕ
   i = p .count
+
+  abbrev planned : Planned
+  planned = plannedOf s (o .step) (o .result)
 
   left : n - i ≡ suc (n - (i + 1))
   left = omega arith
 
   -- a refusal of the step is the recipe's
-  pub steps-refused : (o .number ≡ 0 → ⊥) → refused (refusal (o .number) (i + 1) 0) ≡ planSteps 1 n R [] s
-  unfolding planSteps before
-  steps-refused z =
-      let e : refused (refusal (o .number) (i + 1) 0) ≡ planStep (i + 1) R (resultsOf p) (part (i * stepBytes) stepBytes s) = sym (rw (ne-eqb (o .number) 0 z) refl) ∙ w .said (i + 1) in
-      sym (rw (left, ← e) refl) ∙ v .steps
+  pub steps-refused : (o .refusal .number ≡ 0 → ⊥) → refused (o .refusal) ≡ planSteps 1 n (map shapeIn (arraysOf p)) [] s
+  unfolding planSteps inFrontOf
+  steps-refused z = sym (rw (left, ← w .said, unless-refused (o .refusal) planned z) refl) ∙ v .steps
 
-  module _ (z : o .number ≡ 0) where
-    abbrev x : Planned
-    x = placed (p .cells) (o .planned)
+  module _ (z : o .refusal .number ≡ 0) where
+    abbrev x : Operand
+    x = placed workSide (o .result)
 
-    here : i < length (p .steps)
-    here = omega (arith, v .few, v .long)
+    abbrev at : ℕ
+    at = stepsFrom + (i + 1)
 
-    first : take (i + 1) (set (p .steps) i x) ≡ take i (p .steps) ++ (x ∷ [])
-    first = ap (λ (j : ℕ). take j (set (p .steps) i x)) (add-one i) ∙ take-suc-set (p .steps) i x here
+    here : at < length (p .operands)
+    here = omega (arith, v .few, v .wide)
 
-    steps-one : stepsOf s (withStep p o) ≡ stepsOf s p ++ (plannedOf s (o .planned) ∷ [])
-    steps-one = ap (map (plannedOf s)) first ∙ map-append (plannedOf s) (take i (p .steps)) (x ∷ [])
+    pub arrays-same : arraysOf (withStep p o) ≡ arraysOf p
+    arrays-same = heads-same 1 (p .arrays) (p .operands) at x (omega (arith, v .arrays))
 
-    results-one : resultsOf (withStep p o) ≡ resultsOf p ++ (resultFor (o .planned .result) ∷ [])
-    results-one = ap (map (λ (x : Planned). resultFor (x .result))) first ∙ map-append (λ (x : Planned). resultFor (x .result)) (take i (p .steps)) (x ∷ [])
+    results-more : resultsOf (withStep p o) ≡ resultsOf p ++ (o .result ∷ [])
+    results-more = heads-more (suc stepsFrom) i (p .operands) at x (omega arith) here
+
+    results-many : length (resultsOf p) ≡ i
+    results-many = heads-many (suc stepsFrom) i (p .operands) at x (omega (arith, here))
+
+    heads-long : length (headsOf p) ≡ i
+    heads-long = length-take-le i (p .steps) (omega (arith, v .few, v .long))
+
+    steps-first : headsOf (withStep p o) ≡ headsOf p ++ (o .step ∷ [])
+    steps-first =
+        ap (λ (j : ℕ). take j (set (p .steps) i (o .step))) (add-one i) ∙ take-suc-set (p .steps) i (o .step) (omega (arith, v .few, v .long))
+
+    steps-more : stepsOf s (withStep p o) ≡ stepsOf s p ++ (planned ∷ [])
+    steps-more =
+        ap₂ (zipped (plannedOf s)) steps-first results-more
+        ∙ zipped-more (plannedOf s) (headsOf p) (resultsOf p) (o .step) (o .result) (heads-long ∙ sym results-many)
 
     moved : drop ((i + 1) * stepBytes) s ≡ drop stepBytes (drop (i * stepBytes) s)
     moved = let f : i * stepBytes + stepBytes ≡ (i + 1) * stepBytes = omega arith in sym (drop-drop stepBytes (i * stepBytes) s ∙ ap (λ (j : ℕ). drop j s) f)
 
-    onward : before (stepsOf s p) (planSteps (i + 1) (n - i) R (resultsOf p) (drop (i * stepBytes) s))
-        ≡ before (stepsOf s p ++ (plannedOf s (o .planned) ∷ [])) (planSteps (i + 1 + 1) (n - (i + 1)) R (resultsOf p ++ (resultFor (o .planned .result) ∷ [])) (drop stepBytes (drop (i * stepBytes) s)))
+    onward : inFrontOf (stepsOf s p) (planSteps (i + 1) (n - i) (map shapeIn (arraysOf p)) (map shapeIn (resultsOf p)) (drop (i * stepBytes) s))
+        ≡ inFrontOf (stepsOf s p ++ (planned ∷ []))
+        (planSteps (i + 1 + 1) (n - (i + 1)) (map shapeIn (arraysOf p)) (map shapeIn (resultsOf p) ++ (shapeIn (o .result) ∷ [])) (drop stepBytes (drop (i * stepBytes) s)))
     unfolding planSteps
-    onward =
-        let e : got (plannedOf s (o .planned)) ≡ planStep (i + 1) R (resultsOf p) (part (i * stepBytes) stepBytes s) = sym (rw (eq-eqb (o .number) 0 z) refl) ∙ w .said (i + 1) in
-        rw (left, ← e) (joined (stepsOf s p) (plannedOf s (o .planned)) _)
+    onward = rw (left, ← w .said, unless-got (o .refusal) planned z) (front-more (stepsOf s p) planned _)
 
-    -- what holds of each step, and of the new one at its place, holds of each
-    each-more : (P : ℕ → Planned → Type 0) → ((j : ℕ) (d : Planned) → j < i → P j (getD (p .steps) j d)) → P i x → (j : ℕ) (d : Planned) → j < i + 1 → P j (getD (set (p .steps) i x) j d)
-    each-more P f q j d b = by (eqb j i) refl
-      where
-        by : (t : Bool) → eqb j i ≡ t → P j (getD (set (p .steps) i x) j d)
-        by true e =
-            subst (λ (m : ℕ). P m (getD (set (p .steps) i x) m d)) (sym (eqb-true j i e)) (subst (P i) (sym (getD-set-same (p .steps) i x d here)) q)
-        by false e = let m = eqb-false j i e in subst (P j) (sym (getD-set-other (p .steps) i j x d m)) (f j d (less j i b m))
-
-    laid-more : (j : ℕ) (d : Planned) → j < i + 1 → Laid s (cellsBefore s (set (p .steps) i x) j) (getD (set (p .steps) i x) j d)
-    laid-more j d b =
-        subst (λ (l : List Planned). Laid s (cellsOfAll (map (plannedOf s) l)) (getD (set (p .steps) i x) j d)) (sym (take-set-le j (p .steps) i x (omega arith)))
-        (each-more (λ j y. Laid s (cellsBefore s (p .steps) j) y) (v .laid) (record { at = ap (λ (n : ℕ). n * cellBytes) (v .sum); count = w .kept .count z; detail = w .kept .detail z }) j d b)
-
-    pub loop-more : Loop R s n (withStep p o)
-    loop-more = record {
-      turns = omega arith;
-      few = v .few;
-      room = v .room;
-      none = v .none;
-      long = length-set (p .steps) i x ∙ v .long;
-      steps = (λ j. before (steps-one j) (planSteps (i + 1 + 1) (n - (i + 1)) R (results-one j) (moved j))) ∙ sym onward ∙ v .steps;
-      small = each-more (λ j y. Small (axesOf (y .result .extent))) (v .small) (w .kept .small z);
-      laid = laid-more;
-      sum = ap₂ (λ (x y : ℕ). x + y) (v .sum) (w .kept .count z)
-          ∙ sym (ap cellsOfAll steps-one ∙ ap total (map-append (λ (x : Paper.Planned). cells (x .shape .axes)) (stepsOf s p) (plannedOf s (o .planned) ∷ [])) ∙ total-more (map (λ (x : Paper.Planned). cells (x .shape .axes)) (stepsOf s p)) _);
-      most = omega (arith, v .most, w .kept .few);
-    }
-
-before-none : (m : Res (List Paper.Planned)) → before [] m ≡ m
-unfolding before
-before-none (got l) = refl
-before-none (refused r) = refl
-
--- no step yet
-pub loop-start : (R : List Shape) (s : List ℕ) (n : ℕ) (p : Plan) → n ≤ mostSteps → n * stepBytes ≤ length s → p .refusal ≡ refusal 0 0 0 → p .count ≡ 0 → p .cells ≡ 0 → length (p .steps) ≡ mostSteps → Loop R s n p
-unfolding total
-loop-start R s n p h l a b c d =
-    let e : n - 0 ≡ n = omega arith in
-    record {
-      turns = omega arith;
-      few = h;
-      room = l;
-      none = a;
-      long = d;
-      steps = rw (b, e) (before-none _);
-      small = λ j x k. absurd (omega arith);
-      laid = λ j x k. absurd (omega arith);
-      sum = rw b c;
-      most = omega arith;
-    }
-
-module _ (R : List Shape) (s : List ℕ) (n : ℕ) (p : Plan) (v : Loop R s n p) where
-  pub loop-good : GoodResults p
-  loop-good = record { room = omega (arith, v .turns, v .few, v .long); few = omega (arith, v .turns, v .few); small = v .small }
-
-  pub loop-end : n ≤ p .count → planOf s p ≡ planSteps 1 n R [] s
-  unfolding planSteps before
-  loop-end h =
-      let e : n - p .count ≡ 0 = omega (arith, v .turns) in
-      let z : eqb (p .refusal .number) 0 ≡ true = eq-eqb (p .refusal .number) 0 (ap (λ (r : Refusal). r .number) (v .none)) in
-      rw z (ap got (sym (append-nil (stepsOf s p))) ∙ sym (rw e refl) ∙ v .steps)
+    pub loop-more : Loop s n (withStep p o)
+    loop-more =
+        let k = w .kept z in
+        let f : stepsFrom + suc (length (resultsOf p)) ≡ at = omega (arith, results-many) in
+        let q : p .cells ≡ 0 + cellsIn (resultsOf p) = omega (arith, v .sum) in
+        record {
+          turns = omega arith;
+          few = v .few;
+          room = v .room;
+          long = length-set (p .steps) i (o .step) ∙ v .long;
+          wide = length-set (p .operands) at x ∙ v .wide;
+          most = omega (arith, v .most, k .count, k .small .few);
+          arrays = v .arrays;
+          none = v .none;
+          named = rw (arrays-same, results-more, ← f) (result-more (arraysOf p) (resultsOf p) (p .operands) (v .named) (o .result) (omega (arith, results-many, v .few)));
+          small = small-set (p .operands) at x here (v .small) (k .small);
+          steps = rw (arrays-same, steps-more, results-more, moved, map-append shapeIn (resultsOf p) (o .result ∷ [])) (sym onward ∙ v .steps);
+          laid = rw (steps-first, results-more) (laid-more s 0 (headsOf p) (resultsOf p) (o .step) (o .result) (heads-long ∙ sym results-many) (v .laid) (rw q at k));
+          sum = rw results-more (sym (ap total (map-append (λ (r : Head). r .cells) (resultsOf p) (o .result ∷ [])) ∙ total-more (map (λ (r : Head). r .cells) (resultsOf p)) (o .result .cells) ∙ ap (λ (a : ℕ). a + o .result .cells) (sym (v .sum))));
+        }
 
 -- ---- the recipe
 
--- the recipe planned as the paper plans it; and what later code leans on
-pub record PlannedAll (R : List Shape) (s : List ℕ) (p : Plan) : Type 0 where
-  pub said : planOf s p ≡ planRecipe R s
-  pub good : p .refusal .number ≡ 0 → GoodResults p
-  pub laid : p .refusal .number ≡ 0 → (j : ℕ) (d : Planned) → j < p .count → Laid s (cellsBefore s (p .steps) j) (getD (p .steps) j d)
-  pub sum : p .refusal .number ≡ 0 → p .cells ≡ cellsOfAll (stepsOf s p)
-  pub few : p .cells ≤ mostSteps * mostCells
+-- what later code leans on
+pub record Laid (s : List ℕ) (p : Plan) : Type 0 where
+  pub few : p .count ≤ mostSteps
+  pub long : length (p .steps) ≡ mostSteps
+  pub most : p .cells ≤ mostSteps * mostCells
+  pub arrays : p .arrays ≤ mostArrays
+  pub named : Named (arraysOf p) (resultsOf p) (p .operands)
+  pub small : AllSmall (p .operands)
+  pub laid : LaidFrom s 0 (headsOf p) (resultsOf p)
+  pub sum : p .cells ≡ cellsIn (resultsOf p)
 
-module _ (R : List Shape) (s : List ℕ) where
-  pub all-refused : (x : Refusal) (p : Plan) → p .refusal ≡ x → p .cells ≡ 0 → (x .number ≡ 0 → ⊥) → refused x ≡ planRecipe R s → PlannedAll R s p
-  all-refused x p e c h q =
-      let g : p .refusal .number ≡ 0 → ⊥ = λ z. h (sym (ap (λ (r : Refusal). r .number) e) ∙ z) in
-      record { said = rw (ne-eqb (p .refusal .number) 0 g) (ap refused e ∙ q); good = λ z. absurd (g z); laid = λ z. absurd (g z); sum = λ z. absurd (g z); few = omega arith }
+-- each step's result where it lies
+laid-at : (bs : List ℕ) (n : ℕ) (hs : List StepHead) (rs : List Head) → LaidFrom bs n hs rs → length hs ≡ length rs → (j : ℕ)
+    → j < length hs
+    → ResultLaid bs ((n + cellsOfAll (take j (zipped (plannedOf bs) hs rs))) * cellBytes) (getD hs j noStep) (getD rs j noHead)
+unfolding total
+laid-at bs n [] rs v e j h = absurd (omega arith)
+laid-at bs n (g ∷ hs) [] v e j h = absurd (omega arith)
+laid-at bs n (g ∷ hs) (r ∷ rs) v e zero h = let z : n + 0 ≡ n = omega arith in rw z (v .0)
+laid-at bs n (g ∷ hs) (r ∷ rs) v e (suc j) h =
+    let m = cellsOfAll (take j (zipped (plannedOf bs) hs rs)) in
+    let z : n + (cells (axesOf (r .form .extent)) + m) ≡ n + r .cells + m = omega (arith, v .0 .count) in
+    rw z (laid-at bs (n + r .cells) hs rs (v .1) (omega arith) j (omega arith))
 
-  pub length-bad : (length s % stepBytes ≡ 0 → ⊥) → refused (refusal unknown4 0 0) ≡ planRecipe R s
+laid-cells : (bs : List ℕ) (n : ℕ) (hs : List StepHead) (rs : List Head) → LaidFrom bs n hs rs → length hs ≡ length rs
+    → cellsIn rs ≡ cellsOfAll (zipped (plannedOf bs) hs rs)
+unfolding total
+laid-cells bs n [] [] v e = refl
+laid-cells bs n [] (r ∷ rs) v e = absurd (omega arith)
+laid-cells bs n (g ∷ hs) [] v e = absurd (omega arith)
+laid-cells bs n (g ∷ hs) (r ∷ rs) v e = ap₂ (λ (a b : ℕ). a + b) (v .0 .count) (laid-cells bs (n + r .cells) hs rs (v .1) (omega arith))
+
+module _ {bs : List ℕ} {p : Plan} (v : Laid bs p) where
+  heads-count : length (headsOf p) ≡ p .count
+  heads-count = length-take-le (p .count) (p .steps) (omega (arith, v .few, v .long))
+
+  pub results-count : length (resultsOf p) ≡ p .count
+  results-count = heads-many (suc stepsFrom) (p .count) (p .operands) 0 (noOperand false) (omega (arith, v .few, v .named .long))
+
+  pub steps-count : length (stepsOf bs p) ≡ p .count
+  steps-count = length-zipped (plannedOf bs) (headsOf p) (resultsOf p) (heads-count ∙ sym results-count) ∙ heads-count
+
+  -- T
+  pub cells-sum : p .cells ≡ cellsOfAll (stepsOf bs p)
+  cells-sum = v .sum ∙ laid-cells bs 0 (headsOf p) (resultsOf p) (v .laid) (heads-count ∙ sym results-count)
+
+  module _ (j : ℕ) (h : j < p .count) where
+    -- the result of step j, from 0, stands under its number
+    pub result-there : getD (resultsOf p) j noHead ≡ getD (p .operands) (stepsFrom + (j + 1)) (noOperand false) .head
+    result-there =
+        let e : suc stepsFrom + j ≡ stepsFrom + (j + 1) = omega arith in
+        getD-mapped (λ (o : Operand). o .head) (take (p .count) (drop (suc stepsFrom) (p .operands))) j (noOperand false) noHead
+        (omega (arith, results-count, length-map (take (p .count) (drop (suc stepsFrom) (p .operands))) (λ (o : Operand). o .head)))
+        ∙ ap (λ (o : Operand). o .head) (getD-take (p .count) (drop (suc stepsFrom) (p .operands)) j (noOperand false) h ∙ getD-drop (suc stepsFrom) (p .operands) j (noOperand false))
+        ∙ ap (λ (i : ℕ). getD (p .operands) i (noOperand false) .head) e
+
+    pub step-there : (d : Planned) → getD (stepsOf bs p) j d ≡ plannedOf bs (getD (p .steps) j noStep) (getD (resultsOf p) j noHead)
+    step-there d =
+        getD-zipped (plannedOf bs) (headsOf p) (resultsOf p) j noStep noHead d (omega (arith, heads-count)) (heads-count ∙ sym results-count)
+        ∙ ap (λ (g : StepHead). plannedOf bs g (getD (resultsOf p) j noHead)) (getD-take (p .count) (p .steps) j noStep h)
+
+    pub laid-there : ResultLaid bs (cellsOfAll (take j (stepsOf bs p)) * cellBytes) (getD (p .steps) j noStep) (getD (resultsOf p) j noHead)
+    laid-there =
+        let c = cellsOfAll (take j (stepsOf bs p)) in
+        let z : 0 + c ≡ c = omega arith in
+        rw (z, getD-take (p .count) (p .steps) j noStep h) at (laid-at bs 0 (headsOf p) (resultsOf p) (v .laid) (heads-count ∙ sym results-count) j (omega (arith, heads-count)))
+
+-- the recipe planned as the paper plans it, over the bundle's arrays
+pub record PlannedAll (R : Reading) (s : List ℕ) (p : Plan) : Type 0 where
+  pub said : planOf s p ≡ planRecipe (map shapeIn (arraysIn R)) s
+  pub laid : p .refusal .number ≡ 0 → Laid s p × (arraysOf p ≡ arraysIn R)
+
+-- its length
+abbrev pub goodLength : List ℕ → Bool
+goodLength s = eqb (length s % stepBytes) 0 && between 1 mostSteps (length s / stepBytes)
+
+pub length-few : (s : List ℕ) → goodLength s ≡ true → length s / stepBytes ≤ mostSteps
+length-few s g = between-true mostSteps (length s / stepBytes) (and-right (eqb (length s % stepBytes) 0) _ g) .1
+
+module _ (R : Reading) (s : List ℕ) (p : Plan) where
+  all-refused : (x : Refusal) → p ≡ noPlan x → (x .number ≡ 0 → ⊥) → refused x ≡ planRecipe (map shapeIn (arraysIn R)) s → PlannedAll R s p
+  all-refused x e h q = rw e (record { said = unless-refused x (stepsOf s (noPlan x)) h ∙ q; laid = λ z. absurd (h z) })
+
+  pub length-bad : p ≡ noPlan (refusal unknown4 0 0) → goodLength s ≡ false → PlannedAll R s p
   unfolding planRecipe
-  length-bad h = rw (ne-eqb (length s % stepBytes) 0 h)
+  length-bad e h = all-refused (refusal unknown4 0 0) e (λ z. omega arith) (rw h)
 
-  module _ (d : length s % stepBytes ≡ 0) where
-    pub length-none : length s / stepBytes < 1 → refused (refusal unknown4 0 0) ≡ planRecipe R s
+  module _ (g : goodLength s ≡ true) where
+    length-good : planSteps 1 (length s / stepBytes) (map shapeIn (arraysIn R)) [] s ≡ planRecipe (map shapeIn (arraysIn R)) s
     unfolding planRecipe
-    length-none h = rw (eq-eqb (length s % stepBytes) 0 d, lt-leb 1 (length s / stepBytes) h)
+    length-good = rw g
 
-    pub length-many : 1 ≤ length s / stepBytes → mostSteps < length s / stepBytes → refused (refusal unknown4 0 0) ≡ planRecipe R s
-    unfolding planRecipe
-    length-many g h = rw (eq-eqb (length s % stepBytes) 0 d, le-leb 1 (length s / stepBytes) g, lt-leb (length s / stepBytes) mostSteps h)
+    pub step-refused : (x : Refusal) → p ≡ noPlan x → (x .number ≡ 0 → ⊥)
+        → refused x ≡ planSteps 1 (length s / stepBytes) (map shapeIn (arraysIn R)) [] s → PlannedAll R s p
+    step-refused x e h q = all-refused x e h (q ∙ length-good)
 
-    module _ (g : 1 ≤ length s / stepBytes) (h : length s / stepBytes ≤ mostSteps) where
-      pub length-good : planSteps 1 (length s / stepBytes) R [] s ≡ planRecipe R s
-      unfolding planRecipe
-      length-good = rw (eq-eqb (length s % stepBytes) 0 d, le-leb 1 (length s / stepBytes) g, le-leb (length s / stepBytes) mostSteps h)
-
-      pub all-planned : (p : Plan) → Loop R s (length s / stepBytes) p → length s / stepBytes ≤ p .count → PlannedAll R s p
-      all-planned p v e = record {
-        said = loop-end R s (length s / stepBytes) p v e ∙ length-good;
-        good = λ z. loop-good R s (length s / stepBytes) p v;
-        laid = λ z. v .laid;
-        sum = λ z. v .sum;
-        few = omega (arith, v .most, v .turns, v .few);
-      }
+    pub all-planned : Loop s (length s / stepBytes) p → length s / stepBytes ≤ p .count → arraysOf p ≡ arraysIn R → PlannedAll R s p
+    unfolding planSteps inFrontOf
+    all-planned v h a =
+        let e : length s / stepBytes - p .count ≡ 0 = omega (arith, v .turns) in
+        record {
+          said = unless-got (p .refusal) (stepsOf s p) (ap (λ (r : Refusal). r .number) (v .none))
+              ∙ ap got (sym (append-nil (stepsOf s p))) ∙ sym (rw e refl) ∙ v .steps ∙ rw a length-good;
+          laid = λ z. (
+            record {
+              few = omega (arith, v .turns, v .few);
+              long = v .long;
+              most = omega (arith, v .most, v .turns, v .few);
+              arrays = v .arrays;
+              named = v .named;
+              small = v .small;
+              laid = v .laid;
+              sum = v .sum;
+            },
+            a,
+          );
+        }

@@ -33,14 +33,17 @@ use Rattle.refer.specs.Chosen.{ChosenHead, its-refusal, its-array, cell-
 
 -- ---- a coordinate's positions, one after the other
 
-pub coordinate-more : (zs : List ℤ) (at : List ℕ) (i d : ℕ) → i < length zs → i < length at → d ≡ distance (getD zs i (pos 0)) → take i at ≡ take i (map distance zs)
+pub coordinate-more : (zs : List ℤ) (at : List ℕ) (i d : ℕ) → i < length zs → i < length at → d ≡ distance (getD zs i (pos 0))
+    → take i at ≡ take i (map distance zs)
     → take (i + 1) (set at i d) ≡ take (i + 1) (map distance zs)
 coordinate-more zs at i d h k e v =
     let m : distance (getD zs i (pos 0)) ≡ getD (map distance zs) i (distance (pos 0)) = sym (List·getD-map distance zs i (pos 0)) in
     ap (λ (j : ℕ). take j (set at i d)) (add-one i) ∙ take-suc-set at i d k ∙ ap₂ (λ (l : List ℕ) (x : ℕ). l ++ (x ∷ [])) v (e ∙ m)
-    ∙ sym (take-suc (map distance zs) i (distance (pos 0)) (omega (arith, length-map zs distance))) ∙ ap (λ (j : ℕ). take j (map distance zs)) (sym (add-one i))
+    ∙ sym (take-suc (map distance zs) i (distance (pos 0)) (omega (arith, length-map zs distance)))
+    ∙ ap (λ (j : ℕ). take j (map distance zs)) (sym (add-one i))
 
-pub coordinate-end : (zs : List ℤ) (at : List ℕ) (i : ℕ) → i ≤ length zs → length zs ≤ i → take i at ≡ take i (map distance zs) → take (length zs) at ≡ map distance zs
+pub coordinate-end : (zs : List ℤ) (at : List ℕ) (i : ℕ) → i ≤ length zs → length zs ≤ i → take i at ≡ take i (map distance zs)
+    → take (length zs) at ≡ map distance zs
 coordinate-end zs at i h k v =
     let e : i ≡ length zs = omega arith in
     ap (λ (j : ℕ). take j at) (sym e) ∙ v ∙ take-all i (map distance zs) (omega (arith, length-map zs distance))
@@ -147,13 +150,16 @@ module _ {bs : List ℕ} {k : ℕ} (o : ℕ) {c : Chosen} (v : ChosenHead bs k c
         let z : eqb o (many + 1) ≡ true = eq-eqb o (many + 1) f in
         walked (got End) (rw (← its-array v y, ← counted, b, d, z) refl) _ refl
 
-    pub walk-cell : (i : ℕ) → i + 1 ≡ o → o ≤ many
-        → _≡_ {A = Walked} (record { answer = got (Held (orEmpty (cellOf (c .head .form .kind) (part (c .head .at + i * cellBytes) cellBytes bs)))); place = o + 1 }) (walk bs k o)
+    abbrev its : ℕ → Cell
+    its i = orEmpty (cellOf (c .head .form .kind) (part (c .head .at + i * cellBytes) cellBytes bs))
+
+    pub walk-cell : (i : ℕ) → i + 1 ≡ o → o ≤ many → _≡_ {A = Walked} (record { answer = got (Held (its i)); place = o + 1 }) (walk bs k o)
     unfolding seen walkedOn arrayAt
     walk-cell i f g =
         let b : leb 1 o ≡ true = le-leb 1 o (omega arith) in
         let d : leb o (many + 1) ≡ true = le-leb o (many + 1) (omega arith) in
         let z : eqb o (many + 1) ≡ false = ne-eqb o (many + 1) (λ x. omega arith) in
         let j : i ≡ o - 1 = omega arith in
-        let w : orEmpty (cellOf (c .head .form .kind) (part (c .head .at + i * cellBytes) cellBytes bs)) ≡ cellNo (arrayAt bs (c .head)) o = sym (cell-at bs (c .head) i (omega (arith, counted))) ∙ ap (λ (x : ℕ). getD (arrayAt bs (c .head) .cells) x Empty) j in
+        let w : its i ≡ cellNo (arrayAt bs (c .head)) o =
+        sym (cell-at bs (c .head) i (omega (arith, counted))) ∙ ap (λ (x : ℕ). getD (arrayAt bs (c .head) .cells) x Empty) j in
         walked (got (Held _)) (rw (w, ← its-array v y, ← counted, b, d, z) refl) _ refl

@@ -6,7 +6,6 @@ ghost use mathlib.Core.List.{map};
 ghost use mir.Syntax.{w32};
 ghost use mir.Val.{ofZ};
 ghost use Rattle.paper.specs.Limits.{mostAxes, cellBytes};
-ghost use Rattle.paper.specs.Refusals.{refused, refusal};
 ghost use Rattle.paper.specs.Numbers.{part, distance};
 ghost use Rattle.paper.specs.Cells.{cellOf};
 ghost use Rattle.paper.specs.Reference.{reference, walk};
@@ -32,6 +31,7 @@ use paper::WalkAnswer;
 use place::Coordinate;
 use place::found;
 use positions::distance_of;
+use refusals::refuse;
 
 pub mod walk;
 
@@ -41,7 +41,7 @@ pub struct Chosen {
     pub head: Head,
 }
 
-fn refusing(refusal: Refusal) -> Chosen
+fn none_chosen(refusal: Refusal) -> Chosen
     ensures { λ r. ⌜ r ≡ noneChosen refusal ⌝ }
 {
     let head = no_head();
@@ -55,21 +55,17 @@ pub fn choose(s: &[u8], k: u32) -> Chosen
     let reading = read(s);
     let refusal = reading.refusal;
     if refusal.number != 0 {
-        return refusing(refusal);
+        return none_chosen(refusal);
     }
     let count = reading.count;
     let heads = reading.heads;
-    let unknown = Refusal {
-        number: 4,
-        place: k,
-        ordinality: 0,
-    };
+    let unknown = refuse(4, k);
     let i = k as usize;
     if i == 0 {
-        return refusing(unknown);
+        return none_chosen(unknown);
     }
     if count < i {
-        return refusing(unknown);
+        return none_chosen(unknown);
     }
     let head = heads[i - 1];
     Chosen { refusal, head }
@@ -115,16 +111,6 @@ fn coordinate_at(zs: &[i32]) -> Coordinate
     Coordinate { at }
 }
 
-fn no_cell(number: u8, place: u32) -> ReferenceAnswer
-    ensures { λ r. ⌜ referenceSaid r ≡ refused (refusal number place 0) ⌝ }
-{
-    ReferenceAnswer::Refused(Refusal {
-        number,
-        place,
-        ordinality: 0,
-    })
-}
-
 // Not inside the extent: empty inside the maximum, 6 beyond it.
 fn elsewhere(place: Place, k: u32) -> ReferenceAnswer
     ensures { λ r. ⌜ referenceSaid r ≡ elsewhereOf k place ⌝ }
@@ -132,7 +118,7 @@ fn elsewhere(place: Place, k: u32) -> ReferenceAnswer
     match place {
         Place::At(_) => ReferenceAnswer::Got(Cell::Empty),
         Place::InMaximum => ReferenceAnswer::Got(Cell::Empty),
-        Place::Beyond => no_cell(6, k),
+        Place::Beyond => ReferenceAnswer::Refused(refuse(6, k)),
     }
 }
 
@@ -150,7 +136,7 @@ pub fn refer(s: &[u8], k: u32, coordinates: &[i32]) -> ReferenceAnswer
     let extent = form.extent;
     let maximum = form.maximum;
     if coordinates.len() != rank_of(extent) {
-        return no_cell(5, k);
+        return ReferenceAnswer::Refused(refuse(5, k));
     }
     let p = coordinate_at(coordinates);
     let place = found(extent, maximum, p);
@@ -167,13 +153,8 @@ pub fn refer(s: &[u8], k: u32, coordinates: &[i32]) -> ReferenceAnswer
 fn outside(k: u32, place: Ordinality) -> Walk
     ensures { λ r. ⌜ walkSaid r ≡ outsideOf k (place .0) ⌝ }
 {
-    let refusal = Refusal {
-        number: 6,
-        place: k,
-        ordinality: 0,
-    };
     Walk {
-        answer: WalkAnswer::Refused(refusal),
+        answer: WalkAnswer::Refused(refuse(6, k)),
         place,
     }
 }

@@ -1,4 +1,3 @@
 -- What the text of a listing is made of, and why it is the paper's.
 pub mod Rows
-pub mod Rank
 pub mod Texts

@@ -82,7 +82,8 @@ module _ (bs : List ℕ) (k n : ℕ) (d₀ : List ℕ) (at : ℕ) where
       record { turns = omega arith; long = refl; room = omega arith; left = λ r y w. (rw (e, f) at w) }
 
   module _ (d : List ℕ) (end i : ℕ) (v : Filling bs k n d₀ at d end i) where
-    pub lines-more : k ≤ mostAxes → i < n → (m : ℕ) (y : List ℕ) → Wrote d end (lineAt bs (i * sizeOf k) k) m y → Filling bs k n d₀ at y m (i + 1)
+    pub lines-more : k ≤ mostAxes → i < n → (m : ℕ) (y : List ℕ) → Wrote d end (lineAt bs (i * sizeOf k) k) m y
+        → Filling bs k n d₀ at y m (i + 1)
     unfolding linesAt
     lines-more b h m y w =
         let x : List ℕ = lineAt bs (i * sizeOf k) k in
@@ -116,7 +117,8 @@ row-long : (s : Shape) (o : ℕ) → length (row s o) ≡ sizeOf (length (s .axe
 unfolding concat
 row-long s o = omega (arith, ap length (append-nil (row s o)), length-rows s (o ∷ []))
 
-pub rows-lines : (s : Shape) (os bs : List ℕ) (from : ℕ) (z : List ℕ) → Sound (s .axes) → cells (s .axes) ≤ mostCells → Between 1 (cells (s .axes)) os → drop from bs ≡ rowsOf s os ++ z
+pub rows-lines : (s : Shape) (os bs : List ℕ) (from : ℕ) (z : List ℕ) → Sound (s .axes) → cells (s .axes) ≤ mostCells
+    → Between 1 (cells (s .axes)) os → drop from bs ≡ rowsOf s os ++ z
     → linesAt bs from (length (s .axes)) (length os) ≡ concat (map (rowText s) os)
 unfolding linesAt concat
 rows-lines s [] bs from z g c b e = refl

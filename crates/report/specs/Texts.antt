@@ -2,12 +2,12 @@
 -- holds the rows of all TRUE cells from the first on; and the lines of these rows are the paper's.
 use Prim.Native.Nat.{ℕ, suc, _+_, _*_, _/_, _≤_, _<_}
 use mathlib.Core.Path.{_≡_, refl, sym, ap, ap₂, subst, _∙_}
-use mathlib.Core.Bool.{Bool, true, false, _&&_, _||_}
+use mathlib.Core.Bool.{Bool, true, false, _||_}
 use mathlib.Core.List.{List, [], _∷_, _++_}
 use native.Mathlib.Omega.{arith}
 use native.Mathlib.Nat.{div-lt-iff-lt-mul}
 use borrow.Author.Tests.{lt-ltb, le-ltb, leb-true, leb-false}
-use lib.Dec.{eqb, leb, ltb}
+use lib.Dec.{leb, ltb}
 use lib.ListN.{length, take, drop, replicate, length-append, length-replicate}
 use lib.Seq.{take-all, take-at}
 use Rattle.paper.specs.declared.Cell.{Cell}
@@ -15,17 +15,17 @@ use Rattle.paper.specs.declared.Listed.{Listed}
 use Rattle.paper.specs.declared.Refusal.{Refusal}
 use Rattle.paper.specs.declared.PageAnswer.{PageAnswer}
 use Rattle.paper.specs.declared.PageAnswer.the-variants as Page
-use Rattle.paper.specs.Limits.{mostAxes, mostCells, BOOLEAN}
-use Rattle.paper.specs.Refusals.{Res, got, refused, _>>=_, between, if_then_else_, unfit7, smallWork10, badPage11}
+use Rattle.paper.specs.Limits.{mostAxes, mostCells}
+use Rattle.paper.specs.Refusals.{Res, got, refused, _>>=_, if_then_else_}
 use Rattle.paper.specs.Numbers.{text, over, lastOf}
 use Rattle.paper.specs.Axes.{cells, Shape, Array}
 use Rattle.paper.specs.Cells.{isTrue, trues}
 use Rattle.paper.specs.Recipe.{Planned}
 use Rattle.paper.specs.Values.{values, noArray}
-use Rattle.paper.specs.Listing.{planned, room, lastShape, rowBytes, pageTests, listed, Paged, pageOf, pageValues, pageAfter, page}
+use Rattle.paper.specs.Listing.{planned, lastShape, rowBytes, listTests, pageTests, listed, Paged, pageOf, pageValues, pageAfter, page}
 use Rattle.paper.specs.Rests.{mostBytes, allRows, refusedText, printed, rests}
 use Rattle.paper.specs.Answers.{pageSaid}
-use Rattle.laws.specs.Tests.{no-refusal, none-refused, got-one, bind-got, ensure-got}
+use Rattle.laws.specs.Tests.{no-refusal, none-refused, got-one, bind-got}
 use Rattle.laws.specs.Limits.{limits-true}
 use Rattle.laws.specs.Pages.{trues-no, trues-yes}
 use Rattle.laws.specs.Rows.{rowsOf, length-rows}
@@ -34,7 +34,8 @@ use Rattle.decimal.specs.Wrote.{Wrote}
 use Rattle.decimal.specs.Lines.{mostFound, foundLine, found-text}
 use Rattle.decimal.specs.Rows.{mostRow}
 use Rattle.report.specs.Rows.{sizeOf, listingAt, Between, rows-lines}
-use Rattle.report.specs.Rank.{RowAxes}
+use Rattle.run.specs.declared.PageRows.{PageRows}
+use Rattle.run.specs.Calls.{RowAxes}
 
 -- the bytes that a text takes at most
 abbrev pub mostText : ℕ
@@ -78,7 +79,8 @@ module _ (B R W L D : List ℕ) (r : ℕ) (out-after : List ℕ) (w : Wrote D 0 
 
 -- ---- the tests look at lengths alone
 
-tests-same : (B R W₀ L₀ W L : List ℕ) (start : ℕ) → length W₀ ≡ length W → length L₀ ≡ length L → pageTests B R W₀ start L₀ ≡ pageTests B R W start L
+tests-same : (B R W₀ L₀ W L : List ℕ) (start : ℕ) → length W₀ ≡ length W → length L₀ ≡ length L
+    → pageTests B R W₀ start L₀ ≡ pageTests B R W start L
 unfolding pageTests
 tests-same B R W₀ L₀ W L start e f = rw (e, f) refl
 
@@ -86,15 +88,13 @@ tests-same B R W₀ L₀ W L start e f = rw (e, f) refl
 abbrev valuesOf : Res (List Array × List Planned) → Res (List Array)
 valuesOf t = t >>= (λ x. values (x .0) (x .1))
 
-tests-planned : (B R W L : List ℕ) (start : ℕ) (As : List Array) (ps : List Planned) → pageTests B R W start L ≡ got (As, ps) → planned B R ≡ got (As, ps)
+tests-planned : (B R W L : List ℕ) (start : ℕ) (As : List Array) (ps : List Planned) → pageTests B R W start L ≡ got (As, ps)
+    → planned B R ≡ got (As, ps)
 unfolding pageTests
 tests-planned B R W L start As ps e =
     let a = bind-got (planned B R) _ (As, ps) e in
-    let s : Shape = lastShape (a .0 .1) in
-    let b = ensure-got (eqb (s .type) BOOLEAN) unfit7 (length (a .0 .1)) _ (As, ps) (a .2) in
-    let c = ensure-got (room (a .0 .1) W) smallWork10 0 _ (As, ps) (b .1) in
-    let d = ensure-got (leb (rowBytes s) (length L) && between 1 (cells (s .axes) + 1) start) badPage11 0 _ (As, ps) (c .1) in
-    a .1 ∙ ap got (got-one (a .0) (As, ps) (d .1))
+    let b = bind-got (listTests (a .0 .1) (length W) start (length L)) _ (As, ps) (a .2) in
+    a .1 ∙ ap got (got-one (a .0) (As, ps) (b .2))
 
 -- ---- what a page says
 
@@ -102,12 +102,14 @@ same-refusal : {A : Type 0} (x y : Refusal) → _≡_ {A = Res A} (refused x) (r
 same-refusal x y e = cc
 
 -- a refusal
-values-refused : (v : Res (List Array)) (ps : List Planned) (W L : List ℕ) (r : Refusal) → refused r ≡ pageValues ps W 1 L v .answer → refusedText r ≡ printed v
+values-refused : (v : Res (List Array)) (ps : List Planned) (W L : List ℕ) (r : Refusal) → refused r ≡ pageValues ps W 1 L v .answer
+    → refusedText r ≡ printed v
 unfolding pageValues pageOf printed
 values-refused (got Rs) ps W L r e = absurd (no-refusal r _ e)
 values-refused (refused x) ps W L r e = ap refusedText (same-refusal r x e)
 
-page-refused : (t : Res (List Array × List Planned)) (W L : List ℕ) (r : Refusal) → refused r ≡ pageAfter W 1 L t .answer → refusedText r ≡ printed (valuesOf t)
+page-refused : (t : Res (List Array × List Planned)) (W L : List ℕ) (r : Refusal) → refused r ≡ pageAfter W 1 L t .answer
+    → refusedText r ≡ printed (valuesOf t)
 unfolding pageAfter printed
 page-refused (got x) W L r e = values-refused (values (x .0) (x .1)) (x .1) W L r e
 page-refused (refused x) W L r e = ap refusedText (same-refusal r x e)
@@ -123,7 +125,8 @@ record Told (t : Res (List Array × List Planned)) (L : List ℕ) (n : ℕ) (row
   bytes : rows ≡ over (rowsOf (lastOf noArray Rs .shape) (listed (lastOf noArray Rs) 1 (length L / rowBytes (lastOf noArray Rs .shape)))) L
 
 module _ (W L : List ℕ) (l : Listed) (w rows : List ℕ) where
-  values-told : (As : List Array) (ps : List Planned) (v : Res (List Array)) → values As ps ≡ v → record { answer = got l; work = w; rows = rows } ≡ pageValues ps W 1 L v → Told (got (As, ps)) L (l .written) rows
+  values-told : (As : List Array) (ps : List Planned) (v : Res (List Array)) → values As ps ≡ v
+      → record { answer = got l; work = w; rows = rows } ≡ pageValues ps W 1 L v → Told (got (As, ps)) L (l .written) rows
   unfolding pageValues pageOf
   values-told As ps (got Rs) q e = record {
     As = As;
@@ -136,7 +139,8 @@ module _ (W L : List ℕ) (l : Listed) (w rows : List ℕ) where
   }
   values-told As ps (refused x) q e = absurd (none-refused l x (ap (λ (p : Paged). p .answer) e))
 
-  page-told : (t : Res (List Array × List Planned)) → record { answer = got l; work = w; rows = rows } ≡ pageAfter W 1 L t → Told t L (l .written) rows
+  page-told : (t : Res (List Array × List Planned)) → record { answer = got l; work = w; rows = rows } ≡ pageAfter W 1 L t
+      → Told t L (l .written) rows
   unfolding pageAfter
   page-told (got x) e = values-told (x .0) (x .1) (values (x .0) (x .1)) refl e
   page-told (refused x) e = absurd (none-refused l x (ap (λ (p : Paged). p .answer) e))
@@ -180,8 +184,9 @@ pub record Written (B R rows : List ℕ) (k n : ℕ) : Type 0 where
   pub room : n * sizeOf k ≤ length rows
   pub is : listingAt rows k n ≡ rests B R
 
-module _ (B R L rows : List ℕ) (n k : ℕ) (As : List Array) (ps : List Planned) (Rs : List Array) (e : planned B R ≡ got (As, ps)) (v : values As ps ≡ got Rs)
-    (hL : length L ≡ allRows) (u : RowAxes B R k) where
+module _ (B R L rows : List ℕ) (n k : ℕ) (As : List Array) (ps : List Planned) (Rs : List Array) (e : planned B R ≡ got (As, ps))
+    (v : values As ps ≡ got Rs)
+    (hL : length L ≡ allRows) (f : k ≤ mostAxes) (u : k ≡ length (lastShape ps .axes)) where
   abbrev A : Array
   A = lastOf noArray Rs
 
@@ -195,7 +200,7 @@ module _ (B R L rows : List ℕ) (n k : ℕ) (As : List Array) (ps : List Planne
   as-planned = values-full ps 1 As [] Rs v
 
   axes : k ≡ length (s .axes)
-  axes = u .is As ps e ∙ ap (λ (x : Shape). length (x .axes)) (sym (last-shape ps Rs as-planned))
+  axes = u ∙ ap (λ (x : Shape). length (x .axes)) (sym (last-shape ps Rs as-planned))
 
   whole : length (A .cells) ≡ cells (s .axes)
   whole = last-whole ps Rs (planned-good B R As ps e) as-planned
@@ -205,7 +210,7 @@ module _ (B R L rows : List ℕ) (n k : ℕ) (As : List Array) (ps : List Planne
 
   -- the row buffer has room for all of them
   all-listed : listed A 1 (length L / rowBytes s) ≡ os
-  all-listed = listed-all A (length L / rowBytes s) (omega (arith, whole, small, room-all (rowBytes s) (length L) (omega arith) (omega (arith, hL, axes, u .few))))
+  all-listed = listed-all A (length L / rowBytes s) (omega (arith, whole, small, room-all (rowBytes s) (length L) (omega arith) (omega (arith, hL, axes))))
 
   module _ (c : n ≡ length os) (b : rows ≡ over (rowsOf s os) L) where
     few-rows : n ≤ mostCells
@@ -226,36 +231,39 @@ module _ (B R L rows : List ℕ) (n k : ℕ) (As : List Array) (ps : List Planne
 
 -- ---- the text of a page
 
-module _ (B R W L : List ℕ) (hB : length B ≤ mostBytes) (hR : length R ≤ mostBytes) (hW : length W ≡ mostBytes) (hL : length L ≡ allRows) where
+module _ (B R W L : List ℕ) (hB : length B ≤ mostBytes) (hR : length R ≤ mostBytes) (hW : length W ≡ mostBytes)
+    (hL : length L ≡ allRows) where
   rests-is : rests B R ≡ printed (valuesOf (pageTests B R W 1 L))
   unfolding rests
   rests-is =
       let e = tests-same B R (replicate mostBytes 0) (replicate allRows 0) W L 1 (length-replicate {A = ℕ} mostBytes 0 ∙ sym hW) (length-replicate {A = ℕ} allRows 0 ∙ sym hL) in
       rw (le-ltb mostBytes (length B) hB, le-ltb mostBytes (length R) hR) (ap (λ (t : Res (List Array × List Planned)). printed (valuesOf t)) e)
 
-  pub refused-text : (a : PageAnswer) (x : Refusal) (w rows : List ℕ) → record { answer = pageSaid a; work = w; rows = rows } ≡ page B R W 1 L → a ≡ Page.Refused x → refusedText x ≡ rests B R
-  refused-text a x w rows e q =
-      page-refused (pageTests B R W 1 L) W L x (ap pageSaid (sym q) ∙ ap (λ (p : Paged). p .answer) e) ∙ sym rests-is
+  module _ (r : PageRows) (w rows : List ℕ) (e : record { answer = pageSaid (r .answer); work = w; rows = rows } ≡ page B R W 1 L) where
+    pub refused-text : (x : Refusal) → r .answer ≡ Page.Refused x → refusedText x ≡ rests B R
+    refused-text x q = page-refused (pageTests B R W 1 L) W L x (ap pageSaid (sym q) ∙ ap (λ (p : Paged). p .answer) e) ∙ sym rests-is
 
-  pub listing-text : (a : PageAnswer) (x : Listed) (w rows : List ℕ) → record { answer = pageSaid a; work = w; rows = rows } ≡ page B R W 1 L → a ≡ Page.Got x
-      → (k : ℕ) → RowAxes B R k → Written B R rows k (x .written)
-  listing-text a x w rows e q k u =
-      let f : PageAnswer → Paged = λ y. record { answer = pageSaid y; work = w; rows = rows } in
-      let t = page-told W L x w rows (pageTests B R W 1 L) (ap f (sym q) ∙ e) in
-      let p = tests-planned B R W L 1 (t .As) (t .ps) (t .tests) in
-      let A : Array = lastOf noArray (t .Rs) in
-      let o = all-listed B R L rows (x .written) k (t .As) (t .ps) (t .Rs) p (t .valued) hL u in
-      let c : x .written ≡ length (trues 1 (A .cells)) = t .count ∙ ap length o in
-      let b : rows ≡ over (rowsOf (A .shape) (trues 1 (A .cells))) L = t .bytes ∙ ap (λ (os : List ℕ). over (rowsOf (A .shape) os) L) o in
-      let y : printed (got (t .Rs)) ≡ rests B R = sym (rests-is ∙ ap (λ (r : Res (List Array × List Planned)). printed (valuesOf r)) (t .tests) ∙ ap printed (t .valued)) in
-      record {
-        few = few-rows B R L rows (x .written) k (t .As) (t .ps) (t .Rs) p (t .valued) hL u c b;
-        room = room-rows B R L rows (x .written) k (t .As) (t .ps) (t .Rs) p (t .valued) hL u c b;
-        is = listing-is B R L rows (x .written) k (t .As) (t .ps) (t .Rs) p (t .valued) hL u c b ∙ y;
-      }
+    pub listing-text : RowAxes B R r → (x : Listed) → r .answer ≡ Page.Got x → Written B R rows (r .axes) (x .written)
+    listing-text n x q =
+        let f : PageAnswer → Paged = λ y. record { answer = pageSaid y; work = w; rows = rows } in
+        let t = page-told W L x w rows (pageTests B R W 1 L) (ap f (sym q) ∙ e) in
+        let p = tests-planned B R W L 1 (t .As) (t .ps) (t .tests) in
+        let k = r .axes in
+        let u : k ≡ length (lastShape (t .ps) .axes) = rw (q, p) at (n .same) in
+        let A : Array = lastOf noArray (t .Rs) in
+        let o = all-listed B R L rows (x .written) k (t .As) (t .ps) (t .Rs) p (t .valued) hL (n .few) u in
+        let c : x .written ≡ length (trues 1 (A .cells)) = t .count ∙ ap length o in
+        let b : rows ≡ over (rowsOf (A .shape) (trues 1 (A .cells))) L = t .bytes ∙ ap (λ (os : List ℕ). over (rowsOf (A .shape) os) L) o in
+        let y : printed (got (t .Rs)) ≡ rests B R = sym (rests-is ∙ ap (λ (r : Res (List Array × List Planned)). printed (valuesOf r)) (t .tests) ∙ ap printed (t .valued)) in
+        record {
+          few = few-rows B R L rows (x .written) k (t .As) (t .ps) (t .Rs) p (t .valued) hL (n .few) u c b;
+          room = room-rows B R L rows (x .written) k (t .As) (t .ps) (t .Rs) p (t .valued) hL (n .few) u c b;
+          is = listing-is B R L rows (x .written) k (t .As) (t .ps) (t .Rs) p (t .valued) hL (n .few) u c b ∙ y;
+        }
 
   -- the text of a page's answer, written
-  pub paged-text : (D x : List ℕ) (r : ℕ) (answer : Res Listed) (work-after rows-after out-after : List ℕ) → record { answer = answer; work = work-after; rows = rows-after } ≡ page B R W 1 L
+  pub paged-text : (D x : List ℕ) (r : ℕ) (answer : Res Listed) (work-after rows-after out-after : List ℕ)
+      → record { answer = answer; work = work-after; rows = rows-after } ≡ page B R W 1 L
       → Wrote D 0 x r out-after → x ≡ rests B R → Reported B R W L D r work-after rows-after out-after
   paged-text D x r answer work-after rows-after out-after e w q =
       let h : tooLong B R ≡ false = rw (le-ltb mostBytes (length B) hB, le-ltb mostBytes (length R) hR) refl in

@@ -9,23 +9,16 @@ ghost use Rattle.paper.specs.Rests.{mostBytes, allRows, rests};
 ghost use Rattle.decimal.specs.Rows.{mostRow};
 ghost use Rattle.decimal.specs.Wrote.{Wrote};
 ghost use Rattle.report.specs.Rows.{linesAt, listingAt};
-ghost use Rattle.report.specs.Rank.{RowAxes};
 ghost use Rattle.report.specs.Texts.{mostText, Left};
-use bundle::read;
 use cell::bytes::copy_bytes;
 use decimal::put_found;
 use decimal::put_refusal;
 use decimal::put_row;
-use extent::rank_of;
+use paper::FILE_BYTES;
+use paper::LIMIT_BYTES;
 use paper::Ordinality;
 use paper::PageAnswer;
-use recipe::plan_recipe;
-use run::page;
-
-// The bytes of a file at most, and those of the ordinality in a row and of each position in it.
-const MOST: usize = 32768;
-
-const NUMBER: usize = 4;
+use run::page_rows;
 
 // ---- parts of the text
 
@@ -39,10 +32,11 @@ fn put_too_long(out: &mut [u8]) -> usize
 
 // The lines of the first n rows of `rank` positions.
 fn put_rows(rows: &[u8], n: usize, rank: usize, out: &mut [u8], at: usize) -> usize
-    requires { ⌜ (rank ≤ mostAxes) × (n ≤ mostCells) × (n * (limitBytes + rank * limitBytes) ≤ length (now rows)) × (at + n * mostRow mostAxes ≤ length (now out)) ⌝ }
+    requires { ⌜ (rank ≤ mostAxes) × (n ≤ mostCells) × (n * (limitBytes + rank * limitBytes) ≤ length (now rows))
+        × (at + n * mostRow mostAxes ≤ length (now out)) ⌝ }
     ensures { λ r. ⌜ Wrote (now (out .entry)) at (linesAt (now (rows .entry)) 0 rank n) r (now (out .exit)) ⌝ }
 {
-    let size = NUMBER + rank * NUMBER;
+    let size = LIMIT_BYTES + rank * LIMIT_BYTES;
     let mut end = at;
     let mut i: usize = 0;
     while i < n {
@@ -54,7 +48,8 @@ fn put_rows(rows: &[u8], n: usize, rank: usize, out: &mut [u8], at: usize) -> us
 
 // The first line, and a line for each row.
 fn put_listing(rows: &[u8], n: usize, rank: usize, out: &mut [u8]) -> usize
-    requires { ⌜ (rank ≤ mostAxes) × (n ≤ mostCells) × (n * (limitBytes + rank * limitBytes) ≤ length (now rows)) × (mostText ≤ length (now out)) ⌝ }
+    requires { ⌜ (rank ≤ mostAxes) × (n ≤ mostCells) × (n * (limitBytes + rank * limitBytes) ≤ length (now rows))
+        × (mostText ≤ length (now out)) ⌝ }
     ensures { λ r. ⌜ Wrote (now (out .entry)) 0 (listingAt (now (rows .entry)) rank n) r (now (out .exit)) ⌝ }
 {
     let first = put_found(out, 0, n as u64);
@@ -62,26 +57,6 @@ fn put_listing(rows: &[u8], n: usize, rank: usize, out: &mut [u8]) -> usize
 }
 
 // ---- the text
-
-// How many positions a row has: the axes of the last step's result. 0 where the bundle or the recipe is refused.
-fn row_axes(bundle: &[u8], recipe: &[u8]) -> usize
-    ensures { λ r. ⌜ RowAxes (now (bundle .entry)) (now (recipe .entry)) r ⌝ }
-{
-    let reading = read(bundle);
-    let plan = plan_recipe(reading, recipe);
-    let unread = reading.refusal;
-    if unread.number != 0 {
-        return 0;
-    }
-    let unplanned = plan.refusal;
-    if unplanned.number != 0 {
-        return 0;
-    }
-    let steps = plan.steps;
-    let last = steps[plan.count - 1];
-    let result = last.result;
-    rank_of(result.extent)
-}
 
 // What `rests` prints, at the beginning of `out`; answers its length.
 pub fn report(
@@ -92,20 +67,20 @@ pub fn report(
     out: &mut [u8],
 ) -> usize
     requires { ⌜ (length (now work) ≡ mostBytes) × (length (now rows) ≡ allRows) × (mostText ≤ length (now out)) ⌝ }
-    ensures { λ r. ⌜ (take r (now (out .exit)) ≡ rests (now (bundle .entry)) (now (recipe .entry))) × (r ≤ length (now (out .exit))) × Left (now (bundle .entry)) (now (recipe .entry)) (now (work .entry)) (now (rows .entry)) (now (out .entry)) (now (work .exit)) (now (rows .exit)) (now (out .exit)) ⌝ }
+    ensures { λ r. ⌜ (take r (now (out .exit)) ≡ rests (now (bundle .entry)) (now (recipe .entry))) × (r ≤ length (now (out .exit)))
+        × Left (now (bundle .entry)) (now (recipe .entry)) (now (work .entry)) (now (rows .entry)) (now (out .entry))
+        (now (work .exit)) (now (rows .exit)) (now (out .exit)) ⌝ }
 {
-    if MOST < bundle.len() {
+    if FILE_BYTES < bundle.len() {
         return put_too_long(out);
     }
-    if MOST < recipe.len() {
+    if FILE_BYTES < recipe.len() {
         return put_too_long(out);
     }
-    let answer = page(bundle, recipe, work, Ordinality(1), rows);
+    let paged = page_rows(bundle, recipe, work, Ordinality(1), rows);
+    let answer = paged.answer;
     match answer {
         PageAnswer::Refused(refusal) => put_refusal(out, 0, refusal),
-        PageAnswer::Got(listed) => {
-            let rank = row_axes(bundle, recipe);
-            put_listing(rows, listed.written as usize, rank, out)
-        }
+        PageAnswer::Got(listed) => put_listing(rows, listed.written as usize, paged.axes, out),
     }
 }

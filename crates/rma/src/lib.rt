@@ -7,7 +7,8 @@ ghost use Rattle.paper.specs.Listing.{run as paperRun, page as paperPage};
 ghost use Rattle.paper.specs.Reference.{reference, walk as paperWalk};
 ghost use Rattle.paper.specs.Stretch.{stretch as paperStretch};
 ghost use Rattle.c_told.specs.Said.{answered, spoken};
-ghost use Rattle.c_asked.specs.Asked.{countOf, arrayTold, packHeads, sideIn, coordinateIn, placeIn, placeAfter, totalAsked};
+ghost use Rattle.refer.specs.Chosen.{arrayTold};
+ghost use Rattle.c_asked.specs.Asked.{countOf, packHeads, sideIn, coordinateIn, placeIn, placeAfter, totalAsked};
 ghost use Rattle.c_told.specs.Given.{numberBytes, arrayBytes, seenBytes, totalBytes, listedBytes, partBytes};
 ghost use Rattle.c_told.specs.Replies.{Tells};
 use bundle::read;
@@ -18,24 +19,21 @@ use c_asked::total_asked;
 use c_asked::walk_bytes;
 use c_told::Reply;
 use c_told::give;
-use c_told::of_json;
+use c_told::of_counted;
 use c_told::of_number;
 use c_told::of_numbers;
-use c_told::of_pack;
 use c_told::of_page;
 use c_told::of_reference;
-use c_told::of_run;
 use c_told::of_stretch;
 use c_told::of_total;
 use c_told::of_walk;
 use c_told::refused;
-use extent::good_extent;
 use extent::rank_of;
 use json_write::write;
 use pack::pack;
 use paper::AxisIndex;
 use paper::Ordinality;
-use paper::Refusal;
+use refer::choose;
 use run::page;
 use run::run;
 use stretch::plan_stretch;
@@ -56,7 +54,8 @@ fn count_told(bundle: &[u8]) -> Reply
 
 #[no_mangle]
 pub extern "C" fn rma_read(bundle: &[u8], said: &mut [u8]) -> u32
-    ensures { λ r. ⌜ record { number = r; said = now (said .exit) } ≡ spoken numberBytes (countOf (now (bundle .entry))) (now (said .entry)) ⌝ }
+    ensures { λ r. ⌜ record { number = r; said = now (said .exit) }
+        ≡ spoken numberBytes (countOf (now (bundle .entry))) (now (said .entry)) ⌝ }
 {
     give(said, count_told(bundle))
 }
@@ -65,37 +64,23 @@ pub extern "C" fn rma_read(bundle: &[u8], said: &mut [u8]) -> u32
 fn array_told(bundle: &[u8], array: u32) -> Reply
     ensures { λ r. ⌜ Tells (answered arrayBytes (arrayTold (now (bundle .entry)) array)) r ⌝ }
 {
-    let reading = read(bundle);
-    let refusal = reading.refusal;
+    let chosen = choose(bundle, array);
+    let refusal = chosen.refusal;
     if refusal.number != 0 {
         return refused(refusal);
     }
-    let count = reading.count;
-    let heads = reading.heads;
-    let unknown = Refusal {
-        number: 4,
-        place: array,
-        ordinality: 0,
-    };
-    let i = array as usize;
-    if i == 0 {
-        return refused(unknown);
-    }
-    if count < i {
-        return refused(unknown);
-    }
-    let head = heads[i - 1];
+    let head = chosen.head;
     let form = head.form;
-    let extent = form.extent;
-    let rank = rank_of(extent) as u32;
-    let cells = good_extent(extent) as u32;
+    let rank = rank_of(form.extent) as u32;
+    let cells = head.cells as u32;
     let at = head.at as u32;
     of_numbers(0, c_told::MOST, form.kind as u32, rank, cells, at)
 }
 
 #[no_mangle]
 pub extern "C" fn rma_array(bundle: &[u8], array: u32, said: &mut [u8]) -> u32
-    ensures { λ r. ⌜ record { number = r; said = now (said .exit) } ≡ spoken arrayBytes (arrayTold (now (bundle .entry)) array) (now (said .entry)) ⌝ }
+    ensures { λ r. ⌜ record { number = r; said = now (said .exit) }
+        ≡ spoken arrayBytes (arrayTold (now (bundle .entry)) array) (now (said .entry)) ⌝ }
 {
     give(said, array_told(bundle, array))
 }
@@ -103,12 +88,13 @@ pub extern "C" fn rma_array(bundle: &[u8], array: u32, said: &mut [u8]) -> u32
 // The bundle of the arrays that `heads` describes, with their cells, in `out`: its length.
 #[no_mangle]
 pub extern "C" fn rma_pack(heads: &[u8], cells: &[u8], out: &mut [u8], said: &mut [u8]) -> u32
-    ensures { λ r. ⌜ (record { number = r; said = now (said .exit) } ≡ spoken numberBytes (packHeads (now (heads .entry)) (now (cells .entry)) (now (out .entry)) .answer) (now (said .entry)))
-        × (now (out .exit) ≡ packHeads (now (heads .entry)) (now (cells .entry)) (now (out .entry)) .out) ⌝ }
+    ensures { λ r. ⌜ (record { number = r; said = now (said .exit) }
+        ≡ spoken numberBytes (packHeads (now (heads .entry)) (now (cells .entry)) (now (out .entry)) .answer) (now (said .entry)))
+        × (now (out .exit) ≡ packHeads (now (heads .entry)) (now (cells .entry)) (now (out .entry)) .buffer) ⌝ }
 {
     let asked = forms_in(heads);
     let forms = asked.forms;
-    give(said, of_pack(pack(asked.count, forms, cells, out)))
+    give(said, of_counted(pack(asked.count, forms, cells, out)))
 }
 
 // ---- one array
@@ -116,7 +102,8 @@ pub extern "C" fn rma_pack(heads: &[u8], cells: &[u8], out: &mut [u8], said: &mu
 // The cell at a coordinate.
 #[no_mangle]
 pub extern "C" fn rma_refer(bundle: &[u8], array: u32, coordinate: &[u8], said: &mut [u8]) -> u32
-    ensures { λ r. ⌜ record { number = r; said = now (said .exit) } ≡ spoken encode (reference (now (bundle .entry)) array (coordinateIn (now (coordinate .entry)))) (now (said .entry)) ⌝ }
+    ensures { λ r. ⌜ record { number = r; said = now (said .exit) }
+        ≡ spoken encode (reference (now (bundle .entry)) array (coordinateIn (now (coordinate .entry)))) (now (said .entry)) ⌝ }
 {
     give(said, of_reference(refer_bytes(bundle, array, coordinate)))
 }
@@ -124,8 +111,10 @@ pub extern "C" fn rma_refer(bundle: &[u8], array: u32, coordinate: &[u8], said: 
 // The cell at the walking place, or the end; the place is moved forward where it stands.
 #[no_mangle]
 pub extern "C" fn rma_walk(bundle: &[u8], array: u32, place: &mut [u8], said: &mut [u8]) -> u32
-    ensures { λ r. ⌜ (record { number = r; said = now (said .exit) } ≡ spoken seenBytes (paperWalk (now (bundle .entry)) array (placeIn (now (place .entry))) .answer) (now (said .entry)))
-        × (now (place .exit) ≡ placeAfter (paperWalk (now (bundle .entry)) array (placeIn (now (place .entry))) .place) (now (place .entry))) ⌝ }
+    ensures { λ r. ⌜ (record { number = r; said = now (said .exit) }
+        ≡ spoken seenBytes (paperWalk (now (bundle .entry)) array (placeIn (now (place .entry))) .answer) (now (said .entry)))
+        × (now (place .exit)
+        ≡ placeAfter (paperWalk (now (bundle .entry)) array (placeIn (now (place .entry))) .place) (now (place .entry))) ⌝ }
 {
     give(said, of_walk(walk_bytes(bundle, array, place)))
 }
@@ -133,7 +122,8 @@ pub extern "C" fn rma_walk(bundle: &[u8], array: u32, place: &mut [u8], said: &m
 // A total, by its number: filled, TRUE, smallest, largest, sum, average.
 #[no_mangle]
 pub extern "C" fn rma_total(bundle: &[u8], array: u32, which: u32, said: &mut [u8]) -> u32
-    ensures { λ r. ⌜ record { number = r; said = now (said .exit) } ≡ spoken totalBytes (totalAsked (now (bundle .entry)) array which) (now (said .entry)) ⌝ }
+    ensures { λ r. ⌜ record { number = r; said = now (said .exit) }
+        ≡ spoken totalBytes (totalAsked (now (bundle .entry)) array which) (now (said .entry)) ⌝ }
 {
     give(said, of_total(total_asked(bundle, array, which)))
 }
@@ -141,10 +131,11 @@ pub extern "C" fn rma_total(bundle: &[u8], array: u32, which: u32, said: &mut [u
 // The array as JSON, in `out`: the text's length.
 #[no_mangle]
 pub extern "C" fn rma_write_json(bundle: &[u8], array: u32, out: &mut [u8], said: &mut [u8]) -> u32
-    ensures { λ r. ⌜ (record { number = r; said = now (said .exit) } ≡ spoken numberBytes (writeJson (now (bundle .entry)) array (now (out .entry)) .answer) (now (said .entry)))
-        × (now (out .exit) ≡ writeJson (now (bundle .entry)) array (now (out .entry)) .out) ⌝ }
+    ensures { λ r. ⌜ (record { number = r; said = now (said .exit) }
+        ≡ spoken numberBytes (writeJson (now (bundle .entry)) array (now (out .entry)) .answer) (now (said .entry)))
+        × (now (out .exit) ≡ writeJson (now (bundle .entry)) array (now (out .entry)) .buffer) ⌝ }
 {
-    give(said, of_json(write(bundle, array, out)))
+    give(said, of_counted(write(bundle, array, out)))
 }
 
 // ---- a recipe
@@ -152,10 +143,11 @@ pub extern "C" fn rma_write_json(bundle: &[u8], array: u32, out: &mut [u8], said
 // The results of all steps in the work area: the number of their cells.
 #[no_mangle]
 pub extern "C" fn rma_run(bundle: &[u8], recipe: &[u8], work: &mut [u8], said: &mut [u8]) -> u32
-    ensures { λ r. ⌜ (record { number = r; said = now (said .exit) } ≡ spoken numberBytes (paperRun (now (bundle .entry)) (now (recipe .entry)) (now (work .entry)) .answer) (now (said .entry)))
-        × (now (work .exit) ≡ paperRun (now (bundle .entry)) (now (recipe .entry)) (now (work .entry)) .work) ⌝ }
+    ensures { λ r. ⌜ (record { number = r; said = now (said .exit) }
+        ≡ spoken numberBytes (paperRun (now (bundle .entry)) (now (recipe .entry)) (now (work .entry)) .answer) (now (said .entry)))
+        × (now (work .exit) ≡ paperRun (now (bundle .entry)) (now (recipe .entry)) (now (work .entry)) .buffer) ⌝ }
 {
-    give(said, of_run(run(bundle, recipe, work)))
+    give(said, of_counted(run(bundle, recipe, work)))
 }
 
 // The same, and the rows of TRUE cells from `start` on: how many, and where to go on.
@@ -168,9 +160,12 @@ pub extern "C" fn rma_page(
     rows: &mut [u8],
     said: &mut [u8],
 ) -> u32
-    ensures { λ r. ⌜ (record { number = r; said = now (said .exit) } ≡ spoken listedBytes (paperPage (now (bundle .entry)) (now (recipe .entry)) (now (work .entry)) start (now (rows .entry)) .answer) (now (said .entry)))
+    ensures { λ r. ⌜ (record { number = r; said = now (said .exit) }
+        ≡ spoken listedBytes (paperPage (now (bundle .entry)) (now (recipe .entry)) (now (work .entry)) start (now (rows .entry)) .answer)
+        (now (said .entry)))
         × (now (work .exit) ≡ paperPage (now (bundle .entry)) (now (recipe .entry)) (now (work .entry)) start (now (rows .entry)) .work)
-        × (now (rows .exit) ≡ paperPage (now (bundle .entry)) (now (recipe .entry)) (now (work .entry)) start (now (rows .entry)) .rows) ⌝ }
+        × (now (rows .exit)
+        ≡ paperPage (now (bundle .entry)) (now (recipe .entry)) (now (work .entry)) start (now (rows .entry)) .rows) ⌝ }
 {
     let answer = page(bundle, recipe, work, Ordinality(start), rows);
     give(said, of_page(answer))
@@ -190,7 +185,9 @@ pub extern "C" fn rma_stretch(
     ordinality: u32,
     said: &mut [u8],
 ) -> u32
-    ensures { λ r. ⌜ record { number = r; said = now (said .exit) } ≡ spoken partBytes (paperStretch (sideIn (now («left_head» .entry)) (now (left .entry))) (sideIn (now («right_head» .entry)) (now (right .entry))) axis ordinality) (now (said .entry)) ⌝ }
+    ensures { λ r. ⌜ record { number = r; said = now (said .exit) }
+        ≡ spoken partBytes (paperStretch (sideIn (now («left_head» .entry)) (now (left .entry)))
+        (sideIn (now («right_head» .entry)) (now (right .entry))) axis ordinality) (now (said .entry)) ⌝ }
 {
     let l = side_form(left_head);
     let r = side_form(right_head);

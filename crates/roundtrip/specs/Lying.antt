@@ -31,7 +31,8 @@ Lying bs (p ∷ ps) (A ∷ As) =
     × Lying bs ps As
 
 -- arrays that take up bs from byte i on
-arrays-lie : (bs : List ℕ) (As : List Array) (i : ℕ) → i ≤ length bs → EachValid As → drop i bs ≡ concat (map arrayBytes As) → Lying bs (lyingFrom i As) As
+arrays-lie : (bs : List ℕ) (As : List Array) (i : ℕ) → i ≤ length bs → EachValid As → drop i bs ≡ concat (map arrayBytes As)
+    → Lying bs (lyingFrom i As) As
 unfolding lyingFrom concat
 arrays-lie bs [] i l v e = tt
 arrays-lie bs (A ∷ As) i l v e =
@@ -56,7 +57,8 @@ cells-lie bs As h e =
     arrays-lie bs As (markBytes + 1) (omega (arith, ap length (r .bytes))) (r .valid .each) (ap (drop (markBytes + 1)) (sym (r .bytes)))
 
 -- so of what `reading` answers
-pub reading-lies : (bs : List ℕ) (ps : List (Shape × ℕ)) → Bytes bs → reading bs ≡ got ps → (As : List Array) × (readBundle bs ≡ got As) × Lying bs ps As
+pub reading-lies : (bs : List ℕ) (ps : List (Shape × ℕ)) → Bytes bs → reading bs ≡ got ps
+    → (As : List Array) × (readBundle bs ≡ got As) × Lying bs ps As
 unfolding reading
 reading-lies bs ps h e =
     let a = bind-got (readBundle bs) _ ps e in

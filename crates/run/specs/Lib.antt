@@ -1,3 +1,3 @@
--- What the calls test and leave, in the paper's terms, and demand 3 of the page call.
+-- What the calls test, and what they answer and leave.
 pub mod Tests
 pub mod Calls

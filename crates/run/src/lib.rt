@@ -3,96 +3,86 @@
 ghost use mathlib.Core.Path.{_≡_};
 ghost use Prim.Native.Nat.{_≤_};
 ghost use lib.ListN.{length, replicate};
-ghost use Rattle.paper.specs.Answers.{runSaid, pageSaid};
+ghost use Rattle.paper.specs.declared.PageAnswer.the-variants.{Refused};
+ghost use Rattle.paper.specs.Limits.{mostSteps, mostCells};
+ghost use Rattle.paper.specs.Axes.{cells as cellsIn};
+ghost use Rattle.paper.specs.Answers.{axesOf, numberSaid, pageSaid};
 ghost use Rattle.paper.specs.Listing.{run as paperRun, page as paperPage};
 ghost use Rattle.paper.specs.Numbers.{over};
-ghost use Rattle.paper.specs.Refusals.{refusal};
-ghost use Rattle.run.specs.Tests.{TestedAs, Bare, PageJudged, Settled, AskedToSettle};
+ghost use Rattle.values.specs.Runs.{Running};
+ghost use Rattle.run.specs.Tests.{PlannedFor, PageJudged};
+ghost use Rattle.run.specs.Calls.{Settled, RowAxes};
 use bundle::read;
 use extent::rank_of;
 use listing::list;
+use paper::BOOLEAN;
+use paper::CELL_BYTES;
+use paper::Head;
+use paper::LIMIT_BYTES;
+use paper::NumberAnswer;
 use paper::Ordinality;
 use paper::PageAnswer;
-use paper::Reading;
+use paper::RESULTS;
 use paper::Refusal;
-use paper::RunAnswer;
 use recipe::Plan;
+use recipe::no_plan;
 use recipe::plan_recipe;
+use refusals::none;
+use refusals::refuse;
 use values::run_steps;
 
-// The bytes of a cell, of the ordinality in a row and of each position in it, and the type that is listed.
-const CELL: usize = 9;
-
-const NUMBER: usize = 4;
-
-const BOOLEAN: u8 = 3;
-
-// A bundle read and a recipe planned; or the refusal (number 0: none).
-pub struct Tested {
-    pub refusal: Refusal,
-    pub reading: Reading,
-    pub plan: Plan,
-}
-
-fn refusing(number: u8, place: u32) -> Refusal
-    ensures { λ r. ⌜ r ≡ refusal number place 0 ⌝ }
-{
-    Refusal {
-        number,
-        place,
-        ordinality: 0,
-    }
+// A page, and how many positions each of its rows has.
+pub struct PageRows {
+    pub answer: PageAnswer,
+    pub axes: usize,
 }
 
 // ---- tests
 
-// The bundle, then the recipe.
-fn test_both(bundle: &[u8], recipe: &[u8]) -> Tested
-    ensures { λ r. ⌜ TestedAs (now (bundle .entry)) (now (recipe .entry)) r ⌝ }
+// The bundle, then the recipe: the plan, with the first refusal of either.
+fn planned(bundle: &[u8], recipe: &[u8]) -> Plan
+    ensures { λ r. ⌜ PlannedFor (now (bundle .entry)) (now (recipe .entry)) r ⌝ }
 {
     let reading = read(bundle);
-    let plan = plan_recipe(reading, recipe);
     let refusal = reading.refusal;
     if refusal.number != 0 {
-        return Tested {
-            refusal,
-            reading,
-            plan,
-        };
+        return no_plan(refusal);
     }
-    let refusal = plan.refusal;
-    Tested {
-        refusal,
-        reading,
-        plan,
-    }
+    plan_recipe(reading, recipe)
 }
 
-// A page's own tests: the listing's type, the work area, the row buffer and the start.
-fn page_refusal(plan: Plan, work: usize, start: Ordinality, rows: usize) -> Refusal
-    requires { ⌜ Bare plan ⌝ }
-    ensures { λ r. ⌜ PageJudged plan work (start .0) rows r ⌝ }
+// A page's own tests: the listing's type, the work area, the row buffer and the start. `result` is the last of `steps` results, which
+// have so many bytes.
+fn page_refusal(
+    result: Head,
+    steps: usize,
+    bytes: usize,
+    work: usize,
+    start: Ordinality,
+    rows: usize,
+) -> Refusal
+    requires { ⌜ steps ≤ mostSteps ⌝ }
+    requires { ⌜ result .cells ≤ mostCells ⌝ }
+    requires { ⌜ result .cells ≡ cellsIn (axesOf (result .form .extent)) ⌝ }
+    ensures { λ r. ⌜ PageJudged result steps bytes work (start .0) rows r ⌝ }
 {
-    let count = plan.count;
-    let steps = plan.steps;
-    let last = steps[count - 1];
-    let result = last.result;
-    if result.kind != BOOLEAN {
-        return refusing(7, count as u32);
+    let form = result.form;
+    if form.kind != BOOLEAN {
+        return refuse(7, steps as u32);
     }
-    if work < plan.cells * CELL {
-        return refusing(10, 0);
+    if work < bytes {
+        return refuse(10, 0);
     }
-    if rows < NUMBER + NUMBER * rank_of(result.extent) {
-        return refusing(11, 0);
+    if rows < LIMIT_BYTES + LIMIT_BYTES * rank_of(form.extent) {
+        return refuse(11, 0);
     }
     if start.0 == 0 {
-        return refusing(11, 0);
+        return refuse(11, 0);
     }
-    if last.cells + 1 < start.0 as usize {
-        return refusing(11, 0);
+    if result.cells + 1 < start.0 as usize {
+        return refuse(11, 0);
     }
-    refusing(0, 0)
+    none()
 }
 
 // ---- values
@@ -110,41 +100,84 @@ fn clear(work: &mut [u8], n: usize)
 }
 
 // The values of all steps; where a cell refuses, zeros in their place.
-fn settle(bundle: &[u8], recipe: &[u8], reading: Reading, plan: Plan, work: &mut [u8]) -> Refusal
-    requires { ⌜ AskedToSettle (now bundle) (now recipe) reading plan (now work) ⌝ }
-    ensures { λ r. ⌜ Settled (now (bundle .entry)) (now (recipe .entry)) reading plan (now (work .entry)) r (now (work .exit)) ⌝ }
+fn settle(bundle: &[u8], recipe: &[u8], plan: Plan, work: &mut [u8]) -> Refusal
+    requires { ⌜ Running (now bundle) (now recipe) plan (now work) ⌝ }
+    ensures { λ r. ⌜ Settled (now (bundle .entry)) (now (recipe .entry)) plan (now (work .entry)) r
+        (now (work .exit)) ⌝ }
 {
-    let refusal = run_steps(bundle, recipe, reading, plan, work);
+    let refusal = run_steps(bundle, recipe, plan, work);
     if refusal.number == 0 {
         return refusal;
     }
-    clear(work, plan.cells * CELL);
+    clear(work, plan.cells * CELL_BYTES);
     refusal
 }
 
 // ---- the calls
 
 // A run: the results of all steps in the work area, and how many cells they have.
-pub fn run(bundle: &[u8], recipe: &[u8], work: &mut [u8]) -> RunAnswer
-    ensures { λ r. ⌜ record { answer = runSaid r; work = now (work .exit) } ≡ paperRun (now (bundle .entry)) (now (recipe .entry)) (now (work .entry)) ⌝ }
+pub fn run(bundle: &[u8], recipe: &[u8], work: &mut [u8]) -> NumberAnswer
+    ensures { λ r. ⌜ record { answer = numberSaid r; buffer = now (work .exit) }
+        ≡ paperRun (now (bundle .entry)) (now (recipe .entry)) (now (work .entry)) ⌝ }
 {
-    let t = test_both(bundle, recipe);
-    let refusal = t.refusal;
+    let plan = planned(bundle, recipe);
+    let refusal = plan.refusal;
     if refusal.number != 0 {
-        return RunAnswer::Refused(refusal);
+        return NumberAnswer::Refused(refusal);
     }
-    let plan = t.plan;
-    if work.len() < plan.cells * CELL {
-        return RunAnswer::Refused(refusing(10, 0));
+    if work.len() < plan.cells * CELL_BYTES {
+        return NumberAnswer::Refused(refuse(10, 0));
     }
-    let ended = settle(bundle, recipe, t.reading, plan, work);
+    let ended = settle(bundle, recipe, plan, work);
     if ended.number != 0 {
-        return RunAnswer::Refused(ended);
+        return NumberAnswer::Refused(ended);
     }
-    RunAnswer::Got(plan.cells as u32)
+    NumberAnswer::Got(plan.cells as u32)
+}
+
+// No page, and no rows.
+fn no_page(refusal: Refusal) -> PageRows
+    ensures { λ r. ⌜ r ≡ record { answer = Refused refusal; axes = 0 } ⌝ }
+{
+    let answer = PageAnswer::Refused(refusal);
+    PageRows { answer, axes: 0 }
 }
 
 // A page: the run, and a row for each TRUE cell of the last result from `start` on, until the buffer has no room for another.
+pub fn page_rows(
+    bundle: &[u8],
+    recipe: &[u8],
+    work: &mut [u8],
+    start: Ordinality,
+    rows: &mut [u8],
+) -> PageRows
+    ensures { λ r. ⌜ (record { answer = pageSaid (r .answer); work = now (work .exit); rows = now (rows .exit) }
+        ≡ paperPage (now (bundle .entry)) (now (recipe .entry)) (now (work .entry)) (start .0) (now (rows .entry)))
+        × RowAxes (now (bundle .entry)) (now (recipe .entry)) r ⌝ }
+{
+    let plan = planned(bundle, recipe);
+    let refusal = plan.refusal;
+    if refusal.number != 0 {
+        return no_page(refusal);
+    }
+    let last = plan.operands[RESULTS + plan.count];
+    let result = last.head;
+    let bytes = plan.cells * CELL_BYTES;
+    let unfit = page_refusal(result, plan.count, bytes, work.len(), start, rows.len());
+    if unfit.number != 0 {
+        return no_page(unfit);
+    }
+    let stopped = settle(bundle, recipe, plan, work);
+    if stopped.number != 0 {
+        return no_page(stopped);
+    }
+    let extent = result.form.extent;
+    let answer = PageAnswer::Got(list(work, result.at, extent, result.cells, start, rows));
+    let axes = rank_of(extent);
+    PageRows { answer, axes }
+}
+
+// The page alone.
 pub fn page(
     bundle: &[u8],
     recipe: &[u8],
@@ -152,24 +185,9 @@ pub fn page(
     start: Ordinality,
     rows: &mut [u8],
 ) -> PageAnswer
-    ensures { λ r. ⌜ record { answer = pageSaid r; work = now (work .exit); rows = now (rows .exit) } ≡ paperPage (now (bundle .entry)) (now (recipe .entry)) (now (work .entry)) (start .0) (now (rows .entry)) ⌝ }
+    ensures { λ r. ⌜ record { answer = pageSaid r; work = now (work .exit); rows = now (rows .exit) }
+        ≡ paperPage (now (bundle .entry)) (now (recipe .entry)) (now (work .entry)) (start .0) (now (rows .entry)) ⌝ }
 {
-    let t = test_both(bundle, recipe);
-    let refusal = t.refusal;
-    if refusal.number != 0 {
-        return PageAnswer::Refused(refusal);
-    }
-    let plan = t.plan;
-    let unfit = page_refusal(plan, work.len(), start, rows.len());
-    if unfit.number != 0 {
-        return PageAnswer::Refused(unfit);
-    }
-    let stopped = settle(bundle, recipe, t.reading, plan, work);
-    if stopped.number != 0 {
-        return PageAnswer::Refused(stopped);
-    }
-    let steps = plan.steps;
-    let last = steps[plan.count - 1];
-    let result = last.result;
-    PageAnswer::Got(list(work, last.at, result.extent, last.cells, start, rows))
+    let found = page_rows(bundle, recipe, work, start, rows);
+    found.answer
 }

@@ -90,7 +90,7 @@ module _ {X : Type 0} (k : ℕ) (m : List X) (x : X) where
 pub without-none : {X : Type 0} (k : ℕ) → _≡_ {A = List X} (without k []) []
 without-none {X} k = ap₂ (λ (a b : List X). a ++ b) (take-nil (k - 1)) (drop-nil k)
 
-few-without : {X : Type 0} (k : ℕ) (l : List X) → length (without k l) ≤ length l
+pub few-without : {X : Type 0} (k : ℕ) (l : List X) → length (without k l) ≤ length l
 few-without k l = omega (arith, length-append (take (k - 1) l) (drop k l), length-take (k - 1) l, length-drop k l)
 
 module _ (k : ℕ) (E : List Axis) (i : ℕ) (here : i < length E) (few : length E ≤ mostAxes) where
@@ -102,13 +102,15 @@ module _ (k : ℕ) (E : List Axis) (i : ℕ) (here : i < length E) (few : length
   room-without e q = record { more = omega (arith, ap (λ (x : Extent). x .rank) q, without-few) }
 
   -- and with it
-  pub without-more : (e : Extent) (a : Axis) → e ≡ extentOf (without k (take i E)) → a ≡ getD E i noAxis → keptOf (eqb (i + 1) k) e a ≡ extentOf (without k (take (i + 1) E))
+  pub without-more : (e : Extent) (a : Axis) → e ≡ extentOf (without k (take i E)) → a ≡ getD E i noAxis
+      → keptOf (eqb (i + 1) k) e a ≡ extentOf (without k (take (i + 1) E))
   without-more e a q f = ap₂ (keptOf (eqb (i + 1) k)) q f ∙ by (eqb (i + 1) k) refl
     where
       n : length (take i E) ≡ i
       n = simp length-take (omega arith)
 
-      by : (b : Bool) → eqb (i + 1) k ≡ b → keptOf b (extentOf (without k (take i E))) (getD E i noAxis) ≡ extentOf (without k (take (i + 1) E))
+      by : (b : Bool) → eqb (i + 1) k ≡ b → keptOf b (extentOf (without k (take i E))) (getD E i noAxis)
+          ≡ extentOf (without k (take (i + 1) E))
       by true e = ap extentOf (sym (ap (without k) (take-more E i noAxis here) ∙ without-it k (take i E) (getD E i noAxis) (omega (arith, n, eqb-true (i + 1) k e))))
       by false e =
           with-axis (without k (take i E)) (getD E i noAxis) without-few

@@ -1,18 +1,15 @@
--- Two extents glued along an axis: the first with that axis longer by the second's. A store at the axis makes it, and leaves nothing
--- past the last axis where nothing was.
+-- Two extents glued along an axis: the first with that axis longer by the second's. A store at the axis makes it.
 use Prim.Native.Nat.{ℕ, suc, _+_, _-_, _≤_, _<_}
-use mathlib.Core.Path.{_≡_, sym, ap, ap₂, _∙_}
+use mathlib.Core.Path.{_≡_, ap, ap₂, _∙_}
 use mathlib.Core.List.{List, _∷_, _++_}
 use native.Mathlib.Omega.{arith}
-use lib.ListN.{length, take, drop, set, replicate, length-set, length-take}
-use lib.Seq.{set-split, set-append-left, take-set-lt}
+use lib.ListN.{length, take, drop, set, length-take}
+use lib.Seq.{set-split, take-set-lt}
 use Rattle.paper.specs.declared.Axis.{Axis}
 use Rattle.paper.specs.declared.Extent.{Extent}
-use Rattle.paper.specs.Limits.{mostAxes}
-use Rattle.paper.specs.Axes.{width, limited, axisAt, noAxis}
+use Rattle.paper.specs.Axes.{width, limited, axisAt}
 use Rattle.paper.specs.Recipe.{glued}
-use Rattle.paper.specs.Answers.{axesOf, extentOf}
-use Rattle.laws.specs.Answers.{TidyExtent}
+use Rattle.paper.specs.Answers.{axisCount, axesOf}
 use Rattle.laws.specs.Limits.{Sound}
 use Rattle.laws.specs.Glue.{gluedAxis}
 
@@ -27,13 +24,16 @@ pub record Gluing (k : ℕ) (E F : List Axis) : Type 0 where
 abbrev pub withAt : Extent → ℕ → Axis → Extent
 withAt e i a = record { rank = e .rank; axes = set (e .axes) i a }
 
+axes-set : (e : Extent) (i : ℕ) (a : Axis) → i < length (axesOf e) → axesOf (withAt e i a) ≡ set (axesOf e) i a
+unfolding axesOf
+axes-set e i a h = take-set-lt (axisCount (e .rank)) (e .axes) i a (omega (arith, length-take (axisCount (e .rank)) (e .axes)))
+
 module _ (e : Extent) (F : List Axis) (k : ℕ) (one : 1 ≤ k) (last : k ≤ length (axesOf e)) where
   glued-at : axesOf (withAt e (k - 1) (gluedAxis (axisAt k (axesOf e)) (axisAt k F))) ≡ glued k (axesOf e) F
   unfolding glued
   glued-at =
       let n : suc (k - 1) ≡ k = omega arith in
-      let h : k - 1 < e .rank = omega (arith, length-take (e .rank) (e .axes)) in
-      take-set-lt (e .rank) (e .axes) (k - 1) _ h
+      axes-set e (k - 1) _ (omega arith)
       ∙ set-split (axesOf e) (k - 1) _ (omega arith)
       ∙ ap (λ (j : ℕ). take (k - 1) (axesOf e) ++ gluedAxis (axisAt k (axesOf e)) (axisAt k F) ∷ drop j (axesOf e)) n
 
@@ -41,16 +41,3 @@ module _ (e : Extent) (F : List Axis) (k : ℕ) (one : 1 ≤ k) (last : k ≤ le
   pub glued-told : (a b : Axis) (w : ℕ) → a ≡ axisAt k (axesOf e) → b ≡ axisAt k F → w ≡ width b
       → axesOf (withAt e (k - 1) (limited a (a .lo) (a .hi + w))) ≡ glued k (axesOf e) F
   glued-told a b w p q f = ap (λ (x : Axis). axesOf (withAt e (k - 1) x)) (ap (λ (n : ℕ). limited a (a .lo) (a .hi + n)) f ∙ ap₂ gluedAxis p q) ∙ glued-at
-
--- a store before the end leaves an extent tidy
-pub tidy-at : (e : Extent) (i : ℕ) (a : Axis) → i < length (axesOf e) → TidyExtent e → TidyExtent (withAt e i a)
-tidy-at e i a h t =
-    let E = axesOf e in
-    let b : i < e .rank = omega (arith, length-take (e .rank) (e .axes)) in
-    let n = length-set E i a in
-    ap₂ {C = Extent} (λ (r : ℕ) (l : List Axis). record { rank = r; axes = l })
-    (ap (λ (x : Extent). x .rank) t ∙ sym n)
-    (ap (λ (x : Extent). set (x .axes) i a) t
-    ∙ set-append-left E (replicate (mostAxes - length E) noAxis) i a h
-    ∙ ap (λ (m : ℕ). set E i a ++ replicate (mostAxes - m) noAxis) (sym n))
-    ∙ ap extentOf (sym (take-set-lt (e .rank) (e .axes) i a b))

@@ -3,3 +3,4 @@
 pub mod Built
 pub mod Renewed
 pub mod Joined
+pub mod Starred

@@ -49,7 +49,8 @@ unfolding eachAnew
 length-anew f w [] d = refl
 length-anew f w (a ∷ E) d = ap suc (length-anew f w E (drop w d))
 
-anew-at : (f : Axis → List ℕ → Axis) (w : ℕ) (E : List Axis) (d : List ℕ) (i : ℕ) → i < length E → getD (eachAnew f w E d) i noAxis ≡ f (getD E i noAxis) (drop (i * w) d)
+anew-at : (f : Axis → List ℕ → Axis) (w : ℕ) (E : List Axis) (d : List ℕ) (i : ℕ) → i < length E
+    → getD (eachAnew f w E d) i noAxis ≡ f (getD E i noAxis) (drop (i * w) d)
 unfolding eachAnew
 anew-at f w [] d i h = absurd (omega arith)
 anew-at f w (a ∷ E) d zero h = let e : 0 * w ≡ 0 = omega arith in rw e
@@ -58,7 +59,8 @@ anew-at f w (a ∷ E) d (suc i) h =
     anew-at f w E (drop w d) i (omega arith) ∙ ap (f (getD E i noAxis)) (drop-drop (i * w) w d ∙ ap (λ (n : ℕ). drop n d) e)
 
 -- what it is made of stands in the bytes themselves
-fresh-after : (how : Change) (a : Axis) (s : List ℕ) (at n : ℕ) → n + bytesFor how ≤ detailBytes → fresh how a (drop n (part at detailBytes s)) ≡ fresh how a (drop (at + n) s)
+fresh-after : (how : Change) (a : Axis) (s : List ℕ) (at n : ℕ) → n + bytesFor how ≤ detailBytes
+    → fresh how a (drop n (part at detailBytes s)) ≡ fresh how a (drop (at + n) s)
 fresh-after Limits a s at n h =
     ap₂ (λ (x y : List ℕ). limited a (distance (toZ w32 (leOf x))) (distance (toZ w32 (leOf y))))
     (part-after s at detailBytes n 0 limitBytes (omega arith)) (part-after s at detailBytes n limitBytes limitBytes (omega arith))

@@ -1,14 +1,13 @@
 // New extents from old, by value: with the limits, amounts or names of a step's detail, with an axis removed, and two glued. An extent
 // is built axis by axis, so that nothing stands past its last axis.
 ghost use mathlib.Core.Path.{_≡_};
-ghost use mathlib.Core.List.{[]};
+ghost use mathlib.Core.List.{[], map};
 ghost use lib.ListN.{drop};
 ghost use Rattle.paper.specs.Limits.{detailBytes, pairBytes, limitBytes, nameBytes};
 ghost use Rattle.paper.specs.Numbers.{part};
-ghost use Rattle.paper.specs.Axes.{without};
+ghost use Rattle.paper.specs.Axes.{without, star};
 ghost use Rattle.paper.specs.Recipe.{eachAnew, withLimits, shifted, renamed, glued};
 ghost use Rattle.paper.specs.Answers.{axesOf, extentOf};
-ghost use Rattle.laws.specs.Answers.{TidyExtent};
 ghost use Rattle.positions.specs.Runs.{Holds};
 ghost use Rattle.extent.specs.Tests.{Ranged};
 ghost use Rattle.extent.specs.Judged.{Small};
@@ -21,11 +20,12 @@ use cell::bytes::word;
 use paper::Axis;
 use paper::AxisIndex;
 use paper::Extent;
+use paper::LIMIT_BYTES;
+use paper::NAME_BYTES;
+use paper::PAIR_BYTES;
+use paper::TOP;
 use positions::moved_by;
 use positions::position_at;
-
-// The bytes of a pair of limits.
-const PAIR: usize = 8;
 
 // What of each axis is made anew from the detail.
 pub enum Change {
@@ -75,7 +75,7 @@ fn kept(e: Extent, a: Axis, out: bool) -> Extent
 
 // The extent without the axis of that index.
 pub fn removed(e: Extent, k: AxisIndex) -> Extent
-    ensures { λ r. ⌜ r ≡ extentOf (without (k .0) (axesOf e)) ⌝ }
+    ensures { λ r. ⌜ axesOf r ≡ without (k .0) (axesOf e) ⌝ }
 {
     let out = k.0 as usize;
     let rank = extent::rank_of(e);
@@ -83,6 +83,24 @@ pub fn removed(e: Extent, k: AxisIndex) -> Extent
     let mut i: usize = 0;
     while i < rank {
         new = kept(new, e.axes[i], i + 1 == out);
+        i += 1;
+    }
+    new
+}
+
+// The extent with `*` for every limit: a step result's maximum.
+pub fn starred(e: Extent) -> Extent
+    ensures { λ r. ⌜ axesOf r ≡ map star (axesOf e) ⌝ }
+{
+    let mut new = e;
+    let mut i: usize = 0;
+    while i < paper::AXES {
+        let a = e.axes[i];
+        new.axes[i] = Axis {
+            name: a.name,
+            lo: 0,
+            hi: TOP,
+        };
         i += 1;
     }
     new
@@ -96,7 +114,7 @@ fn limits_at(a: Axis, s: &[u8], at: usize) -> Axis
     ensures { λ r. ⌜ r ≡ fresh Limits a (drop at (now (s .entry))) ⌝ }
 {
     let lo = position_at(s, at);
-    let hi = position_at(s, at + positions::LIMIT);
+    let hi = position_at(s, at + LIMIT_BYTES);
     Axis {
         name: a.name,
         lo,
@@ -138,9 +156,9 @@ fn bytes_for(how: Change) -> usize
     ensures { λ r. ⌜ r ≡ bytesFor how ⌝ }
 {
     match how {
-        Change::Limits => PAIR,
-        Change::Moved => positions::LIMIT,
-        Change::Named => extent::NAME,
+        Change::Limits => PAIR_BYTES,
+        Change::Moved => LIMIT_BYTES,
+        Change::Named => NAME_BYTES,
     }
 }
 
@@ -161,7 +179,7 @@ fn axis_anew(how: Change, a: Axis, s: &[u8], at: usize) -> Axis
 fn anew(how: Change, e: Extent, s: &[u8], at: usize) -> Extent
     requires { ⌜ Small (axesOf e) ⌝ }
     requires { ⌜ Holds at detailBytes (now s) ⌝ }
-    ensures { λ r. ⌜ r ≡ extentOf (eachAnew (fresh how) (bytesFor how) (axesOf e) (part at detailBytes (now (s .entry)))) ⌝ }
+    ensures { λ r. ⌜ axesOf r ≡ eachAnew (fresh how) (bytesFor how) (axesOf e) (part at detailBytes (now (s .entry))) ⌝ }
 {
     let width = bytes_for(how);
     let rank = extent::rank_of(e);
@@ -178,7 +196,7 @@ fn anew(how: Change, e: Extent, s: &[u8], at: usize) -> Extent
 pub fn with_limits(e: Extent, s: &[u8], at: usize) -> Extent
     requires { ⌜ Small (axesOf e) ⌝ }
     requires { ⌜ Holds at detailBytes (now s) ⌝ }
-    ensures { λ r. ⌜ r ≡ extentOf (withLimits (axesOf e) (part at detailBytes (now (s .entry)))) ⌝ }
+    ensures { λ r. ⌜ axesOf r ≡ withLimits (axesOf e) (part at detailBytes (now (s .entry))) ⌝ }
 {
     anew(Change::Limits, e, s, at)
 }
@@ -187,7 +205,7 @@ pub fn with_limits(e: Extent, s: &[u8], at: usize) -> Extent
 pub fn shifted_by(e: Extent, s: &[u8], at: usize) -> Extent
     requires { ⌜ Small (axesOf e) ⌝ }
     requires { ⌜ Holds at detailBytes (now s) ⌝ }
-    ensures { λ r. ⌜ r ≡ extentOf (shifted (axesOf e) (part at detailBytes (now (s .entry)))) ⌝ }
+    ensures { λ r. ⌜ axesOf r ≡ shifted (axesOf e) (part at detailBytes (now (s .entry))) ⌝ }
 {
     anew(Change::Moved, e, s, at)
 }
@@ -196,7 +214,7 @@ pub fn shifted_by(e: Extent, s: &[u8], at: usize) -> Extent
 pub fn with_names(e: Extent, s: &[u8], at: usize) -> Extent
     requires { ⌜ Small (axesOf e) ⌝ }
     requires { ⌜ Holds at detailBytes (now s) ⌝ }
-    ensures { λ r. ⌜ r ≡ extentOf (renamed (axesOf e) (part at detailBytes (now (s .entry)))) ⌝ }
+    ensures { λ r. ⌜ axesOf r ≡ renamed (axesOf e) (part at detailBytes (now (s .entry))) ⌝ }
 {
     anew(Change::Named, e, s, at)
 }
@@ -206,7 +224,7 @@ pub fn with_names(e: Extent, s: &[u8], at: usize) -> Extent
 // The first extent with its axis k longer by the second's. An upper limit may pass the range: the result is judged later.
 pub fn glued_along(e: Extent, f: Extent, k: AxisIndex) -> Extent
     requires { ⌜ Gluing (k .0) (axesOf e) (axesOf f) ⌝ }
-    ensures { λ r. ⌜ (axesOf r ≡ glued (k .0) (axesOf e) (axesOf f)) × (TidyExtent e → TidyExtent r) ⌝ }
+    ensures { λ r. ⌜ axesOf r ≡ glued (k .0) (axesOf e) (axesOf f) ⌝ }
 {
     let a = extent::axis_of(e, k);
     let b = extent::axis_of(f, k);

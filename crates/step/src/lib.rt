@@ -1,11 +1,10 @@
 // One step of a recipe in parts, each against one definition of the paper: the operation that its bytes name, the bytes that it does not
-// use, its types, what lies inside A, and the type and extent of its result.
+// use, its types, how two arrays agree, what lies inside A, and the type and extent of its result.
 pub mod agreeing;
 pub mod operation;
 pub mod tests;
 pub mod unused;
 
-use paper::Extent;
 use paper::Operation;
 
 // A step's operation, operands and axis index, and the byte of the recipe at which its detail begins.
@@ -15,10 +14,4 @@ pub struct StepHead {
     pub b: u8,
     pub axis: u8,
     pub at: usize,
-}
-
-// An array's type and extent.
-pub struct Typed {
-    pub kind: u8,
-    pub extent: Extent,
 }

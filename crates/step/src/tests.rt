@@ -1,20 +1,20 @@
-// A step's tests that hang on its operation: its types, and what must lie inside A; and the type and extent of its result.
+// A step's tests that hang on its operation, its types and what must lie inside A; and the type and extent of its result.
 ghost use mathlib.Core.Path.{_≡_};
-ghost use mathlib.Core.Bool.{true, _&&_};
+ghost use mathlib.Core.Bool.{true, not, _&&_, _||_};
 ghost use lib.Dec.{eqb};
 ghost use lib.ListN.{length};
+ghost use Rattle.paper.specs.declared.Operation.the-variants.{Moves};
 ghost use Rattle.paper.specs.Limits.{detailBytes, scalarAt, wordBytes};
 ghost use Rattle.paper.specs.Numbers.{leOf, part, positionAt};
 ghost use Rattle.paper.specs.Axes.{without, onAxis, axisAt};
 ghost use Rattle.paper.specs.Cells.{filled};
 ghost use Rattle.paper.specs.Operators.{takes};
-ghost use Rattle.paper.specs.Recipe.{uses, axisIn, isScalar, typesFit, covers, withLimits, fitsIn, resultOf};
-ghost use Rattle.paper.specs.Answers.{axesOf};
+ghost use Rattle.paper.specs.Recipe.{uses, axisIn, isScalar, takesType, typesFit, covers, withLimits, fitsIn, resultType, resultAxes};
+ghost use Rattle.paper.specs.Answers.{axesOf, shapeOf};
 ghost use Rattle.positions.specs.Runs.{Holds};
 ghost use Rattle.extent.specs.Judged.{Small};
-ghost use Rattle.step.specs.Steps.{stepIn, shapeFor, typed, resultFor};
+ghost use Rattle.step.specs.Steps.{stepIn};
 use crate::StepHead;
-use crate::Typed;
 use cell::bytes::Got;
 use cell::bytes::from_word;
 use cell::bytes::word;
@@ -27,8 +27,12 @@ use operators::types::takes_pair;
 use operators::types::takes_single;
 use paper::AxisIndex;
 use paper::Extent;
+use paper::Form;
+use paper::Move;
 use paper::Operation;
 use paper::PairOp;
+use paper::SCALAR_AT;
+use paper::Work;
 use positions::position_at;
 use shape::glued_along;
 use shape::removed;
@@ -36,19 +40,16 @@ use shape::shifted_by;
 use shape::with_limits;
 use shape::with_names;
 
-// Where a scalar lies in the detail.
-const SCALAR: usize = 4;
-
 // ---- types
 
-// Both have one type, and the operator takes it.
-fn pair_fits(o: PairOp, t: u8, u: u8) -> bool
-    ensures { λ r. ⌜ r ≡ (eqb t u && takes o t) ⌝ }
+// Where B is used, both have one type.
+fn one_type(b: bool, t: u8, u: u8) -> bool
+    ensures { λ r. ⌜ r ≡ (not b || eqb t u) ⌝ }
 {
-    if t != u {
-        return false;
+    if !b {
+        return true;
     }
-    takes_pair(o, t)
+    t == u
 }
 
 // The operator takes A's type, and the scalar of the detail at `at` is of it.
@@ -59,33 +60,42 @@ fn scalar_fits(o: PairOp, t: u8, s: &[u8], at: usize) -> bool
     if !takes_pair(o, t) {
         return false;
     }
-    let got = from_word(t, word(s, at + SCALAR));
+    let got = from_word(t, word(s, at + SCALAR_AT));
     match got {
         Got::Is(_) => return true,
         Got::Bad => return false,
     }
 }
 
-// The types fit the operation.
-pub fn types_fit(step: StepHead, t: u8, u: u8, s: &[u8]) -> bool
+// The operator takes A's type, with its scalar.
+fn takes_type(w: Work, step: StepHead, t: u8, s: &[u8]) -> bool
     requires { ⌜ Holds (step .at) detailBytes (now s) ⌝ }
+    ensures { λ r. ⌜ r ≡ takesType w (stepIn (now (s .entry)) step) t ⌝ }
+{
+    let at = step.at;
+    match w {
+        Work::Pair(o) => return takes_pair(o, t),
+        Work::Scalar(_, o) => return scalar_fits(o, t, s, at),
+        Work::Single(o) => return takes_single(o, t),
+    }
+}
+
+// The types fit the operation; b tells whether it uses B.
+pub fn types_fit(step: StepHead, b: bool, t: u8, u: u8, s: &[u8]) -> bool
+    requires { ⌜ Holds (step .at) detailBytes (now s) ⌝ }
+    requires { ⌜ b ≡ uses (step .operation) .b ⌝ }
     ensures { λ r. ⌜ r ≡ typesFit (step .operation) (stepIn (now (s .entry)) step) t u ⌝ }
 {
     let op = step.operation;
-    let at = step.at;
+    let one = one_type(b, t, u);
     match op {
-        Operation::Trim => return true,
-        Operation::Slice => return true,
-        Operation::Reshape => return true,
-        Operation::Shift => return true,
-        Operation::Rename => return true,
-        Operation::Update => return t == u,
-        Operation::Put => return t == u,
-        Operation::Glue => return t == u,
-        Operation::Pair(o) => return pair_fits(o, t, u),
-        Operation::RightScalar(o) => return scalar_fits(o, t, s, at),
-        Operation::LeftScalar(o) => return scalar_fits(o, t, s, at),
-        Operation::Single(o) => return takes_single(o, t),
+        Operation::Moves(_) => return one,
+        Operation::Works(w) => {
+            if !one {
+                return false;
+            }
+            return takes_type(w, step, t, s);
+        }
     }
 }
 
@@ -111,7 +121,8 @@ fn slice_fits(e: Extent, k: AxisIndex, s: &[u8], at: usize) -> bool
 // The same, and B lies inside the rest of A.
 fn put_fits(e: Extent, f: Extent, k: AxisIndex, s: &[u8], at: usize) -> bool
     requires { ⌜ Holds at detailBytes (now s) ⌝ }
-    ensures { λ r. ⌜ r ≡ (onAxis (axisAt (k .0) (axesOf e)) (positionAt 0 (part at detailBytes (now (s .entry)))) && covers (without (k .0) (axesOf e)) (axesOf f)) ⌝ }
+    ensures { λ r. ⌜ r ≡ (onAxis (axisAt (k .0) (axesOf e)) (positionAt 0 (part at detailBytes (now (s .entry))))
+        && covers (without (k .0) (axesOf e)) (axesOf f)) ⌝ }
 {
     if !slice_fits(e, k, s, at) {
         return false;
@@ -119,67 +130,90 @@ fn put_fits(e: Extent, f: Extent, k: AxisIndex, s: &[u8], at: usize) -> bool
     covers_all(removed(e, k), f)
 }
 
-// What must lie inside A does.
-pub fn fits_in(step: StepHead, a: Typed, b: Typed, s: &[u8]) -> bool
+// What a move wants inside A is.
+fn move_fits(m: Move, step: StepHead, a: Form, b: Form, s: &[u8]) -> bool
     requires { ⌜ Small (axesOf (a .extent)) ⌝ }
     requires { ⌜ Holds (step .at) detailBytes (now s) ⌝ }
-    ensures { λ r. ⌜ r ≡ fitsIn (step .operation) (stepIn (now (s .entry)) step) (shapeFor a) (shapeFor b) ⌝ }
+    ensures { λ r. ⌜ r ≡ fitsIn (Moves m) (stepIn (now (s .entry)) step) (shapeOf a) (shapeOf b) ⌝ }
 {
-    let op = step.operation;
     let at = step.at;
     let k = AxisIndex(step.axis as u32);
     let e = a.extent;
     let f = b.extent;
+    match m {
+        Move::Trim => return trim_fits(e, s, at),
+        Move::Slice => return slice_fits(e, k, s, at),
+        Move::Reshape => return true,
+        Move::Shift => return true,
+        Move::Rename => return true,
+        Move::Update => return covers_all(e, f),
+        Move::Put => return put_fits(e, f, k, s, at),
+        Move::Glue => return true,
+    }
+}
+
+// What must lie inside A does.
+pub fn fits_in(step: StepHead, a: Form, b: Form, s: &[u8]) -> bool
+    requires { ⌜ Small (axesOf (a .extent)) ⌝ }
+    requires { ⌜ Holds (step .at) detailBytes (now s) ⌝ }
+    ensures { λ r. ⌜ r ≡ fitsIn (step .operation) (stepIn (now (s .entry)) step) (shapeOf a) (shapeOf b) ⌝ }
+{
+    let op = step.operation;
     match op {
-        Operation::Trim => return trim_fits(e, s, at),
-        Operation::Slice => return slice_fits(e, k, s, at),
-        Operation::Reshape => return true,
-        Operation::Shift => return true,
-        Operation::Rename => return true,
-        Operation::Update => return covers_all(e, f),
-        Operation::Put => return put_fits(e, f, k, s, at),
-        Operation::Glue => return true,
-        Operation::Pair(_) => return true,
-        Operation::RightScalar(_) => return true,
-        Operation::LeftScalar(_) => return true,
-        Operation::Single(_) => return true,
+        Operation::Moves(m) => return move_fits(m, step, a, b, s),
+        Operation::Works(_) => return true,
     }
 }
 
 // ---- the result
 
-fn typed_as(kind: u8, extent: Extent) -> Typed
-    ensures { λ r. ⌜ r ≡ typed kind extent ⌝ }
+// Its type, A's being `kind`.
+pub fn result_kind(op: Operation, kind: u8) -> u8
+    ensures { λ r. ⌜ r ≡ resultType op kind ⌝ }
 {
-    Typed { kind, extent }
+    match op {
+        Operation::Moves(_) => return kind,
+        Operation::Works(w) => match w {
+            Work::Pair(o) => return gives_pair(o, kind),
+            Work::Scalar(_, o) => return gives_pair(o, kind),
+            Work::Single(o) => return gives_single(o, kind),
+        },
+    }
 }
 
-// The type and extent of the result, which is judged after.
-pub fn result_of(step: StepHead, a: Typed, b: Typed, s: &[u8]) -> Typed
-    requires { ⌜ Small (axesOf (a .extent)) ⌝ }
-    requires { ⌜ Small (axesOf (b .extent)) ⌝ }
+// The extent of a moved result.
+fn moved_extent(m: Move, step: StepHead, e: Extent, f: Extent, s: &[u8]) -> Extent
+    requires { ⌜ Small (axesOf e) ⌝ }
+    requires { ⌜ Small (axesOf f) ⌝ }
     requires { ⌜ Holds (step .at) detailBytes (now s) ⌝ }
-    requires { ⌜ axisIn (uses (step .operation)) (length (axesOf (a .extent))) (step .axis) ≡ true ⌝ }
-    ensures { λ r. ⌜ resultFor r ≡ resultOf (step .operation) (stepIn (now (s .entry)) step) (shapeFor a) (shapeFor b) ⌝ }
+    requires { ⌜ axisIn (uses (Moves m)) (length (axesOf e)) (step .axis) ≡ true ⌝ }
+    ensures { λ r. ⌜ axesOf r ≡ resultAxes (Moves m) (stepIn (now (s .entry)) step) (axesOf e) (axesOf f) ⌝ }
 {
-    let op = step.operation;
     let at = step.at;
     let k = AxisIndex(step.axis as u32);
-    let kind = a.kind;
-    let e = a.extent;
-    let f = b.extent;
+    match m {
+        Move::Trim => return with_limits(e, s, at),
+        Move::Slice => return removed(e, k),
+        Move::Reshape => return with_limits(e, s, at),
+        Move::Shift => return shifted_by(e, s, at),
+        Move::Rename => return with_names(e, s, at),
+        Move::Update => return e,
+        Move::Put => return e,
+        Move::Glue => return glued_along(e, f, k),
+    }
+}
+
+// Its extent, which is judged after; e and f are those of A and B.
+pub fn result_extent(step: StepHead, e: Extent, f: Extent, s: &[u8]) -> Extent
+    requires { ⌜ Small (axesOf e) ⌝ }
+    requires { ⌜ Small (axesOf f) ⌝ }
+    requires { ⌜ Holds (step .at) detailBytes (now s) ⌝ }
+    requires { ⌜ axisIn (uses (step .operation)) (length (axesOf e)) (step .axis) ≡ true ⌝ }
+    ensures { λ r. ⌜ axesOf r ≡ resultAxes (step .operation) (stepIn (now (s .entry)) step) (axesOf e) (axesOf f) ⌝ }
+{
+    let op = step.operation;
     match op {
-        Operation::Trim => return typed_as(kind, with_limits(e, s, at)),
-        Operation::Slice => return typed_as(kind, removed(e, k)),
-        Operation::Reshape => return typed_as(kind, with_limits(e, s, at)),
-        Operation::Shift => return typed_as(kind, shifted_by(e, s, at)),
-        Operation::Rename => return typed_as(kind, with_names(e, s, at)),
-        Operation::Update => return typed_as(kind, e),
-        Operation::Put => return typed_as(kind, e),
-        Operation::Glue => return typed_as(kind, glued_along(e, f, k)),
-        Operation::Pair(o) => return typed_as(gives_pair(o, kind), e),
-        Operation::RightScalar(o) => return typed_as(gives_pair(o, kind), e),
-        Operation::LeftScalar(o) => return typed_as(gives_pair(o, kind), e),
-        Operation::Single(o) => return typed_as(gives_single(o, kind), e),
+        Operation::Moves(m) => return moved_extent(m, step, e, f, s),
+        Operation::Works(_) => return e,
     }
 }

@@ -1,32 +1,28 @@
 // What a step uses of its bytes, by its operation: operand B, the axis index, and the detail; the bytes that it does not use are zero,
 // and its axis index, where it has one, is in A.
 ghost use mathlib.Core.Path.{_≡_};
-ghost use mathlib.Core.Bool.{_||_};
+ghost use mathlib.Core.Bool.{not, _||_};
 ghost use Prim.Native.Nat.{_-_, _≤_};
 ghost use lib.Dec.{eqb};
 ghost use lib.ListN.{length};
+ghost use Rattle.paper.specs.declared.Operation.the-variants.{Moves, Works};
 ghost use Rattle.paper.specs.Limits.{mostAxes, detailBytes};
+ghost use Rattle.paper.specs.Refusals.{between};
 ghost use Rattle.paper.specs.Numbers.{part, zeros};
-ghost use Rattle.paper.specs.Recipe.{uses, unusedZero, axisIn};
 ghost use Rattle.positions.specs.Runs.{Holds};
 ghost use Rattle.step.specs.Steps.{stepIn};
-ghost use Rattle.step.specs.Using.{usedAs, usedBy, unusedOf};
+ghost use Rattle.step.specs.Using.{usedAs, usedBy, unusedOf, unusedTested};
 use crate::StepHead;
+use paper::DETAIL_BYTES;
+use paper::LIMIT_BYTES;
+use paper::Move;
+use paper::NAME_BYTES;
 use paper::Operation;
-
-// The bytes of a detail, and where a scalar lies in it.
-const DETAIL: usize = 32;
-
-const SCALAR: usize = 4;
-
-const AFTER_SCALAR: usize = 12;
-
-// The bytes of a pair, a limit and a name.
-const PAIR: usize = 8;
-
-const LIMIT: usize = 4;
-
-const NAME: usize = 8;
+use paper::PAIR_BYTES;
+use paper::SCALAR_AT;
+use paper::WORD_BYTES;
+use paper::Work;
+use refusals::in_range;
 
 // Operand B and the axis index used or not; of the detail all bytes from `from` on are unused, and with a scalar those between the
 // operator and it.
@@ -48,24 +44,42 @@ fn used_as(b: bool, axis: bool, scalar: bool, from: usize) -> Used
     }
 }
 
+// What a move uses, A having n axes.
+fn moves_use(m: Move, n: usize) -> Used
+    requires { ⌜ n ≤ mostAxes ⌝ }
+    ensures { λ r. ⌜ r ≡ usedBy (Moves m) n ⌝ }
+{
+    match m {
+        Move::Trim => return used_as(false, false, false, PAIR_BYTES * n),
+        Move::Slice => return used_as(false, true, false, LIMIT_BYTES),
+        Move::Reshape => return used_as(false, false, false, PAIR_BYTES * n),
+        Move::Shift => return used_as(false, false, false, LIMIT_BYTES * n),
+        Move::Rename => return used_as(false, false, false, NAME_BYTES * n),
+        Move::Update => return used_as(true, false, false, 0),
+        Move::Put => return used_as(true, true, false, LIMIT_BYTES),
+        Move::Glue => return used_as(true, true, false, 0),
+    }
+}
+
+// What an operation uses that works cells out.
+fn works_use(w: Work, n: usize) -> Used
+    ensures { λ r. ⌜ r ≡ usedBy (Works w) n ⌝ }
+{
+    match w {
+        Work::Pair(_) => return used_as(true, false, false, 1),
+        Work::Scalar(_, _) => return used_as(false, false, true, SCALAR_AT + WORD_BYTES),
+        Work::Single(_) => return used_as(false, false, false, 1),
+    }
+}
+
 // What an operation uses, A having n axes.
 pub fn used_by(op: Operation, n: usize) -> Used
     requires { ⌜ n ≤ mostAxes ⌝ }
     ensures { λ r. ⌜ r ≡ usedBy op n ⌝ }
 {
     match op {
-        Operation::Trim => return used_as(false, false, false, PAIR * n),
-        Operation::Slice => return used_as(false, true, false, LIMIT),
-        Operation::Reshape => return used_as(false, false, false, PAIR * n),
-        Operation::Shift => return used_as(false, false, false, LIMIT * n),
-        Operation::Rename => return used_as(false, false, false, NAME * n),
-        Operation::Update => return used_as(true, false, false, 0),
-        Operation::Put => return used_as(true, true, false, LIMIT),
-        Operation::Glue => return used_as(true, true, false, 0),
-        Operation::Pair(_) => return used_as(true, false, false, 1),
-        Operation::RightScalar(_) => return used_as(false, false, true, AFTER_SCALAR),
-        Operation::LeftScalar(_) => return used_as(false, false, true, AFTER_SCALAR),
-        Operation::Single(_) => return used_as(false, false, false, 1),
+        Operation::Moves(m) => return moves_use(m, n),
+        Operation::Works(w) => return works_use(w, n),
     }
 }
 
@@ -91,13 +105,13 @@ fn detail_zero(used: Used, s: &[u8], at: usize) -> bool
     ensures { λ r. ⌜ r ≡ zeros (unusedOf used (part at detailBytes (now (s .entry)))) ⌝ }
 {
     let from = used.from;
-    if !zero_between(s, at + from, at + DETAIL) {
+    if !zero_between(s, at + from, at + DETAIL_BYTES) {
         return false;
     }
     if !used.scalar {
         return true;
     }
-    zero_between(s, at + 1, at + SCALAR)
+    zero_between(s, at + 1, at + SCALAR_AT)
 }
 
 // The byte is used, or it is zero.
@@ -110,15 +124,13 @@ fn used_or_zero(used: bool, b: u8) -> bool
     b == 0
 }
 
-// The bytes that a step does not use are zero, A having n axes.
-pub fn unused_zero(step: StepHead, n: usize, s: &[u8]) -> bool
-    requires { ⌜ n ≤ mostAxes ⌝ }
+// The bytes that a step does not use are zero.
+pub fn unused_zero(used: Used, step: StepHead, s: &[u8]) -> bool
+    requires { ⌜ used .from ≤ detailBytes ⌝ }
     requires { ⌜ Holds (step .at) detailBytes (now s) ⌝ }
-    ensures { λ r. ⌜ r ≡ unusedZero (uses (step .operation)) n (stepIn (now (s .entry)) step) ⌝ }
+    ensures { λ r. ⌜ r ≡ unusedTested used (stepIn (now (s .entry)) step) ⌝ }
 {
-    let op = step.operation;
     let at = step.at;
-    let used = used_by(op, n);
     if !used_or_zero(used.b, step.b) {
         return false;
     }
@@ -129,16 +141,11 @@ pub fn unused_zero(step: StepHead, n: usize, s: &[u8]) -> bool
 }
 
 // The axis index, where one is used, is 1 to n.
-pub fn axis_in(op: Operation, n: usize, k: u8) -> bool
-    requires { ⌜ n ≤ mostAxes ⌝ }
-    ensures { λ r. ⌜ r ≡ axisIn (uses op) n k ⌝ }
+pub fn axis_in(used: Used, n: usize, k: u8) -> bool
+    ensures { λ r. ⌜ r ≡ (not (used .axis) || between 1 n k) ⌝ }
 {
-    let used = used_by(op, n);
     if !used.axis {
         return true;
     }
-    if k < 1 {
-        return false;
-    }
-    k as usize <= n
+    in_range(k as usize, n)
 }

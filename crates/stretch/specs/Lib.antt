@@ -1,7 +1,6 @@
--- What the stretch's code promises and the laws that it cites: a side judged, what gluing asks, cells of two sides in turn, the plan,
--- the part handed out, and that its cells are the glued array's.
+-- What the stretch's code promises and the laws that it cites: the sides and their tests, cells of two sides in turn, the plan, and the
+-- part handed out.
 pub mod Sides
-pub mod Glues
 pub mod Turns
 pub mod Plans
 pub mod Handed

@@ -1,16 +1,15 @@
 -- Demand 3 of the page call as it is written: calls that keep its promise, each starting where the last said, joined until the end is
 -- named, are the rows of the coordinates whose cell is TRUE in the last result, once each, in row-major order.
-use Prim.Native.Nat.{ℕ, zero, suc, _+_, _*_, _^_, _≤_, _<_}
+use Prim.Native.Nat.{ℕ, zero, suc, _+_, _^_, _≤_, _<_}
 use mathlib.Core.Path.{_≡_, refl, ap, _∙_}
-use mathlib.Core.List.{List, map, _++_}
-use mathlib.Core.Option.{Option, none, some, Option·map}
+use mathlib.Core.List.{List, map}
+use mathlib.Core.Option.{Option, none, some}
 use native.Mathlib.Omega.{arith}
-use lib.Dec.{eqb}
-use lib.ListN.{length, take}
+use lib.ListN.{length}
 use Rattle.paper.specs.declared.Listed.{Listed}
 use Rattle.paper.specs.declared.PageAnswer.{PageAnswer}
 use Rattle.paper.specs.Limits.{BOOLEAN}
-use Rattle.paper.specs.Refusals.{got, if_then_else_}
+use Rattle.paper.specs.Refusals.{got}
 use Rattle.paper.specs.Numbers.{lastOf, concat}
 use Rattle.paper.specs.Axes.{cells, Shape, Array}
 use Rattle.paper.specs.Recipe.{Planned}
@@ -31,37 +30,35 @@ pub record Gave : Type 0 where
 -- are 32-bit numbers
 pub record Keeps (B bs : List ℕ) (area buffer : ℕ → List ℕ) (call : ℕ → ℕ → Gave) : Type 0 where
   pub promise : (i start : ℕ) → start < 2 ^ 32
-      → record { answer = pageSaid (call i start .answer); work = call i start .work; rows = call i start .rows } ≡ page B bs (area i) start (buffer i)
+      → record { answer = pageSaid (call i start .answer); work = call i start .work; rows = call i start .rows }
+      ≡ page B bs (area i) start (buffer i)
   pub next : (i start : ℕ) (l : Listed) → call i start .answer ≡ Page.Got l → l .next .0 < 2 ^ 32
 
 -- the rows of n calls at most, joined, the first from `start` on; none if one is refused or the end isn't named
 unfoldable pub callsFrom : (ℕ → ℕ → Gave) → Shape → ℕ → ℕ → ℕ → Option (List ℕ)
 callsFrom call s zero i start = none
-callsFrom call s (suc n) i start = pageThen s (call i start .rows) (pageSaid (call i start .answer)) (λ next. callsFrom call s n (i + 1) next)
+callsFrom call s (suc n) i start =
+    pageThen s (call i start .rows) (pageSaid (call i start .answer)) (λ next. callsFrom call s n (i + 1) next)
 
 -- only where the page says to go on is looked at
-then-same : (s : Shape) (rows : List ℕ) (a : PageAnswer) (f g : ℕ → Option (List ℕ)) → ((l : Listed) → a ≡ Page.Got l → f (l .next .0) ≡ g (l .next .0))
-    → pageThen s rows (pageSaid a) f ≡ pageThen s rows (pageSaid a) g
+then-same : (s : Shape) (rows : List ℕ) (a : PageAnswer) (f g : ℕ → Option (List ℕ))
+    → ((l : Listed) → a ≡ Page.Got l → f (l .next .0) ≡ g (l .next .0)) → pageThen s rows (pageSaid a) f ≡ pageThen s rows (pageSaid a) g
 unfolding pageThen
-then-same s rows (Page.Got l) f g h =
-    let wrote : List ℕ = take (l .written * rowBytes s) rows in
-    ap (λ (o : Option (List ℕ)). if eqb (l .next .0) (cells (s .axes) + 1) then some wrote else Option·map (λ more. wrote ++ more) o) (h l refl)
+then-same s rows (Page.Got l) f g h = rw (h l refl)
 then-same s rows (Page.Refused r) f g h = refl
 
-module _ (B bs : List ℕ) (area buffer : ℕ → List ℕ) (call : ℕ → ℕ → Gave) (k : Keeps B bs area buffer call) (s : Shape) where
-  calls-pages : (n i start : ℕ) → start < 2 ^ 32 → callsFrom call s n i start ≡ pagesFrom B bs area buffer s n i start
+module _ (B bs : List ℕ) (area buffer : ℕ → List ℕ) (call : ℕ → ℕ → Gave) (k : Keeps B bs area buffer call) where
+  calls-pages : (s : Shape) (n i start : ℕ) → start < 2 ^ 32 → callsFrom call s n i start ≡ pagesFrom B bs area buffer s n i start
   unfolding callsFrom pagesFrom
-  calls-pages zero i start h = refl
-  calls-pages (suc n) i start h =
-      then-same s (call i start .rows) (call i start .answer) (λ next. callsFrom call s n (i + 1) next) (λ next. pagesFrom B bs area buffer s n (i + 1) next)
-      (λ l e. calls-pages n (i + 1) (l .next .0) (k .next i start l e))
+  calls-pages s zero i start h = refl
+  calls-pages s (suc n) i start h =
+      then-same s (call i start .rows) (call i start .answer) _ _ (λ l e. calls-pages s n (i + 1) (l .next .0) (k .next i start l e))
       ∙ ap (λ (p : Paged). pageThen s (p .rows) (p .answer) (λ next. pagesFrom B bs area buffer s n (i + 1) next)) (k .promise i start h)
 
-pub demand-3-of-calls : (B bs : List ℕ) (area buffer : ℕ → List ℕ) (call : ℕ → ℕ → Gave) → Keeps B bs area buffer call → (As : List Array) (ps : List Planned) (Rs : List Array)
-    → planned B bs ≡ got (As, ps) → lastShape ps .type ≡ BOOLEAN → values As ps ≡ got Rs
-    → ((i : ℕ) → bytesOfAll ps ≤ length (area i)) → ((i : ℕ) → rowBytes (lastShape ps) ≤ length (buffer i))
-    → let A : Array = lastOf noArray Rs in
-    callsFrom call (lastShape ps) (cells (A .shape .axes)) 0 1 ≡ some (concat (map (rowOf (A .shape .axes)) (trueCoordinates A)))
-demand-3-of-calls B bs area buffer call k As ps Rs e t v w r =
-    calls-pages B bs area buffer call k (lastShape ps) (cells (lastOf noArray Rs .shape .axes)) 0 1 (omega arith)
-    ∙ demand-3 B bs area buffer As ps Rs e t v w r
+  pub demand-3-of-calls : (As : List Array) (ps : List Planned) (Rs : List Array)
+      → planned B bs ≡ got (As, ps) → lastShape ps .type ≡ BOOLEAN → values As ps ≡ got Rs
+      → ((i : ℕ) → bytesOfAll ps ≤ length (area i)) → ((i : ℕ) → rowBytes (lastShape ps) ≤ length (buffer i))
+      → let A : Array = lastOf noArray Rs in
+      callsFrom call (lastShape ps) (cells (A .shape .axes)) 0 1 ≡ some (concat (map (rowOf (A .shape .axes)) (trueCoordinates A)))
+  demand-3-of-calls As ps Rs e t v w r =
+      calls-pages (lastShape ps) (cells (lastOf noArray Rs .shape .axes)) 0 1 (omega arith) ∙ demand-3 B bs area buffer As ps Rs e t v w r

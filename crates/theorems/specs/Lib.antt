@@ -2,6 +2,7 @@
 -- reading give one another back; a stretch holds the glued array's cells; and promises fix answers.
 pub mod Listings
 pub mod Calls
+pub mod Early
 pub mod Left
 pub mod Packed
 pub mod RoundTrips

@@ -33,25 +33,31 @@ best-end largest (Int z) = refl
 best-end largest (Float x) = refl
 best-end largest (Truth v) = refl
 
-on-if : (largest : Bool) (b : Cell) (cs : List Numbered) (y : Bool) → emptyCell b ≡ y → bestOn largest b cs ≡ (if y then bestOf (beatsOf largest) cs else best (beatsOf largest) b cs)
+on-if : (largest : Bool) (b : Cell) (cs : List Numbered) (y : Bool) → emptyCell b ≡ y
+    → bestOn largest b cs ≡ (if y then bestOf (beatsOf largest) cs else best (beatsOf largest) b cs)
 unfolding bestOn
 on-if largest b cs y e = ap (λ (v : Bool). if v then bestOf (beatsOf largest) cs else best (beatsOf largest) b cs) e
 
 -- by what c, b and their comparison are
 turn : (largest : Bool) (c b : Cell) (o : ℕ) (cs : List Numbered) (x y z : Bool) → Type 0
 turn largest c b o cs x y z =
-    (if y then bestOf (beatsOf largest) (if x then cs else record { at = o; cell = c } ∷ cs) else best (beatsOf largest) b (if x then cs else record { at = o; cell = c } ∷ cs))
+    (if y then bestOf (beatsOf largest) (if x then cs else record { at = o; cell = c } ∷ cs) else best (beatsOf largest) b
+    (if x then cs else record { at = o; cell = c } ∷ cs))
     ≡ bestOn largest (if x then b else (if y then c else (if z then c else b))) cs
 
-turned : (largest : Bool) (c b : Cell) (o : ℕ) (cs : List Numbered) (x : Bool) → emptyCell c ≡ x → (y : Bool) → emptyCell b ≡ y → (z : Bool) → beatsOf largest c b ≡ z → turn largest c b o cs x y z
+turned : (largest : Bool) (c b : Cell) (o : ℕ) (cs : List Numbered) (x : Bool) → emptyCell c ≡ x → (y : Bool) → emptyCell b ≡ y
+    → (z : Bool) → beatsOf largest c b ≡ z → turn largest c b o cs x y z
 unfolding bestOf best turn
 turned largest c b o cs true p true q z r = sym (on-if largest b cs true q)
 turned largest c b o cs true p false q z r = sym (on-if largest b cs false q)
 turned largest c b o cs false p true q z r = sym (on-if largest c cs false p)
-turned largest c b o cs false p false q true r = ap (λ (v : Bool). best (beatsOf largest) (if v then c else b) cs) r ∙ sym (on-if largest c cs false p)
-turned largest c b o cs false p false q false r = ap (λ (v : Bool). best (beatsOf largest) (if v then c else b) cs) r ∙ sym (on-if largest b cs false q)
+turned largest c b o cs false p false q true r =
+    ap (λ (v : Bool). best (beatsOf largest) (if v then c else b) cs) r ∙ sym (on-if largest c cs false p)
+turned largest c b o cs false p false q false r =
+    ap (λ (v : Bool). best (beatsOf largest) (if v then c else b) cs) r ∙ sym (on-if largest b cs false q)
 
 -- one cell more
-pub best-next : (largest : Bool) (c b : Cell) (o : ℕ) (cs : List Numbered) → bestOn largest b (inFront c o cs) ≡ bestOn largest (betterOf largest c b) cs
+pub best-next : (largest : Bool) (c b : Cell) (o : ℕ) (cs : List Numbered)
+    → bestOn largest b (inFront c o cs) ≡ bestOn largest (betterOf largest c b) cs
 unfolding bestOn turn
 best-next largest c b o cs = turned largest c b o cs (emptyCell c) refl (emptyCell b) refl (beatsOf largest c b) refl

@@ -58,7 +58,8 @@ unfolding counted trues
 counted-true o [] = refl
 counted-true o (c ∷ cs) = by (isTrue c) (counted-true (o + 1) cs)
   where
-    by : (b : Bool) → counted true cs ≡ length (trues (o + 1) cs) → (if b then 1 else 0) + counted true cs ≡ length (if b then o ∷ trues (o + 1) cs else trues (o + 1) cs)
+    by : (b : Bool) → counted true cs ≡ length (trues (o + 1) cs)
+        → (if b then 1 else 0) + counted true cs ≡ length (if b then o ∷ trues (o + 1) cs else trues (o + 1) cs)
     by true e = omega arith
     by false e = omega arith
 
@@ -68,7 +69,8 @@ counted-filled o [] = refl
 counted-filled o (c ∷ cs) = by (emptyCell c) (counted-filled (o + 1) cs)
   where
     by : (b : Bool) → counted false cs ≡ length (filledFrom (o + 1) cs)
-        → (if b then 0 else 1) + counted false cs ≡ length (if b then filledFrom (o + 1) cs else record { at = o; cell = c } ∷ filledFrom (o + 1) cs)
+        → (if b then 0 else 1) + counted false cs
+        ≡ length (if b then filledFrom (o + 1) cs else record { at = o; cell = c } ∷ filledFrom (o + 1) cs)
     by true e = omega arith
     by false e = omega arith
 
@@ -92,7 +94,8 @@ module _ (bs : List ℕ) (at t n : ℕ) where
     pub cell-next : drop i cs ≡ oneAt bs at t i ∷ drop (i + 1) cs
     cell-next =
         let l : i < length cs = omega (arith, length-cells t n (drop at bs)) in
-        let c : getD cs i Empty ≡ oneAt bs at t i = cell-no n t i (drop at bs) h ∙ ap (λ (x : List ℕ). orEmpty (cellOf t (take cellBytes x))) (drop-drop (i * cellBytes) at bs) in
+        let c : getD cs i Empty ≡ oneAt bs at t i =
+        cell-no n t i (drop at bs) h ∙ ap (λ (x : List ℕ). orEmpty (cellOf t (take cellBytes x))) (drop-drop (i * cellBytes) at bs) in
         drop-cons cs i Empty l ∙ ap (λ (j : ℕ). getD cs i Empty ∷ drop j cs) (sym (add-one i)) ∙ ap (λ (x : Cell). x ∷ drop (i + 1) cs) c
 
     pub filled-next : filledLeft i ≡ inFront (oneAt bs at t i) (i + 1) (filledLeft (i + 1))

@@ -42,7 +42,8 @@ gone-start t all s = record { gone = []; sums = s; whole = refl; few = omega ari
 front-append : (c : Cell) (o : ℕ) (later : List Numbered) → inFront c o [] ++ later ≡ inFront c o later
 front-append c o later = by (emptyCell c)
   where
-    by : (b : Bool) → (if b then [] else record { at = o; cell = c } ∷ []) ++ later ≡ (if b then later else record { at = o; cell = c } ∷ later)
+    by : (b : Bool) → (if b then [] else record { at = o; cell = c } ∷ []) ++ later
+        ≡ (if b then later else record { at = o; cell = c } ∷ later)
     by true = refl
     by false = refl
 
@@ -53,17 +54,21 @@ front-one c o = by (emptyCell c)
     by true = omega arith
     by false = omega arith
 
-pub gone-next : (t r : Exact) (all left later : List Numbered) (i : ℕ) (c : Cell) → Gone t all left i → i < mostCells → left ≡ inFront c (i + 1) later → ExactNext t c r → Gone r all later (i + 1)
+pub gone-next : (t r : Exact) (all left later : List Numbered) (i : ℕ) (c : Cell) → Gone t all left i → i < mostCells
+    → left ≡ inFront c (i + 1) later → ExactNext t c r → Gone r all later (i + 1)
 gone-next t r all left later i c v h e x =
     record {
       gone = v .gone ++ inFront c (i + 1) [];
       sums = x (v .gone) (i + 1) (v .sums) (omega (arith, v .few));
-      whole = append-assoc (v .gone) (inFront c (i + 1) []) later ∙ ap (λ (l : List Numbered). v .gone ++ l) (front-append c (i + 1) later ∙ sym e) ∙ v .whole;
+      whole =
+          append-assoc (v .gone) (inFront c (i + 1) []) later
+          ∙ ap (λ (l : List Numbered). v .gone ++ l) (front-append c (i + 1) later ∙ sym e) ∙ v .whole;
       few = omega (arith, length-append (v .gone) (inFront c (i + 1) []), v .few, front-one c (i + 1));
     }
 
 pub gone-end : (t : Exact) (all left : List Numbered) (i : ℕ) → Gone t all left i → left ≡ [] → Sums t all
-gone-end t all left i v e = subst (Sums t) (sym (append-nil (v .gone)) ∙ ap (λ (l : List Numbered). v .gone ++ l) (sym e) ∙ v .whole) (v .sums)
+gone-end t all left i v e =
+    subst (Sums t) (sym (append-nil (v .gone)) ∙ ap (λ (l : List Numbered). v .gone ++ l) (sym e) ∙ v .whole) (v .sums)
 
 -- an empty cell adds nothing; a filled one its number
 pub exact-empty : (t : Exact) → ExactNext t Empty t
@@ -88,7 +93,8 @@ exact-truth t r b f cs o s h = f cs (record { at = o; cell = Truth b }) s refl h
 
 -- one cell more, filled or not
 pub record MeanNext (m : Mean) (c : Cell) (r : Added) : Type 0 where
-  pub goes : (made : Running → Ieee.Float) (k o : ℕ) (cs : List Numbered) → m .count < mostCells → onward made k m (inFront c o cs) ≡ after made k o r cs
+  pub goes : (made : Running → Ieee.Float) (k o : ℕ) (cs : List Numbered) → m .count < mostCells
+      → onward made k m (inFront c o cs) ≡ after made k o r cs
   pub few : counted r ≤ m .count + 1
 
 pub mean-empty : (m : Mean) → MeanNext m Empty (On m)
@@ -96,7 +102,9 @@ unfolding after
 mean-empty m = record { goes = λ made k o cs h. refl; few = omega arith }
 
 abbrev MeanWith : Mean → Ieee.Float → Added → Type 0
-MeanWith m x r = ((made : Running → Ieee.Float) (k : ℕ) (d : Numbered) (cs : List Numbered) → float (d .cell) ≡ x → m .count < mostCells → onward made k m (d ∷ cs) ≡ after made k (d .at) r cs) × (counted r ≤ m .count + 1)
+MeanWith m x r =
+    ((made : Running → Ieee.Float) (k : ℕ) (d : Numbered) (cs : List Numbered) → float
+    (d .cell) ≡ x → m .count < mostCells → onward made k m (d ∷ cs) ≡ after made k (d .at) r cs) × (counted r ≤ m .count + 1)
 
 pub mean-float : (m : Mean) (r : Added) (x : Ieee.Float) → MeanWith m x r → MeanNext m (Float x) r
 unfolding float
@@ -117,11 +125,14 @@ pub record Going (m : Mean) (all left : List Numbered) (i : ℕ) : Type 0 where
 
 -- the sum of all cells: the mean that stands for it, or the cell whose addition fails
 pub record Summed (bs : List ℕ) (at t n : ℕ) (r : Ran) : Type 0 where
-  pub done : r .bad ≡ 0 → (made : Running → Ieee.Float) (k : ℕ) → onward made k (r .mean) [] ≡ floatSum made k (filledFrom 1 (cellsAt bs at t n))
-  pub fails : (r .bad ≡ 0 → ⊥) → (made : Running → Ieee.Float) (k : ℕ) → refused (refusal noFit12 k (r .bad)) ≡ floatSum made k (filledFrom 1 (cellsAt bs at t n))
+  pub done : r .bad ≡ 0 → (made : Running → Ieee.Float) (k : ℕ)
+      → onward made k (r .mean) [] ≡ floatSum made k (filledFrom 1 (cellsAt bs at t n))
+  pub fails : (r .bad ≡ 0 → ⊥) → (made : Running → Ieee.Float) (k : ℕ)
+      → refused (refusal noFit12 k (r .bad)) ≡ floatSum made k (filledFrom 1 (cellsAt bs at t n))
   pub few : r .bad ≤ n
 
-module _ (m : Mean) (all left later : List Numbered) (i : ℕ) (c : Cell) (r : Added) (v : Going m all left i) (h : i < mostCells) (e : left ≡ inFront c (i + 1) later) (x : MeanNext m c r) where
+module _ (m : Mean) (all left later : List Numbered) (i : ℕ) (c : Cell) (r : Added) (v : Going m all left i) (h : i < mostCells)
+    (e : left ≡ inFront c (i + 1) later) (x : MeanNext m c r) where
   after-all : (made : Running → Ieee.Float) (k : ℕ) → after made k (i + 1) r later ≡ floatSum made k all
   after-all made k = sym (ap (onward made k m) e ∙ x .goes made k (i + 1) later (omega (arith, v .few))) ∙ v .same made k
 

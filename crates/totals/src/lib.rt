@@ -23,13 +23,17 @@ use operators::logic::is_empty;
 use operators::logic::is_truth;
 use operators::operators::lt;
 use paper::Answer;
+use paper::BOOLEAN;
 use paper::Cell;
-use paper::Refusal;
+use paper::FLOAT;
+use paper::INT;
 use paper::Total;
 use paper::TotalAnswer;
 use paper::Totalled;
 use refer::choose;
 use refer::held_cell;
+use refusals::refuse;
+use refusals::refuse_at;
 
 // ---- counts
 
@@ -209,11 +213,7 @@ fn int_total(s: &[u8], at: usize, kind: u8, n: usize, k: u32) -> TotalAnswer
     let answer = int_sum(s, at, kind, n);
     match answer {
         Answer::Is(c) => TotalAnswer::Got(Totalled::Is(c)),
-        Answer::Refused(number) => TotalAnswer::Refused(Refusal {
-            number,
-            place: k,
-            ordinality: 0,
-        }),
+        Answer::Refused(number) => TotalAnswer::Refused(refuse(number, k)),
     }
 }
 
@@ -224,11 +224,7 @@ fn float_total(s: &[u8], at: usize, kind: u8, n: usize, k: u32, mean: bool) -> T
 {
     let ran = float_run(s, at, kind, n);
     if ran.bad != 0 {
-        return TotalAnswer::Refused(Refusal {
-            number: 12,
-            place: k,
-            ordinality: ran.bad as u32,
-        });
+        return TotalAnswer::Refused(refuse_at(12, k, ran.bad as u32));
     }
     if mean {
         return TotalAnswer::Got(Totalled::Is(mean_average(ran.mean)));
@@ -242,11 +238,11 @@ fn has_total(which: Total, kind: u8) -> bool
 {
     match which {
         Total::Filled => true,
-        Total::Trues => kind == 3,
-        Total::Smallest => kind != 3,
-        Total::Largest => kind != 3,
-        Total::Sum => kind != 3,
-        Total::Average => kind == 2,
+        Total::Trues => kind == BOOLEAN,
+        Total::Smallest => kind != BOOLEAN,
+        Total::Largest => kind != BOOLEAN,
+        Total::Sum => kind != BOOLEAN,
+        Total::Average => kind == FLOAT,
     }
 }
 
@@ -261,7 +257,7 @@ fn total_of(s: &[u8], at: usize, kind: u8, n: usize, k: u32, which: Total) -> To
         Total::Smallest => TotalAnswer::Got(Totalled::Is(best_cell(s, at, kind, n, false))),
         Total::Largest => TotalAnswer::Got(Totalled::Is(best_cell(s, at, kind, n, true))),
         Total::Sum => {
-            if kind == 1 {
+            if kind == INT {
                 int_total(s, at, kind, n, k)
             } else {
                 float_total(s, at, kind, n, k, false)
@@ -284,11 +280,7 @@ pub fn total(s: &[u8], k: u32, which: Total) -> TotalAnswer
     let form = head.form;
     let kind = form.kind;
     if !has_total(which, kind) {
-        return TotalAnswer::Refused(Refusal {
-            number: 7,
-            place: k,
-            ordinality: 0,
-        });
+        return TotalAnswer::Refused(refuse(7, k));
     }
     let n = head.cells;
     let at = head.at;

@@ -1,11 +1,6 @@
--- What the values' code means in the paper's terms, and the laws that its proofs cite.
-pub mod Jobs
+-- What the values' code leans on, from the cells where they lie up to the run of all steps.
 pub mod Lying
-pub mod Found
-pub mod Doing
-pub mod Worked
-pub mod Computing
-pub mod Moving
-pub mod Runs
+pub mod Done
 pub mod Turns
-pub mod Begun
+pub mod Found
+pub mod Runs

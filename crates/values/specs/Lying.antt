@@ -25,7 +25,8 @@ use Rattle.bundle.specs.Read.{cellsIn, arrayAt, Fit}
 
 pub record Lies (bs : List ℕ) (at : ℕ) (X : Array) : Type 0 where
   pub room : at + length (X .cells) * cellBytes ≤ length bs
-  pub cell : (k : ℕ) → k < length (X .cells) → cellOf (X .shape .type) (part (at + k * cellBytes) cellBytes bs) ≡ some (getD (X .cells) k Empty)
+  pub cell : (k : ℕ) → k < length (X .cells) → cellOf (X .shape .type) (part (at + k * cellBytes) cellBytes bs)
+      ≡ some (getD (X .cells) k Empty)
 
 -- an array of a type, as many cells as its extent says, each of the type
 pub record Whole (X : Array) : Type 0 where
@@ -108,7 +109,8 @@ lies-first X q h =
         ap (λ (j : ℕ). part j cellBytes (cellsBytes (X .cells))) z
         ∙ concat-at encode cellBytes Empty (X .cells) k b (λ i c. nine (getD (X .cells) i Empty))
 
-pub work-lies : (Rs : List Array) (j : ℕ) → j < length Rs → Kept (getD Rs j noArray) → Lies (resultBytes Rs) (length (resultBytes (take j Rs))) (getD Rs j noArray)
+pub work-lies : (Rs : List Array) (j : ℕ) → j < length Rs → Kept (getD Rs j noArray)
+    → Lies (resultBytes Rs) (length (resultBytes (take j Rs))) (getD Rs j noArray)
 unfolding concat
 work-lies [] j h k = absurd (omega arith)
 work-lies (A ∷ Rs) zero h k = lies-first A (resultBytes Rs) k

@@ -1,54 +1,218 @@
--- What the functions of the values ask and promise: cells moved, and the steps run.
-use Prim.Native.Nat.{ℕ, _≤_}
-use mathlib.Core.Path.{_≡_}
-use mathlib.Core.List.{List}
-use lib.ListN.{length, drop}
-use Rattle.paper.specs.declared.Reading.{Reading}
+-- What the functions of the values ask and promise: the cells of a step begun, and the steps run. Then a turn of the loop over cells:
+-- what its calls ask, and what it leaves.
+use Prim.Native.Nat.{ℕ, zero, suc, _+_, _*_, _^_, _≤_, _<_}
+use mathlib.Core.Path.{_≡_, refl, sym, ap, _∙_}
+use mathlib.Core.List.{List, [], _∷_, _++_}
+use mathlib.Core.Logic.{inl, inr}
+use native.Mathlib.Numerals.{add-one}
+use native.Mathlib.Omega.{arith}
+use lib.ListN.{length, take, drop}
+use Rattle.paper.specs.declared.Answer.{Answer}
+use Rattle.paper.specs.declared.Answer.the-variants.{Is, Refused}
+use Rattle.paper.specs.declared.Cell.{Cell}
+use Rattle.paper.specs.declared.Move.{Move}
+use Rattle.paper.specs.declared.Work.{Work}
+use Rattle.paper.specs.declared.Operation.the-variants.{Moves, Works}
 use Rattle.paper.specs.declared.Refusal.{Refusal}
-use Rattle.paper.specs.Refusals.{got, refused}
-use Rattle.paper.specs.Numbers.{over}
-use Rattle.paper.specs.Axes.{Array}
-use Rattle.paper.specs.Values.{values}
+use Rattle.paper.specs.Limits.{cellBytes, wordBytes, detailBytes, scalarAt, mostCells}
+use Rattle.paper.specs.Refusals.{refused, refusal}
+use Rattle.paper.specs.Numbers.{leOf, leBytes, part, over}
+use Rattle.paper.specs.Axes.{cells, atOffset, Array}
+use Rattle.paper.specs.Cells.{encode}
+use Rattle.paper.specs.Recipe.{Step, Planned, scalarOf}
+use Rattle.paper.specs.Values.{whence, operandArray, values}
+use Rattle.paper.specs.Answers.{axesOf}
 use Rattle.paper.specs.Listing.{resultBytes, bytesOfAll}
+use Rattle.laws.specs.Late.{Either, values-late}
+use Rattle.positions.specs.Runs.{part-part}
+use Rattle.step.specs.Steps.{stepIn}
+use Rattle.quick.specs.declared.operands.Source.{Source}
+use Rattle.quick.specs.declared.operands.Pairing.{Pairing}
+use Rattle.quick.specs.Cells.{answerAt, Workable, WorkedOut}
 use Rattle.recipe.specs.declared.Plan.{Plan}
 use Rattle.recipe.specs.Whole.{stepsOf}
-use Rattle.values.specs.declared.Job.{Job}
-use Rattle.values.specs.Jobs.{JobFor}
-use Rattle.values.specs.Found.{arraysIn, AllWhole, Setting}
-use Rattle.values.specs.Doing.{Filling}
+use Rattle.origin.specs.declared.Origin.{Origin}
+use Rattle.origin.specs.Origins.{Moving, originAt, originCell}
+use Rattle.values.specs.declared.Turn.{Turn}
+use Rattle.values.specs.declared.Begun.{Begun}
+use Rattle.values.specs.Done.{stepAt, begins, cellOver, answerTo, Done, CellsDone, StepsDone, step-room, cells-kept, earlier-there, rest-there, cell-stored, cell-refuses, step-ends}
+use Rattle.values.specs.Turns.{cellsAt, pairingOf, originMark, originWord, Fetches, Ready, cells-are, cell-typed, result-typed, Computes, computes, moving, moved-is, fetches, as-written}
+use Rattle.values.specs.Found.{arraysAt, Setting}
 
--- a step that begins
-pub record Asked (B bs work : List ℕ) (base : ℕ) (j : Job) : Type 0 where
-  pub reading : Reading
-  pub plan : Plan
+-- ---- what is asked and promised
+
+-- a step in its turn, after the steps that are done
+pub record InTurn (B bs : List ℕ) (t : Turn) {As : List Array} {ps : List Planned} {W : List ℕ} {s : ℕ} (d : Done As ps W s) : Type 0 where
+  pub at : t .result .at ≡ begins ps s
+  pub ready : Ready B bs (resultBytes (d .results)) (operandArray As (d .results) (stepAt ps s .step .a))
+      (operandArray As (d .results) (stepAt ps s .step .b)) (stepAt ps s) t
+
+-- none of its cells is there
+pub record Asked (B bs work : List ℕ) (t : Turn) : Type 0 where
+  pub arrays : List Array
+  pub steps : List Planned
   pub area : List ℕ
-  pub step : ℕ
-  pub setting : Setting B bs reading plan
-  pub job : JobFor reading plan step j
-  pub none : Filling B bs reading plan area step base 0 work
+  pub number : ℕ
+  pub done : Done arrays steps area number
+  pub in-turn : InTurn B bs t done
+  pub none : CellsDone done 0 work
+
+pub record AskedToMove (B bs work : List ℕ) (m : Move) (t : Turn) : Type 0 where
+  pub asked : Asked B bs work t
+  pub moves : t .step .operation ≡ Moves m
 
 -- k of its cells are there
-abbrev pub Moved : List ℕ → List ℕ → List ℕ → ℕ → Job → ℕ → List ℕ → Type 0
-Moved B bs work base j k after = (m : Asked B bs work base j) → Filling B bs (m .reading) (m .plan) (m .area) (m .step) base k after
+abbrev pub Filled : List ℕ → List ℕ → List ℕ → Turn → ℕ → List ℕ → Type 0
+Filled B bs work t k after = (a : Asked B bs work t) → CellsDone (a .done) k after
+
+-- and the others are worked out by the pairing
+pub record Started (B bs work : List ℕ) (t : Turn) (r : Begun) (after : List ℕ) : Type 0 where
+  pub most : r .count ≤ t .result .cells
+  pub filled : Filled B bs work t (r .count) after
+  pub works : r .count < t .result .cells → (w : Work) × (t .step .operation ≡ Works w)
+      × (r .pairing ≡ pairingOf w (leOf (part (t .step .at + scalarAt) wordBytes bs)) (t .a) (t .b))
 
 -- a bundle read, a recipe planned, a work area that has room for all results
-pub record Running (B bs : List ℕ) (R : Reading) (P : Plan) (W : List ℕ) : Type 0 where
-  pub setting : Setting B bs R P
+pub record Running (B bs : List ℕ) (P : Plan) (W : List ℕ) : Type 0 where
+  pub setting : Setting B bs P
   pub room : bytesOfAll (stepsOf bs P) ≤ length W
 
 -- the results of all steps, whole, at the work area's beginning
-pub record Results (B bs : List ℕ) (R : Reading) (P : Plan) (W after : List ℕ) : Type 0 where
-  pub results : List Array
-  pub is : values (arraysIn B R) (stepsOf bs P) ≡ got results
-  pub whole : AllWhole results
-  pub bytes : after ≡ over (resultBytes results) W
+pub record Results (B bs : List ℕ) (P : Plan) (W after : List ℕ) : Type 0 where
+  pub turn : ℕ
+  pub steps : StepsDone (arraysAt B P) (stepsOf bs P) W turn after
+  pub all : length (stepsOf bs P) ≤ turn
 
 -- or the refusal, with the bytes past all results untouched
-pub record Stopped (B bs : List ℕ) (R : Reading) (P : Plan) (W : List ℕ) (r : Refusal) (after : List ℕ) : Type 0 where
-  pub is : values (arraysIn B R) (stepsOf bs P) ≡ refused r
+pub record Stopped (B bs : List ℕ) (P : Plan) (W : List ℕ) (r : Refusal) (after : List ℕ) : Type 0 where
+  pub is : values (arraysAt B P) (stepsOf bs P) ≡ refused r
   pub long : length after ≡ length W
   pub rest : drop (bytesOfAll (stepsOf bs P)) after ≡ drop (bytesOfAll (stepsOf bs P)) W
 
-pub record Valued (B bs : List ℕ) (R : Reading) (P : Plan) (W : List ℕ) (r : Refusal) (after : List ℕ) : Type 0 where
-  pub done : r .number ≡ 0 → Results B bs R P W after
-  pub stopped : (r .number ≡ 0 → ⊥) → Stopped B bs R P W r after
+pub record Valued (B bs : List ℕ) (P : Plan) (W : List ℕ) (r : Refusal) (after : List ℕ) : Type 0 where
+  pub done : r .number ≡ 0 → Results B bs P W after
+  pub stopped : (r .number ≡ 0 → ⊥) → Stopped B bs P W r after
+
+-- ---- a turn of the loop over cells
+
+module _ {B bs : List ℕ} {t : Turn} {As : List Array} {ps : List Planned} {W : List ℕ} {s : ℕ} {d : Done As ps W s} (y : InTurn B bs t d)
+    {k : ℕ} {work : List ℕ}
+    (f : CellsDone d k work) where
+  abbrev n : ℕ
+  n = t .result .cells
+
+  abbrev p : Planned
+  p = stepAt ps s
+
+  abbrev Rs : List Array
+  Rs = d .results
+
+  counts : n ≡ cells (p .shape .axes)
+  counts = cells-are (y .ready)
+
+  pub few-cells : n ≤ mostCells
+  few-cells = omega (arith, y .ready .count, y .ready .small-result .few)
+
+  -- the work area keeps its length, and has room for the step's cells
+  pub keeps : k ≤ n → length work ≡ length W
+  keeps h = cells-kept f (omega (arith, counts))
+
+  pub room-all : t .result .at + n * cellBytes ≤ length W
+  room-all = omega (arith, step-room f, d .long, counts, y .at)
+
+  pub earlier : take (t .result .at) work ≡ resultBytes Rs
+  earlier = ap (λ (i : ℕ). take i work) (y .at) ∙ earlier-there f
+
+  pub room : k < n → t .result .at + k * cellBytes + cellBytes ≤ length work
+  room h = omega (arith, room-all, keeps (omega arith))
+
+  -- a cell stored is the next
+  pub stored : k < n → (c : Cell) → answerTo As Rs p k ≡ Is c → (after : List ℕ)
+      → after ≡ take (t .result .at + k * cellBytes) work ++ encode c ++ drop (t .result .at + k * cellBytes + cellBytes) work → CellsDone d (k + 1) after
+  unfolding cellOver
+  stored h c q after e = cell-stored f (omega (arith, counts)) c q (cell-typed (y .ready) _ c q) (t .result .at + k * cellBytes) (omega (arith, y .at)) after e
+
+  -- the step ends
+  pub ended : n ≤ k → k ≤ n → StepsDone As ps W (s + 1) work
+  ended h l = step-ends f (omega (arith, counts)) (omega (arith, counts)) (result-typed (y .ready))
+
+  -- ---- cells moved
+
+  module _ (m : Move) (e : t .step .operation ≡ Moves m) where
+    moves : p .step .operation ≡ Moves m
+    moves = ap (λ (x : Step). x .operation) (y .ready .step) ∙ e
+
+    pub mover : Moving m (stepIn bs (t .step)) (axesOf (t .a .head .form .extent)) (axesOf (t .b .head .form .extent))
+        (axesOf (t .result .form .extent))
+    mover = moving (y .ready) m moves
+
+    module _ (h : k < n) (o : Origin)
+        (q : o ≡ originAt (axesOf (t .a .head .form .extent)) (axesOf (t .b .head .form .extent))
+        (whence m (stepIn bs (t .step)) (axesOf (t .a .head .form .extent)) (axesOf (t .b .head .form .extent)) (atOffset (axesOf (t .result .form .extent)) k))) where
+      here : k < cells (axesOf (t .result .form .extent))
+      here = omega (arith, y .ready .count)
+
+      pub fetched-there : Fetches B (take (t .result .at) work) (cellsAt (t .a)) (cellsAt (t .b)) o
+      fetched-there = rw earlier (fetches (y .ready) m moves k here o q)
+
+      pub moved-on : (x x' : Source) → x ≡ cellsAt (t .a) → x' ≡ cellsAt (t .b) → (i w : ℕ)
+          → i ≡ originMark B (take (t .result .at) work) x x' o
+          → w ≡ originWord B (take (t .result .at) work) x x' o → w < 2 ^ 64 → (after : List ℕ)
+          → after ≡ take (t .result .at + k * cellBytes) work ++ (i ∷ leBytes wordBytes w) ++ drop (t .result .at + k * cellBytes + cellBytes) work
+          → CellsDone d (k + 1) after
+      unfolding cellOver
+      moved-on x x' z z' i w u v l after e =
+          stored h (originCell o _ _) (moved-is (y .ready) m moves k here o q) after
+          (rw (← as-written (y .ready) m moves k here o q i w (rw (earlier, z, z') at u) (rw (earlier, z, z') at v) l) e)
+
+  -- ---- cells worked out
+
+  module _ (w : Work) (e : t .step .operation ≡ Works w) (q : Pairing)
+      (z : q ≡ pairingOf w (leOf (part (t .step .at + scalarAt) wordBytes bs)) (t .a) (t .b)) where
+    pub worked-at : (i : ℕ) → i < n → Computes B (take (t .result .at) work) q i (answerTo As Rs p i)
+    unfolding cellOver
+    worked-at i l =
+        let v = ap leOf (sym (part-part bs (t .step .at) detailBytes scalarAt wordBytes (omega arith))) ∙ ap scalarOf (sym (y .ready .step)) in
+        rw (earlier, z) (computes (y .ready) w (ap (λ (x : Step). x .operation) (y .ready .step) ∙ e) _ i v (omega (arith, counts)))
+
+    -- what the loop's call gives
+    module _ (h : k < n) (r : Answer) (is : r ≡ answerAt B (take (t .result .at) work) q k) where
+      told : answerTo As Rs p k ≡ r
+      told = sym (is ∙ worked-at k h .is)
+
+      pub worked-on : (c : Cell) → r ≡ Is c → (after : List ℕ)
+          → after ≡ take (t .result .at + k * cellBytes) work ++ encode c ++ drop (t .result .at + k * cellBytes + cellBytes) work → CellsDone d (k + 1) after
+      worked-on c u after e = stored h c (told ∙ u) after e
+
+      pub refuses : (i : ℕ) → r ≡ Refused i → refused (refusal i (s + 1) (k + 1)) ≡ values As ps
+      refuses i u = cell-refuses f (omega (arith, counts)) i (told ∙ u)
+
+      pub untouched : drop (bytesOfAll ps) work ≡ drop (bytesOfAll ps) W
+      untouched = rest-there f (omega (arith, counts))
+
+-- ---- the quick loop: it has what it asks, and the cells that it stored are the step's
+
+module _ {B bs W : List ℕ} {t : Turn} (a : Asked B bs W t) (w : Work) (e : t .step .operation ≡ Works w) (q : Pairing)
+    (z : q ≡ pairingOf w (leOf (part (t .step .at + scalarAt) wordBytes bs)) (t .a) (t .b)) where
+  pub workable : Workable B W (t .result .at) q (t .result .cells)
+  workable = record {
+    room = omega (arith, room-all (a .in-turn) (a .none), keeps (a .in-turn) (a .none) (omega arith));
+    first = λ k h. worked-at (a .in-turn) (a .none) w e q z k h .first;
+    second = λ k h. worked-at (a .in-turn) (a .none) w e q z k h .second;
+    words = λ k h. worked-at (a .in-turn) (a .none) w e q z k h .words;
+  }
+
+  pub fills : (k : ℕ) (work : List ℕ) → k ≤ t .result .cells → WorkedOut B W (t .result .at) q k work → CellsDone (a .done) k work
+  unfolding WorkedOut
+  fills zero work l x = rw x (a .none)
+  fills (suc k) work l x =
+      let f = fills k (x .work) (omega arith) (x .sofar) in
+      rw (← add-one k) (worked-on (a .in-turn) f w e q z (omega arith) (answerAt B (take (t .result .at) (x .work)) q k) refl (x .last .cell) (x .last .is) work (x .last .bytes))
+
+-- a refusal of a cell has a number
+pub late : (As : List Array) (ps : List Planned) (x : Refusal) → refused x ≡ values As ps → x .number ≡ 0 → ⊥
+late As ps x e = by (values-late ps 1 As [] x (sym e))
+  where
+    by : Either (x .number) → x .number ≡ 0 → ⊥
+    by (inl a) e = omega arith
+    by (inr b) e = omega arith

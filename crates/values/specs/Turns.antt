@@ -1,195 +1,343 @@
--- A turn of the loop over cells, in the step's setting: what its calls ask, and what it leaves, for cells moved and for cells worked out.
-use Prim.Native.Nat.{ℕ, _+_, _*_, _^_, _≤_, _<_}
-use mathlib.Core.Path.{_≡_, refl, sym, ap, ap₂, subst, _∙_}
-use mathlib.Core.Bool.{true, false}
-use mathlib.Core.List.{List, [], _∷_, _++_}
+-- A step in its turn: where its operands' cells lie, and the cell that a mark and a word there are. Then what the step gives at a
+-- coordinate: of cells moved, that the nine bytes fetched are those of the cell; of cells worked out, that the code gives the answer.
+use Prim.Native.Nat.{ℕ, _+_, _*_, _^_, _<_}
+use mathlib.Core.Path.{_≡_, refl, sym, ap, subst, _∙_}
+use mathlib.Core.Bool.{true, false, _&&_}
+use mathlib.Core.List.{List, _∷_}
+use mathlib.Core.Option.{Option, none, some, Option·getD}
 use native.Mathlib.Omega.{arith}
-use lib.ListN.{length, take, drop, length-map}
-use lib.Seq.{length-take-le}
+use borrow.Author.Tests.{eqb-true}
+use lib.Dec.{eqb}
+use lib.ListN.{length, getD, drop, length-take, length-drop}
+use lib.Seq.{getD-take, getD-drop, take-all}
+use Rattle.paper.specs.declared.Axis.{Axis}
 use Rattle.paper.specs.declared.Answer.{Answer}
-use Rattle.paper.specs.declared.Answer.the-variants.{Is, Refused}
+use Rattle.paper.specs.declared.Answer.the-variants.{Is}
 use Rattle.paper.specs.declared.Cell.{Cell}
+use Rattle.paper.specs.declared.Cell.the-variants.{Empty}
+use Rattle.paper.specs.declared.Hand.the-variants.{Right, Left}
+use Rattle.paper.specs.declared.Move.{Move}
+use Rattle.paper.specs.declared.PairOp.{PairOp}
+use Rattle.paper.specs.declared.Work.{Work}
+use Rattle.paper.specs.declared.Work.the-variants.{Pair, Scalar, Single}
 use Rattle.paper.specs.declared.Operation.{Operation}
-use Rattle.paper.specs.declared.Reading.{Reading}
-use Rattle.paper.specs.declared.Refusal.{Refusal}
-use Rattle.paper.specs.Limits.{cellBytes, wordBytes, detailBytes, scalarAt, mostSteps, mostCells}
-use Rattle.paper.specs.Refusals.{refused, refusal}
-use Rattle.paper.specs.Numbers.{leOf, leBytes, part}
-use Rattle.paper.specs.Axes.{cells, atOffset, Array}
-use Rattle.paper.specs.Cells.{encode}
-use Rattle.paper.specs.Recipe.{Step, scalarOf}
-use Rattle.paper.specs.Recipe as Paper
-use Rattle.paper.specs.Values.{cellAt, operandArray, values}
+use Rattle.paper.specs.declared.Operation.the-variants.{Moves, Works}
+use Rattle.paper.specs.Limits.{FLOAT, cellBytes, wordBytes, detailBytes}
+use Rattle.paper.specs.Numbers.{leOf, leBytes, part, alike}
+use Rattle.paper.specs.Axes.{cells, atOffset, sameName, Shape, Array, at}
+use Rattle.paper.specs.Cells.{isType, filled, cellFrom, encode}
+use Rattle.paper.specs.Operators.{takes, takesOne, pairCell}
+use Rattle.paper.specs.Recipe.{Step, Planned, scalarOf, uses, axisIn, isScalar, fitsIn, takesType, typesFit, sameLimits, agree, resultAxes, resultOf}
+use Rattle.paper.specs.Values.{Whence, whence, taken, made, scalar, cellAt}
 use Rattle.paper.specs.Answers.{axesOf}
-use Rattle.paper.specs.Listing.{resultBytes}
-use mathlib.Core.Logic.{inl, inr}
-use Rattle.laws.specs.Late.{Either, values-late}
+use Rattle.laws.specs.Tests.{and-left, and-right}
+use Rattle.laws.specs.Cells.{OfKind}
+use Rattle.laws.specs.Places.{offset-atOffset, atOffset-inside}
+use Rattle.laws.specs.Arrays.{at-inside}
+use Rattle.laws.specs.Alike.{alike-true, cells-alike, atOffset-alike}
+use Rattle.laws.specs.Passed.{Tested}
+use Rattle.laws.specs.Steps.{Kept, cell-kept, result-type}
+use Rattle.coded.specs.Codes.{standing, NoNan, kindOf, pairCodeOf, singleCodeOf, codeCell}
+use Rattle.coded.proofs.Standing.{standing-is, no-nan-from, written}
+use Rattle.coded.proofs.Codes.{pair-code-kind, pair-code-cell, single-code-kind, single-code-cell}
 use Rattle.positions.specs.Runs.{Holds, part-part}
+use Rattle.extent.specs.Judged.{Small}
 use Rattle.step.specs.Steps.{stepIn}
-use Rattle.coded.specs.Codes.{kindOf, codeCell, standing}
-use Rattle.recipe.specs.declared.Plan.{Plan}
-use Rattle.recipe.specs.declared.Planned.{Planned}
-use Rattle.recipe.specs.Answered.{plannedOf}
-use Rattle.recipe.specs.Whole.{stepsOf, cellsBefore, Laid}
+use Rattle.quick.specs.declared.operands.Source.{Source}
+use Rattle.quick.specs.declared.operands.Pairing.{Pairing}
+use Rattle.quick.specs.Operands.{source, scalarSide, pairing, bytesIn, markAt, wordAt, Reaches}
+use Rattle.recipe.specs.declared.Operand.{Operand}
+use Rattle.recipe.specs.Operands.{shapeIn}
 use Rattle.origin.specs.declared.Origin.{Origin}
 use Rattle.origin.specs.declared.Origin.the-variants.{Nowhere, FromA, FromB}
-use Rattle.origin.specs.Origins.{moves, Moving, originCell, Comes}
-use Rattle.values.specs.declared.Job.{Job}
-use Rattle.quick.specs.declared.operands.Pairing.{Pairing}
-use Rattle.quick.specs.Operands.{markAt, wordAt}
-use Rattle.values.specs.Jobs.{JobFor, pairingOf, pairingFor, Fetches, originMark, originWord}
-use Rattle.values.specs.Found.{arraysIn, Setting}
-use Rattle.values.specs.Doing.{stepAt, Doing, Filling, step-room, filled-long, earlier-there, rest-there, cell-stored, cell-refuses, step-ends}
-use Rattle.values.specs.Worked.{Ready, ready}
-use Rattle.values.specs.Computing.{Computes, computes}
-use Rattle.values.specs.Moving.{result-axes, stored-kept, result-typed, moving, moved-is, from-a, from-b, from-none, as-written}
-use Rattle.values.specs.Runs.{Stopped}
+use Rattle.origin.specs.Origins.{Moving, originAt, originCell, inArray, origin-inside, taken-origin}
+use Rattle.origin.specs.Lies.{lies, second-used}
+use Rattle.values.specs.declared.Turn.{Turn}
+use Rattle.values.specs.Lying.{Lies, Whole}
 
-module _ (B bs : List ℕ) (R : Reading) (P : Plan) (v : Setting B bs R P) (W : List ℕ) (s base k : ℕ) (work : List ℕ) (f : Filling B bs R P W s base k work) (j : Job) (g : JobFor R P s j) where
-  abbrev As : List Array
-  As = arraysIn B R
+-- ---- as the code carries them
 
-  abbrev Rs : List Array
-  Rs = f .sofar .done
+-- where an operand's cells lie
+abbrev pub cellsAt : Operand → Source
+cellsAt o = source (o .which) (o .head .at)
 
-  abbrev p : Paper.Planned
-  p = stepAt bs P s
+abbrev pub kindIn : Operand → ℕ
+kindIn o = o .head .form .kind
 
-  abbrev n : ℕ
-  n = j .planned .cells
+-- 9 to 12: the code of A's type and the operator, and the operands, of which a scalar is one; w is its number
+abbrev pub pairingOf : Work → ℕ → Operand → Operand → Pairing
+pairingOf (Pair o) w a b = pairing (pairCodeOf (kindIn a) o) w (cellsAt a) (cellsAt b)
+pairingOf (Scalar Right o) w a b = pairing (pairCodeOf (kindIn a) o) w (cellsAt a) (source scalarSide 0)
+pairingOf (Scalar Left o) w a b = pairing (pairCodeOf (kindIn a) o) w (source scalarSide 0) (cellsAt a)
+pairingOf (Single o) w a b = pairing (singleCodeOf (kindIn a) o) w (cellsAt a) (cellsAt a)
 
-  y : Ready B bs As Rs p j
-  y = ready B bs R P v W s base (f .sofar) (f .here) j g
+-- 1 to 8: a moved cell as it lies
+abbrev pub originMark : List ℕ → List ℕ → Source → Source → Origin → ℕ
+originMark B D a b Nowhere = 0
+originMark B D a b (FromA i) = markAt B D a i
+originMark B D a b (FromB i) = markAt B D b i
 
-  steps-long : length (stepsOf bs P) ≡ P .count
-  steps-long = length-map (take (P .count) (P .steps)) (plannedOf bs) ∙ length-take-le (P .count) (P .steps) (v .results .room)
+abbrev pub originWord : List ℕ → List ℕ → Source → Source → Origin → ℕ
+originWord B D a b Nowhere = 0
+originWord B D a b (FromA i) = wordAt B D 0 a i
+originWord B D a b (FromB i) = wordAt B D 0 b i
 
-  laid : Laid bs (cellsBefore bs (P .steps) s) (j .planned)
-  laid = subst (Laid bs (cellsBefore bs (P .steps) s)) (sym (g .planned (j .planned))) (v .laid s (j .planned) (omega (arith, steps-long, f .here)))
+-- it is there
+pub record Fetches (B D : List ℕ) (a b : Source) (o : Origin) : Type 0 where
+  pub first : (i : ℕ) → o ≡ FromA i → Reaches B D a i
+  pub second : (i : ℕ) → o ≡ FromB i → Reaches B D b i
 
-  pub detail-there : Holds (j .planned .step .at) detailBytes bs
-  detail-there = laid .detail
+-- ---- the cell that a mark and a word are
 
-  -- the step's cells, and those of its result's extent
-  pub count-is : n ≡ cells (p .shape .axes)
-  count-is = laid .count ∙ ap cells (sym (result-axes B bs As Rs p j y (v .bytes) detail-there))
+pub record CellHere (B D : List ℕ) (w : ℕ) (f : Source) (k t : ℕ) (c : Cell) : Type 0 where
+  pub reaches : Reaches B D f k
+  pub is : cellFrom t (markAt B D f k) (wordAt B D w f k) ≡ some c
 
-  pub few-cells : n ≤ mostCells
-  few-cells = omega (arith, laid .count, y .result .few)
+-- an operand names an array, whose cells lie there
+pub record Stands (B D : List ℕ) (o : Operand) (X : Array) : Type 0 where
+  pub shape : shapeIn (o .head) ≡ X .shape
+  pub whole : Whole X
+  pub plain : eqb (o .which) scalarSide ≡ false
+  pub lies : Lies (bytesIn (o .which) B D) (o .head .at) X
 
-  pub few-steps : s < mostSteps
-  few-steps = omega (arith, steps-long, f .here, v .results .few)
+module _ {B D : List ℕ} {o : Operand} {X : Array} (v : Stands B D o X) where
+  pub kind-is : kindIn o ≡ X .shape .type
+  kind-is = ap (λ (s : Shape). s .type) (v .shape)
 
-  -- the work area keeps its length, and has room for cell k
-  pub long : k ≤ n → length work ≡ length W
-  long h = filled-long B bs R P W s base k work f (omega (arith, count-is))
+  pub axes-are : axesOf (o .head .form .extent) ≡ X .shape .axes
+  axes-are = ap (λ (s : Shape). s .axes) (v .shape)
 
-  pub room-all : base + n * cellBytes ≤ length W
-  room-all = omega (arith, step-room B bs R P W s base k work f, f .sofar .long, count-is)
+  pub cell-here : (w k : ℕ) → k < length (X .cells) → CellHere B D w (cellsAt o) k (kindIn o) (getD (X .cells) k Empty)
+  cell-here w k h =
+      let bs = bytesIn (o .which) B D in
+      let i = o .head .at + k * cellBytes in
+      let z : i + 0 ≡ i = omega arith in
+      let m : getD (part i cellBytes bs) 0 0 ≡ markAt B D (cellsAt o) k
+      = sym (rw (v .plain) (sym (getD-take cellBytes (drop i bs) 0 0 (omega arith) ∙ getD-drop i bs 0 0 ∙ ap (λ (j : ℕ). getD bs j 0) z))) in
+      let r : drop 1 (part i cellBytes bs) ≡ part (i + 1) wordBytes bs
+      = sym (take-all wordBytes (drop 1 (part i cellBytes bs)) (omega (arith, length-drop 1 (part i cellBytes bs), length-take cellBytes (drop i bs))))
+      ∙ part-part bs i cellBytes 1 wordBytes (omega arith) in
+      let n : leOf (drop 1 (part i cellBytes bs)) ≡ wordAt B D w (cellsAt o) k = sym (rw (v .plain) (sym (ap leOf r))) in
+      record {
+        reaches = record { room = λ g. omega (arith, v .lies .room) };
+        is = rw (kind-is, ← m, ← n) (v .lies .cell k h);
+      }
 
-  pub room : k < n → base + k * cellBytes + cellBytes ≤ length work
-  room h = omega (arith, room-all, long (omega arith))
+-- ---- a step ready: p as planned, t as the code has it, A and Z the arrays that the paper takes for A and B
 
-  earlier : take base work ≡ resultBytes Rs
-  earlier = earlier-there B bs R P W s base k work f
+pub record Ready (B bs D : List ℕ) (A Z : Array) (p : Planned) (t : Turn) : Type 0 where
+  pub step : p .step ≡ stepIn bs (t .step)
+  pub shape : p .shape ≡ shapeIn (t .result)
+  pub tested : Tested (p .step) (A .shape) (Z .shape)
+  pub result : p .shape ≡ resultOf (p .step) (A .shape) (Z .shape)
+  pub first : Stands B D (t .a) A
+  pub second : uses (p .step .operation) .b ≡ true → Stands B D (t .b) Z
+  pub other : shapeIn (t .b .head) ≡ Z .shape
+  pub kept : Kept Z
+  pub scalar : scalarOf (p .step) < 2 ^ 64
+  pub detail : Holds (t .step .at) detailBytes bs
+  pub small-first : Small (axesOf (t .a .head .form .extent))
+  pub small-second : Small (axesOf (t .b .head .form .extent))
+  pub small-result : Small (axesOf (t .result .form .extent))
+  pub count : t .result .cells ≡ cells (axesOf (t .result .form .extent))
 
-  abbrev cellIs : Answer → Type 0
-  cellIs a = cellAt (p .step .operation) (p .step) (operandArray As Rs (p .step .a)) (operandArray As Rs (p .step .b)) (atOffset (p .shape .axes) k) ≡ a
+-- both operands are there, no word of a FLOAT is a NaN's, and the code gives the answer
+pub record Computes (B D : List ℕ) (q : Pairing) (k : ℕ) (a : Answer) : Type 0 where
+  pub first : Reaches B D (q .first) k
+  pub second : Reaches B D (q .second) k
+  pub words : kindOf (q .code) ≡ FLOAT → NoNan (wordAt B D (q .scalar) (q .first) k) × NoNan (wordAt B D (q .scalar) (q .second) k)
+  pub is : codeCell (q .code) (standing (kindOf (q .code)) (markAt B D (q .first) k) (wordAt B D (q .scalar) (q .first) k))
+      (standing (kindOf (q .code)) (markAt B D (q .second) k) (wordAt B D (q .scalar) (q .second) k)) ≡ a
 
-  -- a cell stored is the next
-  stored : (h : k < n) (c : Cell) → cellIs (Is c) → (after : List ℕ) → after ≡ take (base + k * cellBytes) work ++ encode c ++ drop (base + k * cellBytes + cellBytes) work → Filling B bs R P W s base (k + 1) after
-  stored h c q after e =
-      cell-stored B bs R P W s base k work f (omega (arith, count-is)) c q (stored-kept B bs As Rs p j y (v .bytes) detail-there (atOffset (p .shape .axes) k) c q) after e
+module _ {B D : List ℕ} {w : ℕ} {f g : Source} {k t : ℕ} {a b : Cell} (ty : isType t ≡ true) (x : CellHere B D w f k t a)
+    (y : CellHere B D w g k t b) where
+  -- of any code of type t
+  by-code : (c : ℕ) → kindOf c ≡ t → (r : Answer) → codeCell c a b ≡ r → Computes B D (pairing c w f g) k r
+  by-code c e r q = record {
+    first = x .reaches;
+    second = y .reaches;
+    words = λ z. let u : t ≡ FLOAT = sym e ∙ z in (no-nan-from t _ _ a u (x .is), no-nan-from t _ _ b u (y .is));
+    is = rw (e, standing-is t (markAt B D f k) (wordAt B D w f k) a (x .is), standing-is t (markAt B D g k) (wordAt B D w g k) b (y .is)) q;
+  }
 
-  -- the step ends
-  pub ended : n ≤ k → k ≤ n → Doing B bs R P W (s + 1) (base + n * cellBytes) work
-  ended h l =
-      subst (λ (i : ℕ). Doing B bs R P W (s + 1) (base + i * cellBytes) work) (sym count-is)
-      (step-ends B bs R P W s base k work f (omega (arith, count-is)) (omega (arith, count-is)) (result-typed B bs As Rs p j y (v .bytes) detail-there))
+-- a scalar, of any cell
+scalar-here : (B D : List ℕ) (w k t : ℕ) (c : Cell) → filled t w ≡ some c → CellHere B D w (source scalarSide 0) k t c
+unfolding cellFrom
+scalar-here B D w k t c e = record { reaches = record { room = λ z. let y : _≡_ {A = ℕ} 0 1 = cc in absurd (omega arith) }; is = e }
 
-  -- ---- cells moved
+scalar-some : (o : Option Cell) → isScalar o ≡ true → o ≡ some (Option·getD o Empty)
+unfolding isScalar
+scalar-some none e = let y : _≡_ {A = ℕ} 0 1 = cc in absurd (omega arith)
+scalar-some (some c) e = refl
 
-  module _ (h : k < n) where
-    pub mover-asks : moves (j .planned .step .operation) ≡ true → Moving (stepIn bs (j .planned .step)) (axesOf (j .a .array .extent)) (axesOf (j .b .array .extent)) (axesOf (j .planned .result .extent))
-    mover-asks m = moving B bs As Rs p j y (v .bytes) detail-there (ap (λ (x : Step). moves (x .operation)) (y .step) ∙ m)
+-- an array's own cell k
+own-cell : (A : Array) (E : List Axis) (k : ℕ) → A .shape .axes ≡ E → k < cells E → at A (atOffset E k) ≡ getD (A .cells) k Empty
+own-cell A E k e h = rw (← e) (at-inside A (atOffset (A .shape .axes) k) (atOffset-inside (A .shape .axes) k (rw (← e) at h)) ∙ ap (λ (n : ℕ). getD (A .cells) n Empty) (offset-atOffset (A .shape .axes) k (rw (← e) at h)))
 
-    pub mover-cell : k < cells (axesOf (j .planned .result .extent))
-    mover-cell = omega (arith, laid .count)
+module _ {B bs D : List ℕ} {A Z : Array} {p : Planned} {t : Turn} (y : Ready B bs D A Z p t) where
+  abbrev S : Shape
+  S = A .shape
 
-    module _ (o : Origin) (c : Comes (stepIn bs (j .planned .step)) (axesOf (j .a .array .extent)) (axesOf (j .b .array .extent)) (axesOf (j .planned .result .extent)) k o) where
-      pub fetches : Fetches B (take base work) j o
-      fetches =
-          rw earlier
-          (record {
-            first = λ i e. from-a B bs As Rs p j y (v .bytes) detail-there k o c i e .reaches;
-            second = λ i e. from-b B bs As Rs p j y (v .bytes) detail-there k o c i e .reaches;
-          })
+  abbrev U : Shape
+  U = Z .shape
 
-      pub moved-on : (m w : ℕ) → m ≡ originMark B (take base work) j o → w ≡ originWord B (take base work) j o → w < 2 ^ 64 → (after : List ℕ)
-          → after ≡ take (base + k * cellBytes) work ++ (m ∷ leBytes wordBytes w) ++ drop (base + k * cellBytes + cellBytes) work → Filling B bs R P W s base (k + 1) after
-      moved-on m w a b l after e =
-          stored h (originCell o (operandArray As Rs (p .step .a) .cells) (operandArray As Rs (p .step .b) .cells)) (moved-is B bs As Rs p j y (v .bytes) detail-there k o c) after
-          (e ∙ ap (λ (x : List ℕ). take (base + k * cellBytes) work ++ x ++ drop (base + k * cellBytes + cellBytes) work)
-          (by o refl (a ∙ ap (λ (D : List ℕ). originMark B D j o) earlier) (b ∙ ap (λ (D : List ℕ). originWord B D j o) earlier)))
-        where
-          by : (x : Origin) → o ≡ x → m ≡ originMark B (resultBytes Rs) j o → w ≡ originWord B (resultBytes Rs) j o
-              → m ∷ leBytes wordBytes w ≡ encode (originCell o (operandArray As Rs (p .step .a) .cells) (operandArray As Rs (p .step .b) .cells))
-          by Nowhere q a b =
-              ap₂ (λ (x y : ℕ). x ∷ leBytes wordBytes y) (a ∙ ap (originMark B (resultBytes Rs) j) q) (b ∙ ap (originWord B (resultBytes Rs) j) q)
-              ∙ from-none B bs As Rs p j y (v .bytes) detail-there k o c q
-          by (FromA i) q a b =
-              as-written B bs As Rs p j y (v .bytes) detail-there k o c 0 m w i _ (j .left) (from-a B bs As Rs p j y (v .bytes) detail-there k o c i q)
-              (a ∙ ap (originMark B (resultBytes Rs) j) q) (b ∙ ap (originWord B (resultBytes Rs) j) q) l
-          by (FromB i) q a b =
-              as-written B bs As Rs p j y (v .bytes) detail-there k o c 0 m w i _ (j .right) (from-b B bs As Rs p j y (v .bytes) detail-there k o c i q)
-              (a ∙ ap (originMark B (resultBytes Rs) j) q) (b ∙ ap (originWord B (resultBytes Rs) j) q) l
+  typed : isType (S .type) ≡ true
+  typed = y .first .whole .type
+
+  pub result-axes : p .shape .axes ≡ axesOf (t .result .form .extent)
+  result-axes = ap (λ (x : Shape). x .axes) (y .shape)
+
+  pub cells-are : t .result .cells ≡ cells (p .shape .axes)
+  cells-are = y .count ∙ ap cells (sym result-axes)
+
+  -- a cell that the step gives is one of the result's type, and that is a type
+  pub cell-typed : (q : List ℕ) (c : Cell) → cellAt (p .step .operation) (p .step) A Z q ≡ Is c → OfKind (p .shape .type) c
+  cell-typed q c e =
+      rw (y .result) (cell-kept (p .step .operation) (p .step) A Z q c typed (y .first .whole .kept) (y .kept) (y .tested .types) (y .scalar) e)
+
+  pub result-typed : isType (p .shape .type) ≡ true
+  result-typed = rw (y .result) (result-type (p .step .operation) (S .type) typed)
 
   -- ---- cells worked out
 
-  module _ (m : moves (j .planned .step .operation) ≡ false) (q : Pairing) (e : q ≡ pairingFor bs j) where
-    abbrev w : ℕ
-    w = leOf (part (j .planned .step .at + scalarAt) wordBytes bs)
+  module _ (w : Work) (e : p .step .operation ≡ Works w) (n k : ℕ) (v : n ≡ scalarOf (p .step)) (h : k < cells (p .shape .axes)) where
+    abbrev pt : List ℕ
+    pt = atOffset (p .shape .axes) k
 
-    scalar-is : w ≡ scalarOf (p .step)
-    scalar-is = ap leOf (sym (part-part bs (j .planned .step .at) detailBytes scalarAt wordBytes (omega arith))) ∙ ap scalarOf (sym (y .step))
+    abbrev kind : ℕ
+    kind = kindIn (t .a)
 
-    op-is : p .step .operation ≡ j .planned .step .operation
-    op-is = ap (λ (x : Step). x .operation) (y .step)
+    -- the result has A's axes
+    same-axes : p .shape .axes ≡ S .axes
+    unfolding resultAxes
+    same-axes = ap (λ (x : Shape). x .axes) (y .result) ∙ rw e
 
-    -- any cell of the step
-    pub worked-at : (i : ℕ) → i < n
-        → Computes B (take base work) q i (cellAt (p .step .operation) (p .step) (operandArray As Rs (p .step .a)) (operandArray As Rs (p .step .b)) (atOffset (p .shape .axes) i))
-    worked-at i l =
-        rw earlier (computes B bs As Rs p j y w i scalar-is (omega (arith, count-is)) (ap moves op-is ∙ m) q
-        (e ∙ ap (λ (x : Operation). pairingOf x (j .a .array .kind) w (j .left) (j .right)) (sym op-is)))
+    fits : typesFit (Works w) (p .step) (S .type) (U .type) ≡ true
+    fits = subst (λ (op : Operation). typesFit op (p .step) (S .type) (U .type) ≡ true) e (y .tested .types)
 
-    module _ (h : k < n) where
-      pub worked : Computes B (take base work) q k (cellAt (p .step .operation) (p .step) (operandArray As Rs (p .step .a)) (operandArray As Rs (p .step .b)) (atOffset (p .shape .axes) k))
-      worked = worked-at k h
+    kind-typed : isType kind ≡ true
+    kind-typed = rw (kind-is (y .first)) typed
 
-      -- what the loop's call gives: r, of marks and words that it read
-      module _ (a x b z : ℕ) (ma : a ≡ markAt B (take base work) (q .first) k) (na : x ≡ wordAt B (take base work) (q .scalar) (q .first) k)
-          (mb : b ≡ markAt B (take base work) (q .second) k) (nb : z ≡ wordAt B (take base work) (q .scalar) (q .second) k)
-          (r : Answer) (t : r ≡ codeCell (q .code) (standing (kindOf (q .code)) a x) (standing (kindOf (q .code)) b z)) where
-        told : cellIs r
-        told =
-            sym (t ∙ (λ i. codeCell (q .code) (standing (kindOf (q .code)) (ma i) (na i)) (standing (kindOf (q .code)) (mb i) (nb i))) ∙ worked .is)
+    first-cell : CellHere B D n (cellsAt (t .a)) k kind (at A pt)
+    first-cell =
+        rw (own-cell A (p .shape .axes) k (sym same-axes) h) (cell-here (y .first) n k (omega (arith, y .first .whole .full, ap cells same-axes)))
 
-        pub worked-on : (c : Cell) → r ≡ Is c → (after : List ℕ) → after ≡ take (base + k * cellBytes) work ++ encode c ++ drop (base + k * cellBytes + cellBytes) work → Filling B bs R P W s base (k + 1) after
-        worked-on c u after d = stored h c (told ∙ u) after d
+    scalar-cell : isScalar (filled (S .type) (scalarOf (p .step))) ≡ true → CellHere B D n (source scalarSide 0) k kind (scalar (p .step) A)
+    scalar-cell q = scalar-here B D n k kind (scalar (p .step) A) (rw (kind-is (y .first), v) (scalar-some (filled (S .type) (scalarOf (p .step))) q))
 
-        pub stops : (i : ℕ) → r ≡ Refused i → (R' : Refusal) → R' ≡ refusal i (s + 1) (k + 1) → (R' .number ≡ 0 → ⊥) × Stopped B bs R P W R' work
-        stops i u R' d =
-            let x = cell-refuses B bs R P W s base k work f (omega (arith, count-is)) i (told ∙ u) in
-            let z : values As (stepsOf bs P) ≡ refused R' = sym x ∙ ap refused (sym d) in (
-              late (R' .number) (values-late (stepsOf bs P) 1 As [] R' z),
-              record {
-                is = z;
-                long = long (omega arith);
-                rest = rest-there B bs R P W s base k work f (omega (arith, count-is));
-              },
-            )
-          where
-            late : (i : ℕ) → Either i → i ≡ 0 → ⊥
-            late i (inl a) e = omega arith
-            late i (inr b) e = omega arith
+    second-cell : uses (Works w) .b ≡ true → eqb (S .type) (U .type) ≡ true → alike sameLimits (S .axes) (U .axes) ≡ true
+        → CellHere B D n (cellsAt (t .b)) k kind (at Z pt)
+    second-cell u q l =
+        let a = alike-true (S .axes) (U .axes) l in
+        let s = y .second (rw e u) in
+        let i : k < cells (U .axes) = omega (arith, ap cells same-axes, cells-alike (S .axes) (U .axes) a) in
+        let z : kindIn (t .b) ≡ kind = kind-is s ∙ sym (eqb-true (S .type) (U .type) q) ∙ sym (kind-is (y .first)) in
+        rw (same-axes, atOffset-alike (S .axes) (U .axes) k a, own-cell Z (U .axes) k refl i, ← z) (cell-here s n k (omega (arith, s .whole .full)))
+
+    pair-by : (o : PairOp) {f g : Source} {a b : Cell} → takes o (S .type) ≡ true → CellHere B D n f k kind a → CellHere B D n g k kind b
+        → Computes B D (pairing (pairCodeOf kind o) n f g) k (pairCell o a b)
+    pair-by o q c d =
+        let q' : takes o kind ≡ true = rw (kind-is (y .first)) q in
+        by-code kind-typed c d (pairCodeOf kind o) (pair-code-kind kind o kind-typed q') _ (pair-code-cell kind o kind-typed q' _ _)
+
+  pub computes : (w : Work) → p .step .operation ≡ Works w → (n k : ℕ) → n ≡ scalarOf (p .step) → k < cells (p .shape .axes)
+      → Computes B D (pairingOf w n (t .a) (t .b)) k (cellAt (p .step .operation) (p .step) A Z (atOffset (p .shape .axes) k))
+  unfolding cellAt made typesFit takesType agree uses
+  computes (Pair o) e n k v h = rw e (
+      let f = fits (Pair o) e n k v h in
+      let g : (alike sameName (S .axes) (U .axes) && alike sameLimits (S .axes) (U .axes)) ≡ true = rw e at (y .tested .agrees) in
+      pair-by (Pair o) e n k v h o (and-right (eqb (S .type) (U .type)) _ f) (first-cell (Pair o) e n k v h)
+      (second-cell (Pair o) e n k v h refl (and-left _ _ f) (and-right (alike sameName (S .axes) (U .axes)) _ g)))
+  computes (Scalar Right o) e n k v h = rw e (
+      let f = fits (Scalar Right o) e n k v h in
+      pair-by (Scalar Right o) e n k v h o (and-left _ _ f) (first-cell (Scalar Right o) e n k v h) (scalar-cell (Scalar Right o) e n k v h (and-right (takes o (S .type)) _ f)))
+  computes (Scalar Left o) e n k v h = rw e (
+      let f = fits (Scalar Left o) e n k v h in
+      pair-by (Scalar Left o) e n k v h o (and-left _ _ f) (scalar-cell (Scalar Left o) e n k v h (and-right (takes o (S .type)) _ f)) (first-cell (Scalar Left o) e n k v h))
+  computes (Single o) e n k v h = rw e (
+      let c = first-cell (Single o) e n k v h in
+      let q : takesOne o (kindIn (t .a)) ≡ true = rw (kind-is (y .first)) (fits (Single o) e n k v h) in
+      let d = kind-typed (Single o) e n k v h in
+      by-code d c c (singleCodeOf (kindIn (t .a)) o) (single-code-kind (kindIn (t .a)) o d q) _ (single-code-cell (kindIn (t .a)) o d q _ _))
+
+  -- ---- cells moved
+
+  module _ (m : Move) (e : p .step .operation ≡ Moves m) where
+    abbrev E : List Axis
+    E = axesOf (t .a .head .form .extent)
+
+    abbrev F : List Axis
+    F = axesOf (t .b .head .form .extent)
+
+    abbrev G : List Axis
+    G = axesOf (t .result .form .extent)
+
+    first-axes : S .axes ≡ E
+    first-axes = sym (axes-are (y .first))
+
+    second-axes : U .axes ≡ F
+    second-axes = ap (λ (x : Shape). x .axes) (sym (y .other))
+
+    -- what the mover asks
+    pub moving : Moving m (stepIn bs (t .step)) E F G
+    moving = subst (λ (s : Step). Moving m s E F G) (y .step) (record {
+      first = y .small-first;
+      second = y .small-second;
+      result = y .small-result;
+      axis = rw (← first-axes) (subst (λ (op : Operation). axisIn (uses op) (length (S .axes)) (p .step .axis) ≡ true) e (y .tested .axis));
+      agrees = rw (← first-axes, ← second-axes) (subst (λ (op : Operation). agree op (p .step .axis) (S .axes) (U .axes) ≡ true) e (y .tested .agrees));
+      left = S;
+      right = U;
+      left-axes = first-axes;
+      right-axes = second-axes;
+      fits = subst (λ (op : Operation). fitsIn op (p .step) S U ≡ true) e (y .tested .fits);
+      axes = rw (← first-axes, ← second-axes) (sym result-axes ∙ ap (λ (x : Shape). x .axes) (y .result) ∙ ap (λ (op : Operation). resultAxes op (p .step) (S .axes) (U .axes)) e);
+    })
+
+    module _ (k : ℕ) (h : k < cells G) (o : Origin) (is : o ≡ originAt E F (whence m (stepIn bs (t .step)) E F (atOffset G k))) where
+      abbrev from : Whence
+      from = whence m (stepIn bs (t .step)) E F (atOffset G k)
+
+      abbrev cell : Cell
+      cell = originCell o (A .cells) (Z .cells)
+
+      -- the step's cell
+      pub moved-is : cellAt (p .step .operation) (p .step) A Z (atOffset (p .shape .axes) k) ≡ Is cell
+      unfolding cellAt
+      moved-is =
+          ap (λ (op : Operation). cellAt op (p .step) A Z (atOffset (p .shape .axes) k)) e
+          ∙ (λ i. Is (taken A Z (whence m (y .step i) (first-axes i) (second-axes i) (atOffset (result-axes i) k))))
+          ∙ ap Is (taken-origin E F from A Z first-axes second-axes (lies moving h) ∙ ap (λ (o : Origin). originCell o (A .cells) (Z .cells)) (sym is))
+
+      inside : inArray o (cells E) (cells F)
+      inside = rw is (origin-inside E F from (lies moving h))
+
+      -- it is A's cell i, or B's
+      first-here : (i : ℕ) → o ≡ FromA i → CellHere B D 0 (cellsAt (t .a)) i (kindIn (t .a)) cell
+      first-here i q =
+          let l : i < cells E = rw q at inside in
+          rw q (cell-here (y .first) 0 i (omega (arith, y .first .whole .full, ap cells first-axes)))
+
+      second-here : (i : ℕ) → o ≡ FromB i → CellHere B D 0 (cellsAt (t .b)) i (kindIn (t .b)) cell
+      second-here i q =
+          let l : i < cells F = rw q at inside in
+          let u : uses (Moves m) .b ≡ true = second-used m (stepIn bs (t .step)) E F (atOffset G k) i (sym is ∙ q) in
+          let s = y .second (ap (λ (op : Operation). uses op .b) e ∙ u) in
+          rw q (cell-here s 0 i (omega (arith, s .whole .full, ap cells second-axes)))
+
+      pub fetches : Fetches B D (cellsAt (t .a)) (cellsAt (t .b)) o
+      fetches = record { first = λ i q. first-here i q .reaches; second = λ i q. second-here i q .reaches }
+
+      -- its nine bytes, as they were fetched
+      pub as-written : (j n : ℕ) → j ≡ originMark B D (cellsAt (t .a)) (cellsAt (t .b)) o
+          → n ≡ originWord B D (cellsAt (t .a)) (cellsAt (t .b)) o → n < 2 ^ 64
+          → j ∷ leBytes wordBytes n ≡ encode cell
+      unfolding encode
+      as-written j n x z l = by o refl x z
+        where
+          by : (r : Origin) → o ≡ r → j ≡ originMark B D (cellsAt (t .a)) (cellsAt (t .b)) r
+              → n ≡ originWord B D (cellsAt (t .a)) (cellsAt (t .b)) r
+              → j ∷ leBytes wordBytes n ≡ encode cell
+          by Nowhere q x z = rw (q, x, z)
+          by (FromA i) q x z = written (kindIn (t .a)) j n cell l (rw (x, z) (first-here i q .is))
+          by (FromB i) q x z = written (kindIn (t .b)) j n cell l (rw (x, z) (second-here i q .is))

@@ -13,10 +13,10 @@ use Rattle.paper.specs.Limits.{mostAxes}
 use Rattle.paper.specs.Refusals.{refused, between}
 use Rattle.paper.specs.Cells.{isType}
 use Rattle.paper.specs.Bundle.{readArray}
-use Rattle.bundle.specs.declared.One.{One}
-use Rattle.bundle.specs.Read.{none, ReadArray}
+use Rattle.bundle.specs.declared.ArrayRead.{ArrayRead}
+use Rattle.bundle.specs.Read.{noArray, ReadArray}
 use Rattle.bundle.specs.Arrays.{read-none, head-type, head-count, head-short, head-rest}
-use Rattle.bundle.specs.Whole.{range-le}
+use Rattle.laws.specs.Tests.{between-true}
 use Rattle.bundle.proofs.array_at.Statement.{statement}
 use Rattle.bundle.proofs.array_at.Tie as tie
 
@@ -37,7 +37,7 @@ module _ (c : tie.After-byte-at2) where
   abbrev rank : ℕ
   rank = c .byte-at2 .result
 
-  stops : (x : Refusal) → (x .number ≡ 0 → ⊥) → (r : One) → r ≡ none x → refused x ≡ readArray k (drop at bs) → ReadArray bs at k r
+  stops : (x : Refusal) → (x .number ≡ 0 → ⊥) → (r : ArrayRead) → r ≡ noArray x → refused x ≡ readArray k (drop at bs) → ReadArray bs at k r
   stops x h = read-none bs x h at k
 
 -- both are in range
@@ -52,19 +52,19 @@ module _ (c : tie.Else2) where
   ranked = sym (c .before .in-range2 .ensures) ∙ not-false _ (c .if2 .left)
 
   few : rank two ≤ mostAxes
-  few = range-le mostAxes (rank two) ranked
+  few = between-true mostAxes (rank two) ranked .1
 
 returns : tie.Need-returns
 returns c =
     let p = c .before .before .before in
-    stops p _ (λ e. omega arith) (c .refusing .result) (c .refusing .ensures)
+    stops p _ (λ e. omega arith) (c .no-array .result) (c .no-array .ensures)
     (head-type (k p) (bs p) (at p) (kind p) (rank p) (p .before .byte-at .ensures) (p .byte-at2 .ensures) (sym (c .before .before .in-range .ensures) ∙ not-true _ (c .before .if1 .taken)))
 
 returns-2 : tie.Need-returns-2
 returns-2 c =
     let q = c .before .before .before in
     let p = q .before .before in
-    stops p _ (λ e. omega arith) (c .refusing2 .result) (c .refusing2 .ensures)
+    stops p _ (λ e. omega arith) (c .no-array2 .result) (c .no-array2 .ensures)
     (head-count (k p) (bs p) (at p) (kind p) (rank p) (p .before .byte-at .ensures) (p .byte-at2 .ensures) (sym (q .before .in-range .ensures) ∙ not-false _ (q .if1 .left))
     (sym (c .before .before .in-range2 .ensures) ∙ not-true _ (c .before .if2 .taken)))
 
@@ -72,7 +72,7 @@ returns-3 : tie.Need-returns-3
 returns-3 c =
     let q = c .before .before in
     let p = two q in
-    stops p _ (λ e. omega arith) (c .refusing3 .result) (c .refusing3 .ensures)
+    stops p _ (λ e. omega arith) (c .no-array3 .result) (c .no-array3 .ensures)
     (head-short (k p) (bs p) (at p) (kind p) (rank p) (p .before .byte-at .ensures) (p .byte-at2 .ensures) (typed q) (ranked q) (c .before .if3 .taken))
 
 bounds-at-requires : tie.Need-bounds-at-requires

@@ -13,8 +13,8 @@ use Rattle.paper.specs.Refusals.{refused}
 use Rattle.paper.specs.Bundle.{arrayOf}
 use Rattle.paper.specs.Answers.{shapeOf}
 use Rattle.extent.specs.Judged.{cellsWithin}
-use Rattle.bundle.specs.declared.One.{One}
-use Rattle.bundle.specs.Read.{none, JudgedArray}
+use Rattle.bundle.specs.declared.ArrayRead.{ArrayRead}
+use Rattle.bundle.specs.Read.{noArray, JudgedArray}
 use Rattle.bundle.specs.Arrays.{judged-none, of-extent, of-short, of-bad, of-got}
 use Rattle.bundle.proofs.array_of.Statement.{statement}
 use Rattle.bundle.proofs.array_of.Tie as tie
@@ -39,25 +39,25 @@ module _ (c : tie.After-extent-cells) where
   count : n ≡ cellsWithin (shapeOf form .axes) (shapeOf form .maximum)
   count = c .extent-cells .ensures .0
 
-  stops : (x : Refusal) → (x .number ≡ 0 → ⊥) → (r : One) → r ≡ none x → refused x ≡ arrayOf k (shapeOf form) (drop from bs) → JudgedArray bs from k form r
+  stops : (x : Refusal) → (x .number ≡ 0 → ⊥) → (r : ArrayRead) → r ≡ noArray x → refused x ≡ arrayOf k (shapeOf form) (drop from bs) → JudgedArray bs from k form r
   stops x h = judged-none bs x h from k form
 
 returns : tie.Need-returns
 returns c =
     let p = c .before .before in
-    stops p _ (λ e. omega arith) (c .refusing .result) (c .refusing .ensures) (of-extent (k p) (bs p) (from p) (form p) (n p) (count p) (c .before .if1 .taken))
+    stops p _ (λ e. omega arith) (c .no-array .result) (c .no-array .ensures) (of-extent (k p) (bs p) (from p) (form p) (n p) (count p) (c .before .if1 .taken))
 
 returns-2 : tie.Need-returns-2
 returns-2 c =
     let p = c .before .before .before in
-    stops p _ (λ e. omega arith) (c .refusing2 .result) (c .refusing2 .ensures)
+    stops p _ (λ e. omega arith) (c .no-array2 .result) (c .no-array2 .ensures)
     (of-short (k p) (bs p) (from p) (form p) (n p) (count p) (c .before .before .if1 .left) (c .before .if2 .taken))
 
 returns-3 : tie.Need-returns-3
 returns-3 c =
     let b = c .before .before in
     let p = b .before .before .before in
-    stops p _ (λ e. omega arith) (c .refusing3 .result) (c .refusing3 .ensures)
+    stops p _ (λ e. omega arith) (c .no-array3 .result) (c .no-array3 .ensures)
     (of-bad (k p) (bs p) (from p) (form p) (n p) (count p) (b .before .before .if1 .left) (b .before .if2 .left) _ (b .first-bad .ensures .0) (c .before .if3 .taken))
 
 returns-4 : tie.Need-returns-4
@@ -66,7 +66,7 @@ returns-4 c =
     let p = b .before .before .before in
     of-got (k p) (bs p) (from p) (form p) (n p) (count p) (b .before .before .if1 .left) (b .before .if2 .left) _ (b .first-bad .ensures .0)
     (p .before .before .before .before .pre) (c .before .if3 .left) (p .extent-cells .ensures .1) _
-    (λ i. record { refusal = (c .no-refusal .ensures) i; head = record { form = form p; at = from p; cells = n p }; end = from p + n p * cellBytes })
+    (λ i. record { refusal = (c .none .ensures) i; head = record { form = form p; at = from p; cells = n p }; end = from p + n p * cellBytes })
 
 pub array-of-spec : {M : Type 1} → statement M
 array-of-spec =

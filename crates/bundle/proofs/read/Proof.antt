@@ -12,7 +12,8 @@ use Rattle.paper.specs.Limits.{mostArrays}
 use Rattle.paper.specs.Refusals.{between}
 use Rattle.paper.specs.Numbers.{same}
 use Rattle.paper.specs.Bundle.{mark, markBytes}
-use Rattle.bundle.specs.Whole.{Loop, range-le, loop-start, loop-more, loop-refused, all-refused, bundle-mark, bundle-short, bundle-count, bundle-refused, bundle-left, bundle-read}
+use Rattle.laws.specs.Tests.{between-true}
+use Rattle.bundle.specs.Whole.{Loop, loop-start, loop-more, loop-refused, all-refused, bundle-mark, bundle-short, bundle-count, bundle-refused, bundle-left, bundle-read}
 use Rattle.bundle.proofs.read.Statement.{statement}
 use Rattle.bundle.proofs.read.Tie as tie
 
@@ -44,24 +45,24 @@ module _ (c : tie.Else3 Inv-loop μ-loop) where
 returns : tie.Need-returns Inv-loop μ-loop
 returns c =
     let s = now (c .before .before .before .args .s) in
-    all-refused s (c .refusing-all .result) _ (c .refusing-all .ensures) (λ e. omega arith) (bundle-short s (c .before .if1 .taken))
+    all-refused s (c .no-reading .result) _ (c .no-reading .ensures) (λ e. omega arith) (bundle-short s (c .before .if1 .taken))
 
 returns-2 : tie.Need-returns-2 Inv-loop μ-loop
 returns-2 c =
     let s = now (c .before .before .before .before .before .args .s) in
-    all-refused s (c .refusing-all2 .result) _ (c .refusing-all2 .ensures) (λ e. omega arith) (bundle-mark s (sym (c .before .before .is-marked .ensures) ∙ not-true _ (c .before .if2 .taken)))
+    all-refused s (c .no-reading2 .result) _ (c .no-reading2 .ensures) (λ e. omega arith) (bundle-mark s (sym (c .before .before .is-marked .ensures) ∙ not-true _ (c .before .if2 .taken)))
 
 returns-3 : tie.Need-returns-3 Inv-loop μ-loop
 returns-3 c =
     let b = c .before .before .before in
     let p = b .before in
-    all-refused (bs p) (c .refusing-all3 .result) _ (c .refusing-all3 .ensures) (λ e. omega arith)
+    all-refused (bs p) (c .no-reading3 .result) _ (c .no-reading3 .ensures) (λ e. omega arith)
     (bundle-count (bs p) (marked p) _ (b .byte-at .ensures) (sym (c .before .before .in-range .ensures) ∙ not-true _ (c .before .if3 .taken)))
 
 loop-holds : tie.Need-loop-holds Inv-loop μ-loop
 loop-holds c =
     let q = c .before in
-    subst (Loop (bs (its q)) (n q) 0 (markBytes + 1)) (ap (replicate mostArrays) (sym (c .no-head .ensures))) (loop-start (bs (its q)) (n q) (range-le mostArrays (n q) (ranged q)) (omega arith))
+    subst (Loop (bs (its q)) (n q) 0 (markBytes + 1)) (ap (replicate mostArrays) (sym (c .no-head .ensures))) (loop-start (bs (its q)) (n q) (between-true mostArrays (n q) (ranged q) .1) (omega arith))
 
 add-array-at : tie.Need-add-array-at Inv-loop μ-loop
 add-array-at c = omega (arith, c .before .loop .inv .few)
@@ -85,7 +86,7 @@ returns-4 c =
     let o = c .before .before .before .before in
     let q = of o in
     let s = bs (its q) in
-    all-refused s (c .refusing-all4 .result) _ (c .refusing-all4 .ensures) (c .before .if4 .taken)
+    all-refused s (c .no-reading4 .result) _ (c .no-reading4 .ensures) (c .before .if4 .taken)
     (bundle-refused s (marked (its q)) (n q) (q .before .before .byte-at .ensures) (ranged q) (o .array-at .result .refusal)
     (loop-refused (here o .loop .inv) (o .before .loop-test .taken) (o .array-at .ensures) (c .before .if4 .taken)))
 
@@ -109,7 +110,7 @@ returns-5 c =
     let l = w .loop in
     let q = w .before .before in
     let s = bs (its q) in
-    all-refused s (c .refusing-all5 .result) _ (c .refusing-all5 .ensures) (λ e. omega arith)
+    all-refused s (c .no-reading5 .result) _ (c .no-reading5 .ensures) (λ e. omega arith)
     (bundle-left s (marked (its q)) (n q) (q .before .before .byte-at .ensures) (ranged q) (l .inv) (c .before .before .loop-test .left) (c .before .if5 .taken))
 
 returns-6 : tie.Need-returns-6 Inv-loop μ-loop
@@ -118,7 +119,7 @@ returns-6 c =
     let l = w .loop in
     let q = w .before .before in
     bundle-read (bs (its q)) (marked (its q)) (n q) (q .before .before .byte-at .ensures) (ranged q) (l .inv) (c .before .before .loop-test .left) (c .before .if5 .left) _
-    (λ i. record { refusal = (c .no-refusal .ensures) i; count = n q; heads = l .heads })
+    (λ i. record { refusal = (c .none .ensures) i; count = n q; heads = l .heads })
 
 pub read-spec : {M : Type 1} → statement M
 read-spec =

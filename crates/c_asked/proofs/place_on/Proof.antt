@@ -8,8 +8,10 @@ use Rattle.c_asked.proofs.place_on.Tie as tie
 
 returns-2 : tie.Need-returns-2
 returns-2 c =
-    let a = c .before .before .before .before .before .before .args in
-    c .before .before .put4 .ensures ∙ place-moved (now (a .place)) (a .o) (c .before .before .before .before .if1 .left)
+    let p = c .before .before in
+    let e = p .before .before in
+    let a = e .before .before .args in
+    p .put4 .ensures ∙ place-moved (now (a .place)) (a .o) (e .if1 .left)
 
 pub place-on-spec : {M : Type 1} → statement M
 place-on-spec =

@@ -9,8 +9,8 @@ use Rattle.c_asked.proofs.side_form.Tie as tie
 
 returns : tie.Need-returns
 returns c =
-    ap (λ (h : Head). h .form) (c .before .no-head .ensures) ∙ side-other
-    (now (c .before .before .before .before .args .head)) (c .before .before .if1 .taken)
+    let t = c .before .before in
+    ap (λ (h : Head). h .form) (c .before .no-head .ensures) ∙ side-other (now (t .before .before .args .head)) (t .if1 .taken)
 
 pub side-form-spec : {M : Type 1} → statement M
 side-form-spec =

@@ -1,21 +1,16 @@
 -- `c_asked::walk_bytes` meets its contract: the step’s answer, and the place after it where the place stood.
-use denote.Ref.{now}
-use mathlib.Core.Path.{_≡_, ap, _∙_}
+use mathlib.Core.Path.{ap}
 use borrow.Author.Needs.{needs}
-use Rattle.paper.specs.Reference.{Walked, walk}
-use Rattle.c_asked.specs.Asked.{placeAfter}
+use Rattle.paper.specs.Reference.{Walked}
 use Rattle.c_asked.proofs.walk_bytes.Statement.{statement}
 use Rattle.c_asked.proofs.walk_bytes.Tie as tie
 
 returns : tie.Need-returns
 returns c =
-    let a = c .before .before .before .before .before .before .before .before .before .before .args in
-    let e = c .before .before .before .before .before .walk-step .ensures ∙ ap (walk (now (a .s)) (a .k))
-    (c .before .before .before .before .before .before .place-in .ensures) in (
-      ap (λ (w : Walked). w .answer) e,
-      c .before .before .place-on .ensures ∙ ap
-          (λ (w : Walked). placeAfter (w .place) (now (a .place))) e,
-    )
+    let o = c .before .before in
+    let w = o .before .before .before in
+    let e = rw (w .before .place-in .ensures) at (w .walk-step .ensures) in
+    (ap (λ (w : Walked). w .answer) e, rw (ap (λ (w : Walked). w .place) e) at (o .place-on .ensures))
 
 pub walk-bytes-spec : {M : Type 1} → statement M
 walk-bytes-spec =

@@ -8,15 +8,17 @@ use Rattle.c_told.proofs.give.Tie as tie
 
 returns : tie.Need-returns
 returns c =
-    let a = c .before .before .before .before .before .before .before .before .args in
-    given-short (a .reply) (now (a .said)) _ (c .before .before .before .before .before .if1 .taken)
-    (c .before .before .copy-bytes .ensures)
+    let w = c .before .before in
+    let t = w .before .before .before in
+    let a = t .before .before .before .args in
+    given-short (a .reply) (now (a .said)) _ (t .if1 .taken) (w .copy-bytes .ensures)
 
 returns-2 : tie.Need-returns-2
 returns-2 c =
-    let a = c .before .before .before .before .before .before .before .before .args in
-    given-whole (a .reply) (now (a .said)) _ (omega (arith, c .before .before .before .before .before .if1 .left))
-    (c .before .before .copy-bytes2 .ensures)
+    let w = c .before .before in
+    let e = w .before .before .before in
+    let a = e .before .before .before .args in
+    given-whole (a .reply) (now (a .said)) _ (omega (arith, e .if1 .left)) (w .copy-bytes2 .ensures)
 
 pub give-spec : {M : Type 1} → statement M
 give-spec =

@@ -6,7 +6,11 @@ use Rattle.c_told.proofs.of_numbers.Tie as tie
 
 returns : tie.Need-returns
 returns c =
-    four-put _ _ _ _ _ _ _ _ _ _ (c .before .before .before .before .before .before .before .before .before .before .put4 .ensures) (c .before .before .before .before .before .before .before .put42 .ensures) (c .before .before .before .before .put43 .ensures) (c .before .put44 .ensures)
+    let d = c .before in
+    let e = d .before .before .before in
+    let f = e .before .before .before in
+    let g = f .before .before .before in
+    four-put _ _ _ _ _ _ _ _ _ _ (g .put4 .ensures) (f .put42 .ensures) (e .put43 .ensures) (d .put44 .ensures)
 
 pub of-numbers-spec : {M : Type 1} → statement M
 of-numbers-spec =

@@ -8,12 +8,15 @@ use Rattle.c_told.proofs.of_walk.Statement.{statement}
 use Rattle.c_told.proofs.of_walk.Tie as tie
 
 returns-2 : tie.Need-returns-2
-returns-2 c = arm seenBytes seenSaid _ _ _ (c .before .before .before .answer2 .given .1)
-    (arm seenBytes got _ _ _ (c .enum-told .given .1) end-told)
+returns-2 c =
+    arm seenBytes seenSaid _ _ _ (c .before .before .before .answer2 .given .1) (arm seenBytes got _ _ _ (c .enum-told .given .1) end-told)
 
 returns-3 : tie.Need-returns-3
-returns-3 c = arm seenBytes seenSaid _ _ _ (c .before .before .before .before .before .before .before .answer2 .given .1)
-    (arm seenBytes got _ _ _ (c .before .before .before .before .seen .given .1) (held-told _ _ (c .before .write-cell .ensures)))
+returns-3 c =
+    let w = c .before in
+    let s = w .before .before .before in
+    arm seenBytes seenSaid _ _ _ (s .before .before .before .answer2 .given .1)
+    (arm seenBytes got _ _ _ (s .seen .given .1) (held-told _ _ (w .write-cell .ensures)))
 
 pub of-walk-spec : {M : Type 1} → statement M
 of-walk-spec =

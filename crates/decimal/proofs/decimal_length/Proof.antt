@@ -15,13 +15,15 @@ returns : tie.Need-returns
 returns c =
     let n = c .before .before .args .n in
     let t = leading-top 64 (odd n) (omega arith) (omega arith) in
-    sym (long-least n (leadingZeros 64 (odd n)) (t .0) (omega arith) (t .1) (t .2) (t .3) (subst (λ (p : ℕ). n < p) (c .before .smallest .ensures) (c .if1 .taken)))
+    sym (long-least n (leadingZeros 64 (odd n)) (t .0) (omega arith) (t .1) (t .2) (t .3)
+    (subst (λ (p : ℕ). n < p) (c .before .smallest .ensures) (c .if1 .taken)))
 
 returns-2 : tie.Need-returns-2
 returns-2 c =
     let n = c .before .before .args .n in
     let t = leading-top 64 (odd n) (omega arith) (omega arith) in
-    sym (long-more n (leadingZeros 64 (odd n)) (t .0) (omega arith) (t .1) (t .2) (t .3) (subst (λ (p : ℕ). p ≤ n) (c .before .smallest .ensures) (c .if1 .left)))
+    sym (long-more n (leadingZeros 64 (odd n)) (t .0) (omega arith) (t .1) (t .2) (t .3)
+    (subst (λ (p : ℕ). p ≤ n) (c .before .smallest .ensures) (c .if1 .left)))
 
 pub decimal-length-spec : {M : Type 1} → statement M
 decimal-length-spec =

@@ -13,7 +13,12 @@ add-result c = omega (arith, digits-most 19 (c .before .magnitude .result))
 returns : tie.Need-returns
 returns c =
     let f = c .before .before .before .fits .z in
-    omega (arith, decimal-long (c .before .before .before .args .z) (c .before .magnitude .result) (simp (toZ-ofZ f) at (c .before .magnitude .ensures)), simp (toZ-ofZ f) at (c .before .before .sign-length .ensures .0))
+    omega (
+      arith,
+      decimal-long (c .before .before .before .args .z) (c .before .magnitude .result)
+          (simp (toZ-ofZ f) at (c .before .magnitude .ensures)),
+      simp (toZ-ofZ f) at (c .before .before .sign-length .ensures .0),
+    )
 
 pub int-length-spec : {M : Type 1} → statement M
 int-length-spec = tie.close (tie.spec (λ c κs. search needs) (λ c κs. search needs) (λ c κs. search needs) add-result returns)

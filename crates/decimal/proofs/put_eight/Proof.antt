@@ -10,9 +10,13 @@ use Rattle.decimal.proofs.put_eight.Tie as tie
 
 returns : tie.Need-returns
 returns c =
-    let s = c .before .before .before .before .before .before .before .before .before .args in
-    let low = s .n % 100000000 in
-    wrote-both (now (s .out)) (s .at) (four (low / 10000)) (four low) (eight (s .n)) _ _ _ _ (eight-rest (s .n) low (omega arith)) (c .before .before .before .before .before .before .before .before .before .pre) (c .before .before .before .before .before .before .put-four .ensures) (c .before .before .put-four2 .ensures)
+    let w = c .before .before in
+    let p = w .before .before .before .before in
+    let s = p .before .before .before in
+    let low = s .args .n % 100000000 in
+    wrote-both (now (s .args .out)) (s .args .at) (four (low / 10000)) (four low) (eight (s .args .n)) _ _ _ _
+    (eight-rest (s .args .n) low (omega arith))
+    (s .pre) (p .put-four .ensures) (w .put-four2 .ensures)
 
 pub put-eight-spec : {M : Type 1} → statement M
 put-eight-spec = tie.close (tie.spec (λ c κs. search needs) (λ c κs. search needs) (λ c. search needs) returns)

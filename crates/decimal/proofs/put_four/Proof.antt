@@ -10,9 +10,13 @@ use Rattle.decimal.proofs.put_four.Tie as tie
 
 returns : tie.Need-returns
 returns c =
-    let s = c .before .before .before .before .before .before .before .before .before .args in
-    let low = s .n % 10000 in
-    wrote-both (now (s .out)) (s .at) (pair (low / 100)) (pair low) (four (s .n)) _ _ _ _ (four-rest (s .n) low (omega arith)) (c .before .before .before .before .before .before .before .before .before .pre) (c .before .before .before .before .before .before .put-pair .ensures) (c .before .before .put-pair2 .ensures)
+    let w = c .before .before in
+    let p = w .before .before .before .before in
+    let s = p .before .before .before in
+    let low = s .args .n % 10000 in
+    wrote-both (now (s .args .out)) (s .args .at) (pair (low / 100)) (pair low) (four (s .args .n)) _ _ _ _
+    (four-rest (s .args .n) low (omega arith))
+    (s .pre) (p .put-pair .ensures) (w .put-pair2 .ensures)
 
 pub put-four-spec : {M : Type 1} → statement M
 put-four-spec = tie.close (tie.spec (λ c κs. search needs) (λ c κs. search needs) (λ c. search needs) returns)

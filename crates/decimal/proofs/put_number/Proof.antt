@@ -10,14 +10,24 @@ use Rattle.decimal.specs.Digits.{digits-most}
 use Rattle.decimal.proofs.put_number.Statement.{statement}
 use Rattle.decimal.proofs.put_number.Tie as tie
 
+-- the space is written
+module _ (c : tie.After-put-byte) where
+  abbrev start : tie.Start
+  start = c .before .before .before
+
 put-decimal-requires : tie.Need-put-decimal-requires
-put-decimal-requires c κs = omega (arith, digits-most 19 (c .before .before .before .before .before .before .args .n), c .before .before .before .put-byte .ensures .0)
+put-decimal-requires c κs =
+    let b = c .before .before .before in
+    omega (arith, digits-most 19 (start b .args .n), b .put-byte .ensures .0)
 
 returns : tie.Need-returns
 unfolding decimal
 returns c =
-    let s = c .before .before .before .before .before .before .before .before .before .args in
-    wrote-then (now (s .out)) (s .at) (text " ") _ _ (decimal (pos (s .n))) _ _ (omega arith) (c .before .before .before .before .before .before .put-byte .ensures) (c .before .before .put-decimal .ensures)
+    let w = c .before .before in
+    let b = w .before .before .before .before in
+    let s = start b .args in
+    wrote-then (now (s .out)) (s .at) (text " ") _ _ (decimal (pos (s .n))) _ _ (omega arith) (b .put-byte .ensures)
+    (w .put-decimal .ensures)
 
 pub put-number-spec : {M : Type 1} → statement M
 put-number-spec = tie.close (tie.spec (λ c κs. search needs) put-decimal-requires (λ c. search needs) returns)

@@ -10,8 +10,11 @@ use Rattle.decimal.proofs.put_position.Tie as tie
 
 returns : tie.Need-returns
 returns c =
-    let s = c .before .before .before .before .before .before .before .before .before .args in
-    wrote-then (now (s .out)) (s .at) (text " ") _ _ (decimal (position (s .d))) _ _ (omega arith) (c .before .before .before .before .before .before .put-byte .ensures) (c .before .before .put-signed .ensures)
+    let w = c .before .before in
+    let b = w .before .before .before .before in
+    let s = b .before .before .before .args in
+    wrote-then (now (s .out)) (s .at) (text " ") _ _ (decimal (position (s .d))) _ _ (omega arith) (b .put-byte .ensures)
+    (w .put-signed .ensures)
 
 pub put-position-spec : {M : Type 1} → statement M
 put-position-spec = tie.close (tie.spec (λ c κs. search needs) (λ c κs. search needs) (λ c. search needs) returns)

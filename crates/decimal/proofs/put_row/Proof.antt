@@ -16,36 +16,61 @@ Inv-loop rows from rank out₀ at end₀ i₀ out end i = Lining rows (from + li
 abbrev μ-loop : tie.MeasureT-loop
 μ-loop rows from rank out₀ at end₀ i₀ out end i = rank - i
 
+-- the ordinality is written
+module _ (c : tie.After-put-decimal Inv-loop μ-loop) where
+  abbrev start : tie.Start Inv-loop μ-loop
+  start = c .before .before .before .before .before
+
+-- at the loop's head
+module _ (c : tie.At-loop Inv-loop μ-loop) where
+  abbrev o : tie.After-put-decimal Inv-loop μ-loop
+  o = c .before .before .before
+
 put-decimal-requires : tie.Need-put-decimal-requires Inv-loop μ-loop
 put-decimal-requires c κs = omega (arith, digits-most 19 (c .half .result))
 
 loop-holds : tie.Need-loop-holds Inv-loop μ-loop
 loop-holds c =
-    line-begins (now (c .before .before .before .before .before .before .before .args .rows)) (c .before .before .before .before .before .before .before .args .from + limitBytes) (c .before .before .before .before .before .before .before .args .rank) (c .before .before .put-decimal .last .0) (c .before .before .put-decimal .result)
-    (omega (arith, c .before .before .put-decimal .ensures .0, digits-most 19 (c .before .before .before .half .result), c .before .before .put-decimal .kept .0))
+    let p = c .before .before in
+    line-begins (omega (arith, p .put-decimal .ensures .0, digits-most 19 (p .before .half .result), p .put-decimal .kept .0))
 
 position-at-requires : tie.Need-position-at-requires Inv-loop μ-loop
-position-at-requires c κs = record { room = omega (arith, c .before .before .before .before .before .before .before .before .before .before .pre .0, c .before .loop-test .taken) }
+position-at-requires c κs = let t = c .before in record { room = omega (arith, start (o (t .before)) .pre .0, t .loop-test .taken) }
 
 put-position-requires : tie.Need-put-position-requires Inv-loop μ-loop
-put-position-requires c κs = omega (arith, c .before .before .before .loop .inv .room, c .before .before .loop-test .taken)
+put-position-requires c κs = let t = c .before .before in omega (arith, t .before .loop .inv .room, t .loop-test .taken)
 
 loop-again : tie.Need-loop-again Inv-loop μ-loop
 loop-again c =
-    let s = c .before .before .before .before .before .before .before .before .before .before .before .before .before .before .args in
-    line-more (now (s .rows)) (s .from + limitBytes) (s .rank) (c .before .before .before .before .before .before .before .before .before .put-decimal .last .0) (c .before .before .before .before .before .before .before .before .before .put-decimal .result) (c .before .before .before .before .before .before .loop .out) (c .before .before .before .before .before .before .loop .end) (c .before .before .before .before .before .before .loop .i) (c .before .before .before .before .before .before .loop .inv) (c .before .before .before .before .before .loop-test .taken) _ (c .before .before .put-position .result) (c .before .before .put-position .last .0) (c .before .before .before .position-at .ensures) (c .before .before .put-position .ensures)
+    let w = c .before .before in
+    let t = w .before .before .before in
+    line-more (t .before .loop .inv) (t .loop-test .taken) (w .before .position-at .ensures) (w .put-position .ensures)
 
 put-byte-requires : tie.Need-put-byte-requires Inv-loop μ-loop
 put-byte-requires c κs = omega (arith, c .before .before .loop .inv .room)
 
+-- the line is ended
+module _ (c : tie.After-put-byte Inv-loop μ-loop) where
+  abbrev done : tie.After-loop Inv-loop μ-loop
+  done = c .before .before
+
+  abbrev last : tie.At-loop Inv-loop μ-loop
+  last = done .before
+
 same-length : tie.Need-same-length Inv-loop μ-loop
-same-length c = c .before .before .put-byte .kept .0 ∙ c .before .before .before .before .before .loop .inv .long ∙ c .before .before .before .before .before .before .before .before .put-decimal .kept .0
+same-length c =
+    let w = c .before .before in
+    w .put-byte .kept .0 ∙ last w .loop .inv .long ∙ o (last w) .put-decimal .kept .0
 
 returns : tie.Need-returns Inv-loop μ-loop
 returns c =
-    let s = c .before .before .before .before .before .before .before .before .before .before .before .before .before .args in
-    let rest = line-ends (now (s .rows)) (s .from + limitBytes) (s .rank) (c .before .before .before .before .before .before .before .before .put-decimal .last .0) (c .before .before .before .before .before .before .before .before .put-decimal .result) (c .before .before .before .before .before .loop .out) (c .before .before .before .before .before .loop .end) (c .before .before .before .before .before .loop .i) (c .before .before .before .before .before .loop .inv) (c .before .before .before .before .loop-test .left) (c .before .before .put-byte .result) (c .before .before .put-byte .last .0) (c .before .before .put-byte .ensures) in
-    line-wrote (now (s .rows)) (s .from) (s .rank) (now (s .out)) (s .at) (c .before .before .before .before .before .before .before .before .put-decimal .result) (c .before .before .before .before .before .before .before .before .put-decimal .last .0) _ _ (c .before .before .before .before .before .before .before .before .before .before .before .before .before .pre .1) (c .before .before .before .before .before .before .before .before .before .half .result) (c .before .before .before .before .before .before .before .before .before .half .ensures) (c .before .before .before .before .before .before .before .before .put-decimal .ensures) rest
+    let w = c .before .before in
+    let p = o (last w) in
+    let s = start p in
+    let rest =
+    line-ends (last w .loop .inv) (done w .loop-test .left) (w .put-byte .result) (w .put-byte .last .0) (w .put-byte .ensures) in
+    line-wrote (now (s .args .rows)) (s .args .from) (s .args .rank) (now (s .args .out)) (s .args .at) _ _ _ _ (s .pre .1)
+    _ (p .before .half .ensures) (p .put-decimal .ensures) rest
 
 pub put-row-spec : {M : Type 1} → statement M
 put-row-spec =

@@ -12,22 +12,38 @@ use Rattle.decimal.specs.Digits.{digits-most, decimal-below, decimal-fro
 use Rattle.decimal.proofs.put_signed.Statement.{statement}
 use Rattle.decimal.proofs.put_signed.Tie as tie
 
+-- the sign is written
+module _ (c : tie.After-put-byte) where
+  abbrev below : tie.Then1
+  below = c .before .before
+
+  abbrev start : tie.Start
+  start = below .before .before
+
 put-decimal-requires : tie.Need-put-decimal-requires
-put-decimal-requires c κs = omega (arith, digits-most 19 (reach - c .before .before .before .before .before .before .before .args .d), c .before .before .before .put-byte .ensures .0)
+put-decimal-requires c κs =
+    let b = c .before .before .before in
+    omega (arith, digits-most 19 (reach - start b .args .d), b .put-byte .ensures .0)
 
 returns : tie.Need-returns
 returns c =
-    let s = c .before .before .before .before .before .before .before .before .before .before .args in
-    wrote-as (now (s .out)) (s .at) (text "-" ++ digits 19 (reach - s .d)) (decimal (position (s .d))) _ _ (decimal-below (s .d) (c .before .before .before .before .before .before .before .before .if1 .taken))
-    (wrote-then (now (s .out)) (s .at) (text "-") _ _ (digits 19 (reach - s .d)) _ _ (omega arith) (c .before .before .before .before .before .before .put-byte .ensures) (c .before .before .put-decimal .ensures))
+    let w = c .before .before in
+    let b = w .before .before .before .before in
+    let s = start b .args in
+    let x = digits 19 (reach - s .d) in
+    wrote-as (now (s .out)) (s .at) (text "-" ++ x) (decimal (position (s .d))) _ _ (decimal-below (s .d) (below b .if1 .taken))
+    (wrote-then (now (s .out)) (s .at) (text "-") _ _ x _ _ (omega arith) (b .put-byte .ensures) (w .put-decimal .ensures))
 
 put-decimal-requires-2 : tie.Need-put-decimal-requires-2
 put-decimal-requires-2 c κs = omega (arith, digits-most 19 (c .before .before .before .args .d - reach))
 
 returns-2 : tie.Need-returns-2
 returns-2 c =
-    let s = c .before .before .before .before .before .before .args in
-    wrote-as (now (s .out)) (s .at) (digits 19 (s .d - reach)) (decimal (position (s .d))) _ _ (decimal-from (s .d) (c .before .before .before .before .if1 .left)) (c .before .before .put-decimal2 .ensures)
+    let w = c .before .before in
+    let e = w .before .before in
+    let s = e .before .before .args in
+    wrote-as (now (s .out)) (s .at) (digits 19 (s .d - reach)) (decimal (position (s .d))) _ _ (decimal-from (s .d) (e .if1 .left))
+    (w .put-decimal2 .ensures)
 
 pub put-signed-spec : {M : Type 1} → statement M
 put-signed-spec =

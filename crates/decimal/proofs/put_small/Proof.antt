@@ -20,7 +20,10 @@ add-result : tie.Need-add-result
 add-result c = omega (arith, last-place (c .args .n) (c .pre .0))
 
 returns : tie.Need-returns
-returns c = (omega (arith, last-place (c .args .n) (c .pre .0)), small-stored (now (c .args .out)) (c .args .at) (c .args .n) (c .pre .0) (c .pre .1))
+returns c = (
+  omega (arith, last-place (c .args .n) (c .pre .0)),
+  small-stored (now (c .args .out)) (c .args .at) (c .args .n) (c .pre .0) (c .pre .1),
+)
 
 pub put-small-spec : {M : Type 1} → statement M
 put-small-spec =

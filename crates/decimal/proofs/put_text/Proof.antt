@@ -7,8 +7,9 @@ use Rattle.decimal.proofs.put_text.Tie as tie
 
 returns : tie.Need-returns
 returns c =
-    let s = c .before .before .before .before .before .before .args in
-    copy-wrote (now (s .s)) (now (s .out)) (s .at) _ (c .before .before .copy-bytes .ensures)
+    let w = c .before .before in
+    let s = w .before .before .before .before .args in
+    copy-wrote (now (s .s)) (now (s .out)) (s .at) _ (w .copy-bytes .ensures)
 
 pub put-text-spec : {M : Type 1} → statement M
 put-text-spec = tie.close (tie.spec (λ c κs. search needs) (λ c. search needs) (λ c. search needs) returns)

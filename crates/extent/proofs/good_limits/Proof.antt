@@ -28,10 +28,10 @@ loop-holds : tie.Need-loop-holds Inv-loop μ-loop
 loop-holds c = refl
 
 returns : tie.Need-returns Inv-loop μ-loop
-returns c = sym (turn (c .before .before .before) ∙ rw (sym (c .before .in-range .ensures) ∙ not-true _ (c .if1 .taken)))
+returns c = sym (turn (c .before .before .before) ∙ rw (sym (c .before .axis-in-range .ensures) ∙ not-true _ (c .if1 .taken)))
 
 loop-again : tie.Need-loop-again Inv-loop μ-loop
-loop-again c = sym (turn (c .before .before .before) ∙ rw (sym (c .before .in-range .ensures) ∙ not-false _ (c .if1 .left)))
+loop-again c = sym (turn (c .before .before .before) ∙ rw (sym (c .before .axis-in-range .ensures) ∙ not-false _ (c .if1 .left)))
 
 returns-2 : tie.Need-returns-2 Inv-loop μ-loop
 returns-2 c = limits-end (c .before .before .before .args .t1) (c .before .before .rank-of .result) (c .before .before .rank-of .ensures) (c .before .loop .i) (c .loop-test .left) ∙ c .before .loop .inv

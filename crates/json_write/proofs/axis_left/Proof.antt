@@ -12,8 +12,10 @@ use Rattle.json_write.proofs.axis_left.Tie as tie
 returns : tie.Need-returns
 returns c =
     let a = c .before .before .args in
-    let h : c .before .rank-of .result - a .left + 1 - 1 ≡ length (axesOf (a .e)) - a .left = omega (arith, c .before .rank-of .ensures .number) in
+    let h : c .before .rank-of .result - a .left + 1 - 1 ≡ length (axesOf (a .e)) - a .left =
+    omega (arith, c .before .rank-of .ensures .number) in
     c .axis-of .ensures ∙ ap (λ (n : ℕ). getD (axesOf (a .e)) n noAxis) h
 
 pub axis-left-spec : {M : Type 1} → statement M
-axis-left-spec = tie.close (tie.spec (λ c κs. search needs) (λ c. search needs) (λ c. search needs) (λ c. search needs) (λ c κs. search needs) returns)
+axis-left-spec =
+    tie.close (tie.spec (λ c κs. search needs) (λ c. search needs) (λ c. search needs) (λ c. search needs) (λ c κs. search needs) returns)

@@ -16,7 +16,9 @@ returns-2 : tie.Need-returns-2
 returns-2 c =
     let z = c .before .before .c .given .0 .0 in
     let fx : SFits w64 z = sfits-of (search needs) in
-    c .int-length .ensures ∙ sym (ap length (cell-int (c .before .before .before .before .args .c) z (toZ w64 (ofZ w64 z)) (c .before .before .c .given .1) (toZ-ofZ fx)))
+    c .int-length .ensures ∙ sym
+    (ap length (cell-int (c .before .before .before .before .args .c) z (toZ w64 (ofZ w64 z)) (c .before .before .c .given .1)
+    (toZ-ofZ fx)))
 
 returns-3 : tie.Need-returns-3
 returns-3 c = sym (ap length (cell-float (c .before .before .args .c) _ (c .enum-told2 .given .1)))

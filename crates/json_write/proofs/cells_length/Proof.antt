@@ -7,6 +7,7 @@ use lib.ListN.{length}
 use denote.Ref.{now}
 use borrow.Author.Needs.{needs}
 use Rattle.paper.specs.declared.Cell.{Cell}
+use Rattle.paper.specs.Limits.{mostCells}
 use Rattle.paper.specs.Json.{cellText}
 use Rattle.decimal.specs.Digits.{mostSigned}
 use Rattle.json_write.specs.Lengths.{cellsLong, long-more, long-end, long-most, cell-most}
@@ -15,45 +16,63 @@ use Rattle.json_write.proofs.cells_length.Statement.{statement}
 use Rattle.json_write.proofs.cells_length.Tie as tie
 
 abbrev Inv-loop : tie.InvT-loop
-Inv-loop s from kind n long₀ i₀ long i = (i ≤ n) × (long + cellsLong (cellBy s from kind) i (n - i) ≡ cellsLong (cellBy s from kind) 0 n)
+Inv-loop s from kind n long₀ i₀ long i =
+    (i ≤ n) × (long + cellsLong (cellBy s from kind) i (n - i) ≡ cellsLong (cellBy s from kind) 0 n)
 
 abbrev μ-loop : tie.MeasureT-loop
 μ-loop s from kind n long₀ i₀ long i = n - i
 
-loop-holds : tie.Need-loop-holds Inv-loop μ-loop
-loop-holds c =
-    let a = c .before .args in
-    let e : a .n - 0 ≡ a .n = omega arith in
-    (omega arith, omega (arith, ap (λ (m : ℕ). cellsLong (cellBy (now (a .s)) (a .from) (a .kind)) 0 m) e))
+-- the cells by their index
+module _ (c : tie.Start Inv-loop μ-loop) where
+  abbrev f : ℕ → Cell
+  f = cellBy (now (c .args .s)) (c .args .from) (c .args .kind)
+
+  abbrev n : ℕ
+  n = c .args .n
 
 -- one cell more
 module _ (c : tie.After-cell-length Inv-loop μ-loop) where
-  abbrev f : ℕ → Cell
-  f = cellBy (now (c .before .before .before .before .before .args .s)) (c .before .before .before .before .before .args .from) (c .before .before .before .before .before .args .kind)
+  abbrev l : tie.At-loop Inv-loop μ-loop
+  l = c .before .before .before
 
-  counted : c .cell-length .result ≡ length (cellText (f (c .before .before .before .loop .i)))
+  abbrev s : tie.Start Inv-loop μ-loop
+  s = l .before .before
+
+  abbrev i : ℕ
+  i = l .loop .i
+
+  counted : c .cell-length .result ≡ length (cellText (f s i))
   counted = c .cell-length .ensures ∙ ap (λ (x : Cell). length (cellText x)) (c .before .held-cell .ensures)
 
-  more : cellsLong f (c .before .before .before .loop .i) (c .before .before .before .before .before .args .n - c .before .before .before .loop .i) ≡ length (cellText (f (c .before .before .before .loop .i))) + cellsLong f (c .before .before .before .loop .i + 1) (c .before .before .before .before .before .args .n - (c .before .before .before .loop .i + 1))
-  more = long-more f (c .before .before .before .loop .i) (c .before .before .before .before .before .args .n) (c .before .before .loop-test .taken)
+  more : cellsLong (f s) i (n s - i) ≡ length (cellText (f s i)) + cellsLong (f s) (i + 1) (n s - (i + 1))
+  more = long-more (f s) i (n s) (c .before .before .loop-test .taken)
 
-  few : cellsLong f 0 (c .before .before .before .before .before .args .n) ≤ 4096 * mostSigned
-  few = omega (arith, long-most f mostSigned (λ k. cell-most (f k)) (c .before .before .before .before .before .args .n) 0, mul-le-mul-right mostSigned (c .before .before .before .before .before .pre .1))
+  few : cellsLong (f s) 0 (n s) ≤ mostCells * mostSigned
+  few = omega (arith, long-most (f s) mostSigned (λ k. cell-most (f s k)) (n s) 0, mul-le-mul-right mostSigned (s .pre .1))
+
+loop-holds : tie.Need-loop-holds Inv-loop μ-loop
+loop-holds c =
+    let s = c .before in
+    let e : n s - 0 ≡ n s = omega arith in
+    (omega arith, omega (arith, ap (cellsLong (f s) 0) e))
 
 held-cell-requires : tie.Need-held-cell-requires Inv-loop μ-loop
 held-cell-requires c κs = omega (arith, c .before .before .before .pre .0)
 
 add-long : tie.Need-add-long Inv-loop μ-loop
-add-long c = omega (arith, c .before .before .before .loop .inv .1, counted c, more c, few c)
+add-long c = omega (arith, l c .loop .inv .1, counted c, more c, few c)
 
 add-i : tie.Need-add-i Inv-loop μ-loop
-add-i c = omega (arith, c .before .before .before .before .before .pre .1)
+add-i c = omega (arith, s c .pre .1)
 
 loop-again : tie.Need-loop-again Inv-loop μ-loop
-loop-again c = (omega arith, omega (arith, c .before .before .before .loop .inv .1, counted c, more c))
+loop-again c = (omega arith, omega (arith, l c .loop .inv .1, counted c, more c))
 
 returns : tie.Need-returns Inv-loop μ-loop
-returns c = omega (arith, c .before .loop .inv .1, long-end (cellBy (now (c .before .before .before .args .s)) (c .before .before .before .args .from) (c .before .before .before .args .kind)) (c .before .loop .i) (c .before .before .before .args .n) (c .loop-test .left))
+returns c =
+    let v = c .before .loop in
+    let s = c .before .before .before in
+    omega (arith, v .inv .1, long-end (f s) (v .i) (n s) (c .loop-test .left))
 
 pub cells-length-spec : {M : Type 1} → statement M
 cells-length-spec =

@@ -24,20 +24,25 @@ module _ (c : tie.After-cells-length) where
   its = c .before .before .before
 
   long : length (jsonAt (now (its .args .s)) (its .args .from) (its .args .kind) (axesOf (its .args .extent)))
-      ≡ 9 + marks (axesOf (its .args .extent)) + cellsLong (cellBy (now (its .args .s)) (its .args .from) (its .args .kind)) 0 (its .args .n)
+      ≡ 9 + marks (axesOf (its .args .extent)) + cellsLong (cellBy (now (its .args .s)) (its .args .from) (its .args .kind)) 0
+      (its .args .n)
   long = whole-long (its .args .kind) (its .pre .0) (its .args .n) (its .pre .1)
 
 add-result : tie.Need-add-result
-add-result c = omega (arith, c .cells-length .ensures, c .before .marks-of .ensures, long c, whole-short (its c .args .kind) (its c .pre .0))
+add-result c =
+    omega (arith, c .cells-length .ensures, c .before .marks-of .ensures, long c, whole-short (its c .args .kind) (its c .pre .0))
 
 add-result-2 : tie.Need-add-result-2
-add-result-2 c = omega (arith, c .cells-length .ensures, c .before .marks-of .ensures, long c, whole-short (its c .args .kind) (its c .pre .0))
+add-result-2 c =
+    omega (arith, c .cells-length .ensures, c .before .marks-of .ensures, long c, whole-short (its c .args .kind) (its c .pre .0))
 
 returns : tie.Need-returns
 returns c =
     let e = long c in
-    let s = whole-short (its c .args .kind) (its c .pre .0) in
-    (omega (arith, c .cells-length .ensures, c .before .marks-of .ensures, e), omega (arith, c .cells-length .ensures, c .before .marks-of .ensures, e, s))
+    let s = whole-short (its c .args .kind) (its c .pre .0) in (
+      omega (arith, c .cells-length .ensures, c .before .marks-of .ensures, e),
+      omega (arith, c .cells-length .ensures, c .before .marks-of .ensures, e, s),
+    )
 
 pub json-length-spec : {M : Type 1} → statement M
 json-length-spec = tie.close (tie.spec marks-of-requires cells-length-requires add-result add-result-2 returns)

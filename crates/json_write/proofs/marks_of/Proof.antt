@@ -1,9 +1,11 @@
 -- `json_write::marks_of` meets its contract: from the last axis to the first, n is the marks of the axes done.
 use Prim.Native.Nat.{ℕ, _+_, _-_, _*_, _≤_}
+use mathlib.Core.List.{List}
 use mathlib.Core.Path.{_≡_, ap, ap₂, subst, sym, _∙_}
 use native.Mathlib.Omega.{arith}
 use borrow.Author.Needs.{needs}
 use lib.ListN.{drop, take}
+use Rattle.paper.specs.declared.Axis.{Axis}
 use Rattle.laws.specs.Limits.{Sound}
 use Rattle.laws.specs.Loops.{drop-none, sound-first}
 use Rattle.paper.specs.Axes.{cells, noAxis}
@@ -18,25 +20,45 @@ Inv-loop e rank n₀ i₀ n i = (i ≤ rank) × (n ≡ marks (drop i (take rank 
 abbrev μ-loop : tie.MeasureT-loop
 μ-loop e rank n₀ i₀ n i = i
 
-sound : (c : tie.After-rank-of Inv-loop μ-loop) → Sound (take (c .rank-of .result) (c .before .args .t1 .axes))
-sound c = subst Sound (sym (c .rank-of .ensures .first)) (c .before .pre .0)
+-- the axes are counted
+module _ (c : tie.After-rank-of Inv-loop μ-loop) where
+  abbrev axes : List Axis
+  axes = c .before .args .t1 .axes
 
+  abbrev rank : ℕ
+  rank = c .rank-of .result
+
+  sound : Sound (take rank axes)
+  sound = subst Sound (sym (c .rank-of .ensures .first)) (c .before .pre .0)
+
+-- one axis more
 module _ (c : tie.After-width-of Inv-loop μ-loop) where
-  turn : 1 + c .width-of .result + c .width-of .result * c .before .before .before .loop .n ≡ marks (drop (c .before .before .before .loop .i - 1) (take (c .before .before .before .before .rank-of .result) (c .before .before .before .before .before .args .t1 .axes)))
-  turn =
-      ap₂ (λ (w n : ℕ). 1 + w + w * n) (c .width-of .ensures .0) (c .before .before .before .loop .inv .1)
-      ∙ sym (marks-down (c .before .before .before .before .before .args .t1 .axes) (c .before .before .before .before .rank-of .result) (c .before .before .before .before .rank-of .ensures .room) (c .before .before .before .loop .i) noAxis (omega arith) (omega arith))
+  abbrev l : tie.At-loop Inv-loop μ-loop
+  l = c .before .before .before
 
-  few : marks (drop (c .before .before .before .loop .i - 1) (take (c .before .before .before .before .rank-of .result) (c .before .before .before .before .before .args .t1 .axes))) ≤ 2 * (mostAxes * mostCells)
-  few = marks-bound (c .before .before .before .before .before .args .t1 .axes) (c .before .before .before .before .rank-of .result) (c .before .before .before .before .rank-of .ensures .room) (c .before .before .before .loop .i - 1) (sound (c .before .before .before .before)) (c .before .before .before .before .rank-of .ensures .few) (omega (arith, ap cells (c .before .before .before .before .rank-of .ensures .first), c .before .before .before .before .before .pre .1))
+  abbrev s : tie.After-rank-of Inv-loop μ-loop
+  s = l .before
+
+  abbrev w : ℕ
+  w = c .width-of .result
+
+  turn : 1 + w + w * l .loop .n ≡ marks (drop (l .loop .i - 1) (take (rank s) (axes s)))
+  turn =
+      ap₂ (λ (w n : ℕ). 1 + w + w * n) (c .width-of .ensures .0) (l .loop .inv .1)
+      ∙ sym (marks-down (axes s) (rank s) (s .rank-of .ensures .room) (l .loop .i) noAxis (omega arith) (omega arith))
+
+  few : marks (drop (l .loop .i - 1) (take (rank s) (axes s))) ≤ 2 * (mostAxes * mostCells)
+  few =
+      let r = s .rank-of .ensures in
+      marks-bound (axes s) (rank s) (r .room) (l .loop .i - 1) (sound s) (r .few) (omega (arith, ap cells (r .first), s .before .pre .1))
 
 loop-holds : tie.Need-loop-holds Inv-loop μ-loop
-loop-holds c = (omega arith, marks-end (c .before .args .t1 .axes) (c .rank-of .result) (c .rank-of .ensures .room))
+loop-holds c = (omega arith, marks-end (axes c) (rank c) (c .rank-of .ensures .room))
 
 width-of-requires : tie.Need-width-of-requires Inv-loop μ-loop
 width-of-requires c κs =
     let s = c .before .before .before in
-    sound-first (s .before .args .t1 .axes) (s .rank-of .result) (s .rank-of .ensures .room) (c .before .before .loop .i - 1) noAxis (sound s) (omega arith)
+    sound-first (axes s) (rank s) (s .rank-of .ensures .room) (c .before .before .loop .i - 1) noAxis (sound s) (omega arith)
 
 add-n : tie.Need-add-n Inv-loop μ-loop
 add-n c = omega (arith, turn c, few c)
@@ -53,7 +75,8 @@ loop-again c = (omega arith, turn c)
 returns : tie.Need-returns Inv-loop μ-loop
 returns c =
     let s = c .before .before in
-    c .before .loop .inv .1 ∙ ap marks (drop-none (take (s .rank-of .result) (s .before .args .t1 .axes)) (c .before .loop .i) (omega arith) ∙ s .rank-of .ensures .first)
+    let v = c .before .loop in
+    v .inv .1 ∙ ap marks (drop-none (take (rank s) (axes s)) (v .i) (omega arith) ∙ s .rank-of .ensures .first)
 
 pub marks-of-spec : {M : Type 1} → statement M
 marks-of-spec =

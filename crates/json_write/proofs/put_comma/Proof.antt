@@ -15,13 +15,22 @@ returns c =
     let a = c .before .before .args in
     stored-as (now (a .out)) (a .at) [] _ _ _ (comma-none (a .more) (c .if1 .taken)) (omega arith, refl)
 
+-- more follows
+module _ (c : tie.Else1) where
+  abbrev start : tie.Start
+  start = c .before .before
+
 put-requires : tie.Need-put-requires
-put-requires c κs = omega (arith, c .before .before .before .pre, ap length (comma-some (c .before .before .before .args .more) (c .before .if1 .left)))
+put-requires c κs =
+    let e = c .before in
+    omega (arith, start e .pre, ap length (comma-some (start e .args .more) (e .if1 .left)))
 
 returns-2 : tie.Need-returns-2
 returns-2 c =
-    let a = c .before .before .before .before .before .before .args in
-    stored-as (now (a .out)) (a .at) (44 ∷ []) _ _ _ (comma-some (a .more) (c .before .before .before .before .if1 .left)) (c .before .before .put .ensures)
+    let w = c .before .before in
+    let e = w .before .before in
+    let a = start e .args in
+    stored-as (now (a .out)) (a .at) (44 ∷ []) _ _ _ (comma-some (a .more) (e .if1 .left)) (w .put .ensures)
 
 pub put-comma-spec : {M : Type 1} → statement M
 put-comma-spec = tie.close (tie.spec returns put-requires (λ c. search needs) returns-2)

@@ -22,7 +22,12 @@ module _ (c : tie.Else1) where
   upto : axisNo (c .before .args .t1) (c .before .args .rank - 1) .hi ≤ 2 * reach
   upto =
       let a = c .before .args in
-      omega (arith, same, sound-at (axesOf (a .t1)) (a .rank - 1) noAxis (c .before .pre .0 .sound) (omega (arith, c .if1 .left, c .before .pre .1 .number)))
+      omega (
+        arith,
+        same,
+        sound-at (axesOf (a .t1)) (a .rank - 1) noAxis (c .before .pre .0 .sound)
+            (omega (arith, c .if1 .left, c .before .pre .1 .number)),
+      )
 
 add-result : tie.Need-add-result
 add-result c = record { fits = omega (arith, upto (c .before .before)) }

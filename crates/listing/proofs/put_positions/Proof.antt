@@ -22,51 +22,70 @@ abbrev μ-loop : tie.MeasureT-loop
 μ-loop d₀ at n p i₀ d i = n - i
 
 module _ (c : tie.Start Inv-loop μ-loop) where
+  abbrev d : List ℕ
+  d = now (c .args .d)
+
   abbrev p : List ℕ
   p = take (c .args .n) (c .args .t4 .at)
 
   long : length (take (c .args .n) (c .args .t4 .at)) ≡ c .args .n
-  long = let l : length (c .args .t4 .at) ≡ mostAxes = search needs in length-take-le (c .args .n) (c .args .t4 .at) (omega (arith, c .pre .0))
+  long =
+      let l : length (c .args .t4 .at) ≡ mostAxes = search needs in
+      length-take-le (c .args .n) (c .args .t4 .at) (omega (arith, c .pre .0))
 
   fit : c .args .at + length (take (c .args .n) (c .args .t4 .at)) * limitBytes ≤ length (now (c .args .d))
   fit = omega (arith, long, c .pre .1)
 
+-- in a turn of the loop
+module _ (c : tie.In-loop Inv-loop μ-loop) where
+  abbrev s : tie.Start Inv-loop μ-loop
+  s = c .before .before .before
+
+-- its position is put
+module _ (c : tie.After-put4 Inv-loop μ-loop) where
+  abbrev turn : tie.In-loop Inv-loop μ-loop
+  turn = c .before .before .before .before
+
 loop-holds : tie.Need-loop-holds Inv-loop μ-loop
-loop-holds c = let s = c .before in put-start (p s) (now (s .args .d)) (s .args .at) (fit s)
+loop-holds c = let q = c .before in put-start (p q) (d q) (q .args .at) (fit q)
 
 mul-put4 : tie.Need-mul-put4 Inv-loop μ-loop
-mul-put4 c = omega (arith, c .before .before .before .before .pre .0)
+mul-put4 c = omega (arith, s (c .before) .pre .0)
 
 add-put4 : tie.Need-add-put4 Inv-loop μ-loop
-add-put4 c = let s = c .before .before .before .before in omega (arith, long s, fit s)
+add-put4 c = let q = s (c .before) in omega (arith, long q, fit q)
 
 element-copy-out-bits-of : tie.Need-element-copy-out-bits-of Inv-loop μ-loop
-element-copy-out-bits-of c = omega (arith, c .before .before .before .before .pre .0)
+element-copy-out-bits-of c = omega (arith, s (c .before) .pre .0)
 
 put4-requires : tie.Need-put4-requires Inv-loop μ-loop
-put4-requires c κs = let s = c .before .before .before .before .before .before in omega (arith, long s, fit s, c .before .before .before .before .loop .inv .long)
+put4-requires c κs =
+    let t = c .before .before .before in
+    omega (arith, long (s t), fit (s t), t .before .loop .inv .long)
 
 add-i : tie.Need-add-i Inv-loop μ-loop
-add-i c = omega (arith, c .before .before .before .before .before .before .before .before .before .pre .0)
+add-i c = omega (arith, s (turn (c .before .before)) .pre .0)
 
 loop-again : tie.Need-loop-again Inv-loop μ-loop
 loop-again c =
-    let s = c .before .before .before .before .before .before .before .before .before in
-    let a = s .args in
-    let v = c .before .before .before .before .before .before .before .loop in
-    let h = c .before .before .before .before .before .before .loop-test .taken in
-    let e = c .before .before .before .bits-of .ensures ∙ sym (ap (λ (x : ℕ). ofZ w32 (position x)) (getD-take (a .n) (a .t4 .at) (v .i) 0 h)) in
-    put-more (p s) (now (a .d)) (a .at) (fit s) (v .d) (v .i) (v .inv) (omega (arith, long s)) _ e (c .before .before .put4 .last .0) (c .before .before .put4 .ensures)
+    let w = c .before .before in
+    let t = turn w in
+    let q = s t in
+    let a = q .args in
+    let v = t .before .loop in
+    let f = getD-take (a .n) (a .t4 .at) (v .i) 0 (t .loop-test .taken) in
+    let e = w .before .bits-of .ensures ∙ sym (ap (λ (x : ℕ). ofZ w32 (position x)) f) in
+    put-more (p q) (d q) (a .at) (fit q) (v .d) (v .i) (v .inv) (omega (arith, long q)) _ e (w .put4 .last .0) (w .put4 .ensures)
 
 same-length : tie.Need-same-length Inv-loop μ-loop
 same-length c = c .before .loop .inv .long
 
 returns : tie.Need-returns Inv-loop μ-loop
 returns c =
-    let s = c .before .before .before in
-    let a = s .args in
+    let q = c .before .before .before in
     let v = c .before .loop in
-    put-end (p s) (now (a .d)) (a .at) (fit s) (v .d) (v .i) (v .inv) (omega (arith, long s)) ∙ ap (λ (j : ℕ). paste (now (a .d)) (a .at) (positionsBytes (p s)) (j * limitBytes)) (long s)
+    put-end (p q) (d q) (q .args .at) (fit q) (v .d) (v .i) (v .inv) (omega (arith, long q))
+    ∙ ap (λ (j : ℕ). paste (d q) (q .args .at) (positionsBytes (p q)) (j * limitBytes)) (long q)
 
 pub put-positions-spec : {M : Type 1} → statement M
 put-positions-spec =

@@ -13,39 +13,65 @@ use Rattle.listing.specs.Rows.{rowOf, row-put, row-last}
 use Rattle.listing.proofs.write_row.Statement.{statement}
 use Rattle.listing.proofs.write_row.Tie as tie
 
--- the positions before the last axis are put
-module _ (c : tie.After-put-positions) where
-  abbrev axis : ℕ
-  axis = c .before .before .last-axis .result
+-- the ordinality is put
+module _ (c : tie.After-put4) where
+  abbrev start : tie.Start
+  start = c .before .before .before
 
-  long : c .before .before .last-axis .result ≡ length (take (c .before .before .last-axis .result) (c .before .before .before .before .before .before .before .before .args .p .at))
+-- and the positions before the last axis
+module _ (c : tie.After-put-positions) where
+  abbrev last : tie.After-last-axis
+  last = c .before .before
+
+  abbrev axis : ℕ
+  axis = last .last-axis .result
+
+  abbrev o : tie.After-put4
+  o = last .before .before .before
+
+  abbrev p : List ℕ
+  p = start o .args .p .at
+
+  long : axis ≡ length (take axis p)
   long =
-      let s = c .before .before .before .before .before .before .before .before in
-      let l : length (s .args .p .at) ≡ mostAxes = search needs in
-      sym (length-take-le axis (s .args .p .at) (omega (arith, c .before .before .last-axis .ensures, s .pre .0)))
+      let l : length p ≡ mostAxes = search needs in
+      sym (length-take-le axis p (omega (arith, last .last-axis .ensures, start o .pre .0)))
 
 returns : tie.Need-returns
 returns c =
     let v = c .before .before .before in
-    let s = v .before .before .before .before .before .before .before .before in
+    let s = start (o v) in
     let a = s .args in
-    let m = v .before .before .last-axis .ensures in
+    let m = last v .last-axis .ensures in
     let z : axis v ≡ 0 = omega (arith, c .if1 .taken) in
     let n : a .rank ≡ 0 = omega (arith, c .if1 .taken) in
     let l : limitBytes + axis v * limitBytes ≡ limitBytes + limitBytes * a .rank = omega arith in
-    row-put (now (a .rows)) (a .at) (a .o .0) (v .before .before .before .before .before .put4 .last .0) (v .before .before .before .before .before .put4 .ensures) (omega (arith, s .pre .1)) (take (axis v) (a .p .at)) (axis v) (long v) (v .put-positions .last .0) (v .put-positions .ensures)
-    ∙ ap₂ (λ (u : List ℕ) (j : ℕ). paste (now (a .rows)) (a .at) (rowOf (a .o .0) u) j) (ap (λ (j : ℕ). take j (a .p .at)) z ∙ sym (with-none (a .rank) (a .p .at) (a .x) n)) l
+    let e = ap (λ (j : ℕ). take j (p v)) z ∙ sym (with-none (a .rank) (p v) (a .x) n) in
+    row-put (now (a .rows)) (a .at) (a .o .0) _ (o v .put4 .ensures) (omega (arith, s .pre .1)) (take (axis v) (p v)) (axis v) (long v)
+    _ (v .put-positions .ensures)
+    ∙ ap₂ (λ (u : List ℕ) (j : ℕ). paste (now (a .rows)) (a .at) (rowOf (a .o .0) u) j) e l
+
+-- the last axis's position is put
+module _ (c : tie.After-put42) where
+  abbrev more : tie.Else1
+  more = c .before .before .before
+
+  abbrev front : tie.After-put-positions
+  front = more .before .before .before
 
 returns-2 : tie.Need-returns-2
 returns-2 c =
-    let v = c .before .before .before .before .before .before .before .before in
-    let s = v .before .before .before .before .before .before .before .before in
+    let w = c .before .before in
+    let v = front w in
+    let s = start (o v) in
     let a = s .args in
-    let m = v .before .before .last-axis .ensures in
-    let g = c .before .before .before .before .before .if1 .left in
+    let m = last v .last-axis .ensures in
+    let g = more w .if1 .left in
     let l : limitBytes + axis v * limitBytes + limitBytes ≡ limitBytes + limitBytes * a .rank = omega arith in
-    row-last (now (a .rows)) (a .at) (a .o .0) (v .before .before .before .before .before .put4 .last .0) (v .before .before .before .before .before .put4 .ensures) (omega (arith, s .pre .1)) (take (axis v) (a .p .at)) (axis v) (long v) (v .put-positions .last .0) (v .put-positions .ensures) (a .x) _ (c .before .before .before .bits-of .ensures) (c .before .before .put42 .last .0) (c .before .before .put42 .ensures)
-    ∙ ap₂ (λ (u : List ℕ) (j : ℕ). paste (now (a .rows)) (a .at) (rowOf (a .o .0) u) j) (ap (λ (j : ℕ). take j (a .p .at) ++ (a .x ∷ [])) m ∙ sym (with-last (a .rank) (a .p .at) (a .x) (omega arith))) l
+    let e = ap (λ (j : ℕ). take j (p v) ++ (a .x ∷ [])) m ∙ sym (with-last (a .rank) (p v) (a .x) (omega arith)) in
+    row-last (now (a .rows)) (a .at) (a .o .0) _ (o v .put4 .ensures) (omega (arith, s .pre .1)) (take (axis v) (p v)) (axis v) (long v)
+    _ (v .put-positions .ensures) (a .x) _ (w .before .bits-of .ensures) (w .put42 .last .0) (w .put42 .ensures)
+    ∙ ap₂ (λ (u : List ℕ) (j : ℕ). paste (now (a .rows)) (a .at) (rowOf (a .o .0) u) j) e l
 
 pub write-row-spec : {M : Type 1} → statement M
 write-row-spec =

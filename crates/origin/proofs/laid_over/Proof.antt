@@ -6,10 +6,12 @@ use Rattle.origin.proofs.laid_over.Statement.{statement}
 use Rattle.origin.proofs.laid_over.Tie as tie
 
 returns : tie.Need-returns
-returns c = ap (overA (c .before .before .before .before .args .j)) (sym (c .before .found .given .1) ∙ c .before .before .before .lies-at .ensures)
+returns c =
+    let d = c .before .before .before in
+    ap (overA (d .before .args .j)) (sym (c .before .found .given .1) ∙ d .found-at .ensures)
 
 returns-2 : tie.Need-returns-2
-returns-2 c = ap (overA (c .before .before .before .args .j)) (sym (c .enum-told .given .1) ∙ c .before .before .lies-at .ensures)
+returns-2 c = let d = c .before .before in ap (overA (d .before .args .j)) (sym (c .enum-told .given .1) ∙ d .found-at .ensures)
 
 pub laid-over-spec : {M : Type 1} → statement M
 laid-over-spec = tie.close (tie.spec (λ c κs. search needs) (λ c. search needs) returns (λ c. search needs) returns-2)

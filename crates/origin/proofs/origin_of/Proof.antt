@@ -1,72 +1,114 @@
--- `origin::origin_of` meets its contract: each arm has its operation's case, and a step that moves cells has no other.
-use mathlib.Core.Path.{refl, _∙_}
+-- `origin::origin_of` meets its contract: each arm answers its own line of the paper's table.
+use Prim.Native.Nat.{ℕ}
+use mathlib.Core.Path.{_≡_, _∙_}
 use denote.Ref.{now}
 use borrow.Author.Needs.{needs}
+use Rattle.paper.specs.Limits.{detailBytes}
+use Rattle.paper.specs.Numbers.{part, positionAt}
+use Rattle.paper.specs.Recipe.{resultAxes}
+use Rattle.paper.specs.Values.{whence}
 use Rattle.step.specs.Steps.{position-there}
-use Rattle.origin.specs.declared.Origin.the-variants.{Nowhere}
-use Rattle.origin.specs.Asks.{trim-asks, slice-asks, reshape-asks, update-asks, put-asks, glue-asks}
-use Rattle.origin.specs.Cases.{trim-comes, slice-comes, reshape-comes, shift-comes, rename-comes, update-comes, put-comes, glue-comes, none-comes}
+use Rattle.origin.specs.Origins.{moving-as, originAt, found-first, found-inside, found-over}
+use Rattle.origin.specs.Asks.{limits-ask, slice-asks, update-asks, put-asks, glue-asks, axials}
+use Rattle.origin.specs.Lies.{own-offset, shift-own, rename-own, same-own, lies}
+use Rattle.origin.specs.Counts.{glue-origin}
 use Rattle.origin.proofs.origin_of.Statement.{statement}
 use Rattle.origin.proofs.origin_of.Tie as tie
 
+-- the position of the detail, where it is read
+position : (s : tie.Start) {x : ℕ} → x ≡ positionAt (s .args .step .at) (now (s .args .s))
+    → x ≡ positionAt 0 (part (s .args .step .at) detailBytes (now (s .args .s)))
+position s e = e ∙ position-there (now (s .args .s)) (s .args .step .at)
+
 in-first-requires : tie.Need-in-first-requires
-in-first-requires c κs = let s = c .before .before .before .before in trim-asks (s .pre .1 .0) (s .pre .1 .1) (now (s .args .s)) (s .args .step .at) refl (c .enum-told .given .1)
+unfolding resultAxes
+in-first-requires c κs =
+    let s = c .before .before .before .before in
+    let M = moving-as (c .enum-told .given .1) (s .pre .1 .0) in
+    limits-ask (now (s .args .s)) (s .args .step .at) M (s .pre .1 .1) (M .axes)
 
 returns : tie.Need-returns
-returns c = let s = c .before .before .before .before .before in trim-comes (s .pre .1 .0) (s .pre .1 .1) (c .before .enum-told .given .1) (c .in-first .ensures)
+unfolding whence
+returns c =
+    let s = c .before .before .before .before .before in
+    let e = c .before .enum-told .given .1 in
+    rw e (c .in-first .ensures ∙ found-inside _ _ _ (lies (moving-as e (s .pre .1 .0)) (s .pre .1 .1)))
 
 sliced-requires : tie.Need-sliced-requires
-sliced-requires c κs = let s = c .before .before .before .before .before in slice-asks (s .pre .1 .0) (s .pre .1 .1) (c .position-at .result) (c .position-at .ensures ∙ position-there (now (s .args .s)) (s .args .step .at)) (c .before .enum-told2 .given .1)
+sliced-requires c κs =
+    let s = c .before .before .before .before .before in
+    rw (position s (c .position-at .ensures)) (slice-asks (moving-as (c .before .enum-told2 .given .1) (s .pre .1 .0)) (s .pre .1 .1))
 
 returns-2 : tie.Need-returns-2
-returns-2 c = let s = c .before .before .before .before .before .before in slice-comes (s .pre .1 .0) (s .pre .1 .1) (c .before .position-at .result) (c .before .position-at .ensures ∙ position-there (now (s .args .s)) (s .args .step .at)) (c .before .before .enum-told2 .given .1) (c .sliced .ensures)
+unfolding whence resultAxes originAt
+returns-2 c =
+    let s = c .before .before .before .before .before .before in
+    let e = c .before .before .enum-told2 .given .1 in
+    rw (e, moving-as e (s .pre .1 .0) .axes, ← position s (c .before .position-at .ensures)) (c .sliced .ensures)
 
 in-first-requires-2 : tie.Need-in-first-requires-2
-in-first-requires-2 c κs = let s = c .before .before .before .before in reshape-asks (s .pre .1 .0) (s .pre .1 .1) (now (s .args .s)) (s .args .step .at) refl (c .enum-told3 .given .1)
+unfolding resultAxes
+in-first-requires-2 c κs =
+    let s = c .before .before .before .before in
+    let M = moving-as (c .enum-told3 .given .1) (s .pre .1 .0) in
+    limits-ask (now (s .args .s)) (s .args .step .at) M (s .pre .1 .1) (M .axes)
 
 returns-3 : tie.Need-returns-3
-returns-3 c = let s = c .before .before .before .before .before in reshape-comes (s .pre .1 .0) (s .pre .1 .1) (c .before .enum-told3 .given .1) (c .in-first2 .ensures)
+unfolding whence
+returns-3 c = rw (c .before .enum-told3 .given .1) (c .in-first2 .ensures ∙ found-first _ _ _)
 
 returns-4 : tie.Need-returns-4
-returns-4 c = let s = c .before .before .before .before in shift-comes (s .pre .1 .0) (s .pre .1 .1) (c .enum-told4 .given .1) refl
+unfolding whence originAt
+returns-4 c =
+    let s = c .before .before .before .before in
+    let e = c .enum-told4 .given .1 in
+    rw (e, own-offset (shift-own (moving-as e (s .pre .1 .0)) (s .pre .1 .1)))
 
 returns-5 : tie.Need-returns-5
-returns-5 c = let s = c .before .before .before .before in rename-comes (s .pre .1 .0) (s .pre .1 .1) (c .enum-told5 .given .1) refl
+unfolding whence originAt
+returns-5 c =
+    let s = c .before .before .before .before in
+    let e = c .enum-told5 .given .1 in
+    rw (e, own-offset (rename-own (moving-as e (s .pre .1 .0)) (s .pre .1 .1)))
 
 laid-over-requires : tie.Need-laid-over-requires
-laid-over-requires c κs = let s = c .before .before .before .before in update-asks (s .pre .1 .0) (s .pre .1 .1) (c .enum-told6 .given .1)
+laid-over-requires c κs =
+    let s = c .before .before .before .before in
+    update-asks (moving-as (c .enum-told6 .given .1) (s .pre .1 .0)) (s .pre .1 .1)
 
 returns-6 : tie.Need-returns-6
-returns-6 c = let s = c .before .before .before .before .before in update-comes (s .pre .1 .0) (s .pre .1 .1) (c .before .enum-told6 .given .1) (c .laid-over .ensures)
+unfolding whence resultAxes
+returns-6 c =
+    let s = c .before .before .before .before .before in
+    let e = c .before .enum-told6 .given .1 in
+    rw e (c .laid-over .ensures ∙ found-over _ _ _ _ (own-offset (same-own (moving-as e (s .pre .1 .0) .axes) (s .pre .1 .1))))
 
 patched-requires : tie.Need-patched-requires
-patched-requires c κs = let s = c .before .before .before .before .before in put-asks (s .pre .1 .0) (s .pre .1 .1) (c .before .enum-told7 .given .1)
+patched-requires c κs =
+    let s = c .before .before .before .before .before in
+    put-asks (moving-as (c .before .enum-told7 .given .1) (s .pre .1 .0)) (s .pre .1 .1)
 
 returns-7 : tie.Need-returns-7
-returns-7 c = let s = c .before .before .before .before .before .before in put-comes (s .pre .1 .0) (s .pre .1 .1) (c .before .position-at2 .result) (c .before .position-at2 .ensures ∙ position-there (now (s .args .s)) (s .args .step .at)) (c .before .before .enum-told7 .given .1) (c .patched .ensures)
+unfolding whence resultAxes
+returns-7 c =
+    let s = c .before .before .before .before .before .before in
+    let e = c .before .before .enum-told7 .given .1 in
+    rw (e, moving-as e (s .pre .1 .0) .axes, ← position s (c .before .position-at2 .ensures)) (c .patched .ensures)
 
 block-of-requires : tie.Need-block-of-requires
-block-of-requires c κs = let s = c .before .before .before .before in glue-asks (s .pre .1 .0) (s .pre .1 .1) (c .enum-told8 .given .1) .0
+block-of-requires c κs = axials (moving-as (c .enum-told8 .given .1) (c .before .before .before .before .pre .1 .0)) .0
 
 block-of-requires-2 : tie.Need-block-of-requires-2
-block-of-requires-2 c κs = let s = c .before .before .before .before .before in glue-asks (s .pre .1 .0) (s .pre .1 .1) (c .before .enum-told8 .given .1) .1
+block-of-requires-2 c κs = axials (moving-as (c .before .enum-told8 .given .1) (c .before .before .before .before .before .pre .1 .0)) .1
 
 returns-8 : tie.Need-returns-8
+unfolding whence resultAxes
 returns-8 c =
     let s = c .before .before .before .before .before .before .before in
-    glue-comes (s .pre .1 .0) (s .pre .1 .1) (c .before .before .block-of .result) (c .before .block-of2 .result) (c .before .before .block-of .ensures .0) (c .before .block-of2 .ensures .0) (c .before .before .before .enum-told8 .given .1) (c .in-turns .ensures)
-
-returns-9 : tie.Need-returns-9
-returns-9 c = let s = c .before .before .before .before in none-comes (s .pre .1 .0) _ (c .enum-told9 .given .1) refl (s .args .k) Nowhere
-
-returns-10 : tie.Need-returns-10
-returns-10 c = let s = c .before .before .before .before in none-comes (s .pre .1 .0) _ (c .enum-told10 .given .1) refl (s .args .k) Nowhere
-
-returns-11 : tie.Need-returns-11
-returns-11 c = let s = c .before .before .before .before in none-comes (s .pre .1 .0) _ (c .enum-told11 .given .1) refl (s .args .k) Nowhere
-
-returns-12 : tie.Need-returns-12
-returns-12 c = let s = c .before .before .before .before in none-comes (s .pre .1 .0) _ (c .enum-told12 .given .1) refl (s .args .k) Nowhere
+    let e = c .before .before .before .enum-told8 .given .1 in
+    let M = moving-as e (s .pre .1 .0) in
+    let g = glue-origin (glue-asks M) (rw (M .axes) at (s .pre .1 .1)) in
+    rw (e, M .axes) (c .in-turns .ensures ∙ rw (c .before .before .block-of .ensures .0, c .before .block-of2 .ensures .0) g)
 
 pub origin-of-spec : {M : Type 1} → statement M
 origin-of-spec =
@@ -76,5 +118,4 @@ origin-of-spec =
     sliced-requires returns-2 (λ c. search needs) in-first-requires-2 returns-3 (λ c. search needs) returns-4
     (λ c. search needs) returns-5 (λ c. search needs) laid-over-requires returns-6 (λ c. search needs)
     (λ c κs. search needs) patched-requires returns-7 (λ c. search needs) block-of-requires block-of-requires-2
-    (λ c κs. search needs) returns-8 (λ c. search needs) returns-9 (λ c. search needs) returns-10 (λ c. search needs)
-    returns-11 (λ c. search needs) returns-12)
+    (λ c κs. search needs) returns-8)

@@ -1,4 +1,4 @@
--- `origin::patched` meets its contract: off the layer at x the cell is A's; on it the cell of the other axes lies in B or not.
+-- `origin::patched` meets its contract: off the layer at x the cell is A's; on it the cell of the other axes is found in B or not.
 use native.Mathlib.Omega.{arith}
 use borrow.Author.Needs.{needs}
 use Rattle.paper.specs.Answers.{axesOf}
@@ -6,31 +6,38 @@ use Rattle.origin.specs.Counts.{Around, patch-countable, position-few, p
 use Rattle.origin.proofs.patched.Statement.{statement}
 use Rattle.origin.proofs.patched.Tie as tie
 
-around : (d : tie.After-axis-of) → Around (d .before .before .before .args .k .0) (axesOf (d .before .before .before .args .e)) (d .before .before .block-of .result) (d .before .layer-of .result) (d .axis-of .result)
-around d = record { blocks = d .before .before .block-of .ensures; layers = d .before .layer-of .ensures; axis = d .axis-of .ensures }
+module _ (c : tie.After-axis-of) where
+  abbrev s : tie.Start
+  s = c .before .before .before
+
+  around : Around (s .args .k .0) (axesOf (s .args .e)) (c .before .before .block-of .result) (c .before .layer-of .result)
+      (c .axis-of .result)
+  around = record { blocks = c .before .before .block-of .ensures; layers = c .before .layer-of .ensures; axis = c .axis-of .ensures }
 
 add-if1 : tie.Need-add-if1
-add-if1 c = omega (arith, position-few (around (c .before)) (c .before .before .before .before .pre))
+add-if1 c = let d = c .before in omega (arith, position-few (around d) (s d .pre))
 
 returns : tie.Need-returns
-returns c = put-off (around (c .before .before)) (c .before .before .before .before .before .pre) (c .before .before .before .before .before .args .x) (c .if1 .taken)
+returns c = let d = c .before .before in put-off (around d) (s d .pre) (c .if1 .taken)
 
 counted-requires : tie.Need-counted-requires
-counted-requires c κs = patch-countable (around (c .before .before .before)) (c .before .before .before .before .before .before .pre)
+counted-requires c κs = let d = c .before .before .before in patch-countable (around d) (s d .pre)
 
 laid-over-requires : tie.Need-laid-over-requires
-laid-over-requires c κs = rest-beside (around (c .before .before .before .before)) (c .before .before .before .before .before .before .before .pre) (c .before .removed .ensures) (c .counted .ensures)
+laid-over-requires c κs =
+    let d = c .before .before .before .before in
+    rest-beside (around d) (s d .pre) (c .before .removed .ensures) (c .counted .ensures)
 
 returns-2 : tie.Need-returns-2
 returns-2 c =
-    let d = c .before .before .before .before .before in
-    let s = d .before .before .before in
-    put-on (around d) (s .pre) (c .before .before .removed .ensures) (c .before .counted .ensures) (s .args .x) (c .laid-over .result) (c .before .before .before .if1 .left) (c .laid-over .ensures)
+    let b = c .before .before in
+    let d = b .before .before .before in
+    put-on (around d) (s d .pre) (b .removed .ensures) (c .before .counted .ensures) (b .before .if1 .left) (c .laid-over .ensures)
 
 pub patched-spec : {M : Type 1} → statement M
 patched-spec =
     tie.close
     (tie.spec
     (λ c κs. search needs) (λ c κs. search needs) (λ c κs. search needs) (λ c. search needs) (λ c. search needs)
-    (λ c. search needs) add-if1 returns (λ c κs. search needs) (λ c. search needs) (λ c. search needs)
-    counted-requires laid-over-requires returns-2)
+    (λ c. search needs) add-if1 returns (λ c κs. search needs) (λ c. search needs) (λ c. search needs) counted-requires
+    laid-over-requires returns-2)

@@ -5,20 +5,25 @@ use Rattle.origin.specs.Counts.{Around, low-enough, layers-countable, sl
 use Rattle.origin.proofs.sliced.Statement.{statement}
 use Rattle.origin.proofs.sliced.Tie as tie
 
-around : (d : tie.After-axis-of) → Around (d .before .before .before .args .k .0) (axesOf (d .before .before .before .args .e)) (d .before .before .block-of .result) (d .before .layer-of .result) (d .axis-of .result)
-around d = record { blocks = d .before .before .block-of .ensures; layers = d .before .layer-of .ensures; axis = d .axis-of .ensures }
+module _ (c : tie.After-axis-of) where
+  abbrev s : tie.Start
+  s = c .before .before .before
+
+  around : Around (s .args .k .0) (axesOf (s .args .e)) (c .before .before .block-of .result) (c .before .layer-of .result)
+      (c .axis-of .result)
+  around = record { blocks = c .before .before .block-of .ensures; layers = c .before .layer-of .ensures; axis = c .axis-of .ensures }
 
 sub-layers : tie.Need-sub-layers
-sub-layers c = low-enough (around (c .before)) (c .before .before .before .before .pre)
+sub-layers c = let d = c .before in low-enough (around d) (s d .pre)
 
 counted-requires : tie.Need-counted-requires
-counted-requires c κs = layers-countable (around (c .before)) (c .before .before .before .before .pre)
+counted-requires c κs = let d = c .before in layers-countable (around d) (s d .pre)
 
 counted-requires-2 : tie.Need-counted-requires-2
-counted-requires-2 c κs = slice-countable (around (c .before .before)) (c .before .before .before .before .before .pre) (c .counted .result) (c .counted .ensures)
+counted-requires-2 c κs = let d = c .before .before in slice-countable (around d) (s d .pre) (c .counted .ensures)
 
 returns : tie.Need-returns
-returns c = slice-told (around (c .before .before .before)) (c .before .before .before .before .before .before .pre) (c .before .counted .result) (c .counted2 .result) (c .before .counted .ensures) (c .counted2 .ensures)
+returns c = let d = c .before .before .before in slice-told (around d) (s d .pre) (c .before .counted .ensures) (c .counted2 .ensures)
 
 pub sliced-spec : {M : Type 1} → statement M
 sliced-spec =

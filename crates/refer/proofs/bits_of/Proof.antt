@@ -1,4 +1,5 @@
--- `refer::bits_of` meets its contract: below 0 the bits, each turned over, are a number, and turned over again they are the bits; from 0 up the number is its bits. Assumes nothing.
+-- `refer::bits_of` meets its contract: below 0 the bits, each turned over, are a number, and turned over again they are the bits; from 0 up
+-- the number is its bits. Assumes nothing.
 use mir.Syntax.{w32}
 use mir.ValLaws.{fits-not, ofZ-fits}
 use Rattle.cell.proofs.Twos.{turned, plain, cast-asks, cast-gives, turned-back}
@@ -9,7 +10,9 @@ cast-result : tie.Need-cast-result
 cast-result c = cast-asks w32 _ (turned w32 (c .before .args .z) (c .before .fits .z) (c .if1 .taken)) (fits-not w32 _)
 
 cast-result-2 : tie.Need-cast-result-2
-cast-result-2 c = cast-asks w32 _ (plain w32 (c .before .args .z) (c .before .fits .z) (c .if1 .left)) (ofZ-fits w32 (c .before .args .z) (c .before .fits .z))
+cast-result-2 c =
+    cast-asks w32 _ (plain w32 (c .before .args .z) (c .before .fits .z) (c .if1 .left))
+    (ofZ-fits w32 (c .before .args .z) (c .before .fits .z))
 
 returns : tie.Need-returns
 returns c = turned-back w32 (c .before .args .z) (c .before .fits .z) (c .if1 .taken)

@@ -29,11 +29,17 @@ loop-again : tie.Need-loop-again Inv-loop μ-loop
 loop-again c =
     let l = c .before .before .before .loop in
     let zs = now (c .before .before .before .before .args .zs) in
-    let f : SFits w32 (getD zs (l .i) (pos 0)) = sfits-of (search needs) in
-    (omega arith, simp length-set (l .inv .1), coordinate-more (now (c .before .before .before .before .args .zs)) (l .at) (l .i) _ (c .before .before .loop-test .taken) (omega arith) (c .distance-to .ensures ∙ ap distance (toZ-ofZ w32 (getD zs (l .i) (pos 0)) f)) (l .inv .2))
+    let f : SFits w32 (getD zs (l .i) (pos 0)) = sfits-of (search needs) in (
+      omega arith,
+      simp length-set (l .inv .1),
+      coordinate-more (now (c .before .before .before .before .args .zs)) (l .at) (l .i) _ (c .before .before .loop-test .taken)
+          (omega arith) (c .distance-to .ensures ∙ ap distance (toZ-ofZ w32 (getD zs (l .i) (pos 0)) f)) (l .inv .2),
+    )
 
 returns : tie.Need-returns Inv-loop μ-loop
-returns c = coordinate-end (now (c .before .before .args .zs)) (c .before .loop .at) (c .before .loop .i) (omega arith) (omega arith) (c .before .loop .inv .2)
+returns c =
+    coordinate-end (now (c .before .before .args .zs)) (c .before .loop .at) (c .before .loop .i) (omega arith) (omega arith)
+    (c .before .loop .inv .2)
 
 pub coordinate-at-spec : {M : Type 1} → statement M
 coordinate-at-spec =

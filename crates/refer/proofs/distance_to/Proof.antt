@@ -14,7 +14,8 @@ returns : tie.Need-returns
 returns c =
     let s = c .before .before in
     let f = toZ-ofZ w32 (s .args .z) (s .fits .z) in
-    c .distance-of .ensures ∙ ap (λ (n : ℕ). distance (toZ w32 n)) (c .before .bits-of .ensures) ∙ ap (λ (x : ℤ). distance (toZ w32 (ofZ w32 x))) f ∙ ap distance f
+    c .distance-of .ensures ∙ ap (λ (n : ℕ). distance (toZ w32 n)) (c .before .bits-of .ensures)
+    ∙ ap (λ (x : ℤ). distance (toZ w32 (ofZ w32 x))) f ∙ ap distance f
 
 pub distance-to-spec : {M : Type 1} → statement M
 distance-to-spec = tie.close (tie.spec (λ c κs. search needs) (λ c κs. search needs) returns)

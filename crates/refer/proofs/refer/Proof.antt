@@ -14,7 +14,7 @@ use Rattle.paper.specs.declared.Form.{Form}
 use Rattle.paper.specs.declared.Place.{Place}
 use Rattle.paper.specs.declared.Place.the-variants.{At, InMaximum, Beyond}
 use Rattle.paper.proofs.Place as Place′
-use Rattle.paper.specs.Refusals.{got}
+use Rattle.paper.specs.Refusals.{got, refused}
 use Rattle.paper.specs.Axes.{Array, cells, placeOf, goodExtent}
 use Rattle.paper.specs.Numbers.{distance}
 use Rattle.paper.specs.Reference.{referred}
@@ -62,8 +62,9 @@ module _ (c : tie.After-found) where
 
   spot : c .found .result ≡ placeOf (shapeOf (form (kept counted))) (map distance (zs (kept counted)))
   spot =
+      let p = c .before .coordinate-at in
       c .found .ensures (form (kept counted) .kind)
-      ∙ ap (placeOf (shapeOf (form (kept counted)))) (ap (λ (n : ℕ). take n (c .before .coordinate-at .result .at)) (sym (count counted)) ∙ c .before .coordinate-at .ensures)
+      ∙ ap (placeOf (shapeOf (form (kept counted)))) (ap (λ (n : ℕ). take n (p .result .at)) (sym (count counted)) ∙ p .ensures)
 
 -- an ordinality that was found is one of the array's
 module _ (c : tie.After-place) where
@@ -77,13 +78,16 @@ module _ (c : tie.After-place) where
   bounds = place-bounds (shapeOf (form its)) (map distance (zs its)) _ (sym (c .place .given .1) ∙ spot there)
 
 returns : tie.Need-returns
-returns c = let h = c .before .before .before in refer-refused (now (h .before .before .args .coordinates)) (h .choose .ensures) (c .if1 .taken)
+returns c =
+    let h = c .before .before .before in
+    refer-refused (now (h .before .before .args .coordinates)) (h .choose .ensures) (c .if1 .taken)
 
 returns-2 : tie.Need-returns-2
 returns-2 c =
     let r = c .before .before in
     let q = r .before .before .before .before .before in
-    c .no-cell .ensures ∙ refer-count (zs q) (had q .choose .ensures) (q .if1 .left) (λ e. c .before .if2 .taken (e ∙ sym (r .rank-of .ensures .number)))
+    ap refused (c .refuse .ensures)
+    ∙ refer-count (zs q) (had q .choose .ensures) (q .if1 .left) (λ e. c .before .if2 .taken (e ∙ sym (r .rank-of .ensures .number)))
 
 coordinate-at-requires : tie.Need-coordinate-at-requires
 coordinate-at-requires c κs = omega (arith, c .before .rank-of .ensures .few)
@@ -96,9 +100,10 @@ returns-3 c =
     let f = c .before .before in
     let q = kept (counted f) in
     let h = had q in
+    let a = h .before .before .args in
     c .elsewhere .ensures
     ∙ refer-elsewhere (zs q) (h .choose .ensures) (q .if1 .left) (count (counted f)) _ (spot f)
-    (not-inside (h .before .before .args .k) (arrayAt (now (h .before .before .args .s)) (h .choose .result .head)) (f .found .result) (c .before .match .keys2))
+    (not-inside (a .k) (arrayAt (now (a .s)) (h .choose .result .head)) (f .found .result) (c .before .match .keys2))
 
 sub-i : tie.Need-sub-i
 sub-i c = let b = bounds (c .before .before) in omega arith
@@ -113,7 +118,7 @@ returns-4 c =
     let q = its a in
     let b = bounds a in
     ap got (c .held-cell .ensures)
-    ∙ refer-inside (zs q) (had q .choose .ensures) (q .if1 .left) (count (counted f)) _ (spot f) (a .place .given .0 .0 .0) _ (a .place .given .1) refl (omega arith)
+    ∙ refer-inside (zs q) (had q .choose .ensures) (q .if1 .left) (count (counted f)) _ (spot f) _ _ (a .place .given .1) refl (omega arith)
 
 pub refer-spec : {M : Type 1} → statement M
 refer-spec =

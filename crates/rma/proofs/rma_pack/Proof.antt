@@ -1,26 +1,20 @@
 -- `rma::rma_pack` meets its contract: the forms have the heads’ shapes, packing’s answer is said, and the buffer is as packing leaves it.
-use mathlib.Core.Path.{ap, _∙_}
-use mathlib.Core.List.{List}
 use denote.Ref.{now}
 use borrow.Author.Needs.{needs}
-use Rattle.paper.specs.Axes.{Shape}
-use Rattle.paper.specs.Bundle.{Packed, pack}
-use Rattle.c_told.specs.Given.{numberBytes}
 use Rattle.c_asked.specs.Heads.{heads-shapes}
+use Rattle.c_told.specs.Given.{numberBytes}
 use Rattle.c_told.specs.Replies.{speaks}
 use Rattle.rma.proofs.rma_pack.Statement.{statement}
 use Rattle.rma.proofs.rma_pack.Tie as tie
 
 returns : tie.Need-returns
 returns c =
-    let a = c .before .before .before .before .before .before .before .before .before .before .before .before .before .before .before .args in
-    let p = c .before .before .before .before .before .before .pack .ensures in
-    let e = ap (λ (ss : List Shape). pack ss (now (a .cells)) (now (a .out)))
-    (heads-shapes (now (a .heads)) _ (c .before .before .before .before .before .before .before .before .before .before .forms-in .ensures)) in (
-      speaks numberBytes _ _ _ _ _ (c .before .before .before .of-pack .ensures) (p .said ∙ ap (λ (w : Packed). w .answer) e)
-          (c .before .before .give .ensures),
-      p .wrote ∙ ap (λ (w : Packed). w .out) e,
-    )
+    let g = c .before .before in
+    let p = g .before .before .before .before in
+    let f = p .before .before .before .before in
+    let a = f .before .before .before .before .before .args in
+    let w = rw (heads-shapes (now (a .heads)) _ (f .forms-in .ensures)) at (p .pack .ensures) in
+    (speaks numberBytes _ _ _ _ _ (g .before .of-counted .ensures) (w .said) (g .give .ensures), w .wrote)
 
 pub rma-pack-spec : {M : Type 1} → statement M
 rma-pack-spec =

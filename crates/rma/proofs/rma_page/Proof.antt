@@ -9,9 +9,11 @@ use Rattle.rma.proofs.rma_page.Tie as tie
 
 returns : tie.Need-returns
 returns c =
-    let e = c .before .before .before .before .before .before .before .before .before .page .ensures in (
-      speaks listedBytes _ _ _ _ _ (c .before .before .before .of-page .ensures) (ap (λ (w : Paged). w .answer) e)
-          (c .before .before .give .ensures),
+    let g = c .before .before in
+    let t = g .before in
+    let l = t .before .before .before in
+    let e = l .before .before .before .page .ensures in (
+      speaks listedBytes _ _ _ _ _ (t .of-page .ensures) (ap (λ (w : Paged). w .answer) e) (g .give .ensures),
       ap (λ (w : Paged). w .work) e,
       ap (λ (w : Paged). w .rows) e,
     )

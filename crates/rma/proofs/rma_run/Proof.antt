@@ -1,7 +1,7 @@
 -- `rma::rma_run` meets its contract: the run’s answer is said, and the work area is as the run leaves it.
 use mathlib.Core.Path.{ap}
 use borrow.Author.Needs.{needs}
-use Rattle.paper.specs.Listing.{Ran}
+use Rattle.paper.specs.Bundle.{After}
 use Rattle.c_told.specs.Given.{numberBytes}
 use Rattle.c_told.specs.Replies.{speaks}
 use Rattle.rma.proofs.rma_run.Statement.{statement}
@@ -9,10 +9,11 @@ use Rattle.rma.proofs.rma_run.Tie as tie
 
 returns : tie.Need-returns
 returns c =
-    let e = c .before .before .before .before .before .before .run .ensures in (
-      speaks numberBytes _ _ _ _ _ (c .before .before .before .of-run .ensures) (ap (λ (w : Ran). w .answer) e)
-          (c .before .before .give .ensures),
-      ap (λ (w : Ran). w .work) e,
+    let g = c .before .before in
+    let t = g .before in
+    let e = t .before .before .before .run .ensures in (
+      speaks numberBytes _ _ _ _ _ (t .of-counted .ensures) (ap (λ (w : After). w .answer) e) (g .give .ensures),
+      ap (λ (w : After). w .buffer) e,
     )
 
 pub rma-run-spec : {M : Type 1} → statement M

@@ -7,8 +7,9 @@ use Rattle.rma.proofs.rma_walk.Tie as tie
 
 returns : tie.Need-returns
 returns c =
-    let w = c .before .before .before .before .before .before .walk-bytes .ensures in
-    (speaks seenBytes _ _ _ _ _ (c .before .before .before .of-walk .ensures) (w .0) (c .before .before .give .ensures), w .1)
+    let g = c .before .before in
+    let w = g .before .before .before .before .walk-bytes .ensures in
+    (speaks seenBytes _ _ _ _ _ (g .before .of-walk .ensures) (w .0) (g .give .ensures), w .1)
 
 pub rma-walk-spec : {M : Type 1} → statement M
 rma-walk-spec =

@@ -7,8 +7,9 @@ use Rattle.rma.proofs.rma_write_json.Tie as tie
 
 returns : tie.Need-returns
 returns c =
-    let w = c .before .before .before .before .before .before .write .ensures in
-    (speaks numberBytes _ _ _ _ _ (c .before .before .before .of-json .ensures) (w .0) (c .before .before .give .ensures), w .1)
+    let g = c .before .before in
+    let w = g .before .before .before .before .write .ensures in
+    (speaks numberBytes _ _ _ _ _ (g .before .of-counted .ensures) (w .0) (g .give .ensures), w .1)
 
 pub rma-write-json-spec : {M : Type 1} → statement M
 rma-write-json-spec =

@@ -8,6 +8,7 @@ use borrow.Author.Needs.{needs}
 use denote.Ref.{now}
 use lib.ListN.{drop, length, take}
 use lib.Seq.{take-all}
+use Rattle.laws.specs.Answers.{extent-axes}
 use Rattle.extent.specs.Rank.{axis-first}
 use Rattle.extent.specs.Tests.{sound-axis}
 use Rattle.paper.specs.Answers.{axesOf, extentOf}
@@ -86,8 +87,9 @@ returns : tie.Need-returns Inv-loop μ-loop
 returns c =
     let s = c .before .before .before .before .before .before in
     let W = renewed (s .args .how) (axesOf (s .args .t2)) (now (s .args .s)) (s .args .at) in
-    c .before .loop .inv .1
-    ∙ ap extentOf (take-all (c .before .loop .i) W (omega (arith, length-renewed (s .args .how) (axesOf (s .args .t2)) (now (s .args .s)) (s .args .at), c .before .before .before .rank-of .ensures .number)))
+    let n = length-renewed (s .args .how) (axesOf (s .args .t2)) (now (s .args .s)) (s .args .at) in
+    let r = c .before .before .before .rank-of .ensures in
+    ap axesOf (c .before .loop .inv .1 ∙ ap extentOf (take-all (c .before .loop .i) W (omega (arith, n, r .number)))) ∙ extent-axes W (omega (arith, n, r .number, r .few))
 
 pub anew-spec : {M : Type 1} → statement M
 anew-spec =

@@ -1,23 +1,20 @@
 -- `shape::glued_along` meets its contract.
 -- The store puts the longer axis in its place; both limits are in range, so the sum fits.
 use Prim.Native.Nat.{_-_, _<_}
-use mathlib.Core.Path.{ap, _≡_}
+use mathlib.Core.Path.{ap}
 use native.Mathlib.Omega.{arith}
 use borrow.Author.Needs.{needs}
-use lib.ListN.{length, length-take}
-use Rattle.laws.specs.Loops.{length-mapped}
+use Rattle.laws.specs.Answers.{axes-few}
 use Rattle.extent.specs.Tests.{sound-axis}
 use Rattle.paper.specs.Answers.{axesOf}
 use Rattle.paper.specs.Limits.{mostAxes}
 use Rattle.paper.specs.declared.Axis.{Axis}
-use Rattle.shape.specs.Joined.{glued-told, tidy-at}
+use Rattle.shape.specs.Joined.{glued-told}
 use Rattle.shape.proofs.glued_along.Statement.{statement}
 use Rattle.shape.proofs.glued_along.Tie as tie
 
 few : (c : tie.Start) → c .args .k .0 - 1 < mostAxes
-few c =
-    let l : length (c .args .e .axes) ≡ mostAxes = search (needs, length-mapped) in
-    omega (arith, length-take (c .args .e .rank) (c .args .e .axes), c .pre .one, c .pre .last)
+few c = omega (arith, axes-few (c .args .e), c .pre .one, c .pre .last)
 
 width-of-requires : tie.Need-width-of-requires
 width-of-requires c κs = rw (c .axis-of2 .ensures) (sound-axis (axesOf (c .before .before .args .f)) (c .before .before .args .k .0 - 1) (c .before .before .pre .second))
@@ -35,10 +32,10 @@ element-set-from-new c = few (c .before .before .before .before .before)
 
 returns : tie.Need-returns
 returns c =
-    let s = c .before .before .before .before .before in (
-      glued-told (s .args .e) (axesOf (s .args .f)) (s .args .k .0) (s .pre .one) (s .pre .last) (c .before .before .before .before .axis-of .result) (c .before .before .before .axis-of2 .result) (c .before .before .width-of .result) (c .before .before .before .before .axis-of .ensures) (c .before .before .before .axis-of2 .ensures) (c .before .before .width-of .ensures .0),
-      tidy-at (s .args .e) (s .args .k .0 - 1) _ (omega (arith, s .pre .one, s .pre .last)),
-    )
+    let s = c .before .before .before .before .before in
+    let w = c .before .before in
+    glued-told (s .args .e) (axesOf (s .args .f)) (s .args .k .0) (s .pre .one) (s .pre .last) (w .before .before .axis-of .result) (w .before .axis-of2 .result) (w .width-of .result)
+    (w .before .before .axis-of .ensures) (w .before .axis-of2 .ensures) (w .width-of .ensures .0)
 
 pub glued-along-spec : {M : Type 1} → statement M
 glued-along-spec =

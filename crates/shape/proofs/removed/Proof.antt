@@ -7,12 +7,13 @@ use native.Mathlib.Omega.{arith}
 use borrow.Author.Needs.{needs}
 use lib.ListN.{length, take}
 use lib.Seq.{take-all}
+use Rattle.laws.specs.Answers.{extent-axes}
 use Rattle.extent.specs.Rank.{axis-first}
 use Rattle.paper.specs.Answers.{axesOf, extentOf}
 use Rattle.paper.specs.Axes.{without}
 use Rattle.paper.specs.Limits.{mostAxes}
 use Rattle.paper.specs.declared.Axis.{Axis}
-use Rattle.shape.specs.Built.{room-without, without-more, without-none}
+use Rattle.shape.specs.Built.{few-without, room-without, without-more, without-none}
 use Rattle.shape.proofs.removed.Statement.{statement}
 use Rattle.shape.proofs.removed.Tie as tie
 
@@ -48,8 +49,11 @@ loop-again c =
 
 returns : tie.Need-returns Inv-loop μ-loop
 returns c =
+    let k = c .before .before .before .before .before .args .k .0 in
     let E = axesOf (c .before .before .before .before .before .args .t1) in
-    c .before .loop .inv .1 ∙ ap (λ (l : List Axis). extentOf (without (c .before .before .before .before .before .args .k .0) l)) (take-all (c .before .loop .i) E (omega (arith, c .before .before .before .rank-of .ensures .number)))
+    let r = c .before .before .before .rank-of .ensures in
+    ap axesOf (c .before .loop .inv .1 ∙ ap (λ (l : List Axis). extentOf (without k l)) (take-all (c .before .loop .i) E (omega (arith, r .number))))
+    ∙ extent-axes (without k E) (omega (arith, few-without k E, r .number, r .few))
 
 pub removed-spec : {M : Type 1} → statement M
 removed-spec =

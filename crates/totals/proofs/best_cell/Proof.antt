@@ -12,7 +12,8 @@ use Rattle.totals.proofs.best_cell.Statement.{statement}
 use Rattle.totals.proofs.best_cell.Tie as tie
 
 abbrev Inv-loop : tie.InvT-loop
-Inv-loop s at kind n largest b₀ i₀ b i = (i ≤ n) × (bestOn largest b (filledLeft s at kind n i) ≡ bestOf (beatsOf largest) (filledFrom 1 (cellsAt s at kind n)))
+Inv-loop s at kind n largest b₀ i₀ b i =
+    (i ≤ n) × (bestOn largest b (filledLeft s at kind n i) ≡ bestOf (beatsOf largest) (filledFrom 1 (cellsAt s at kind n)))
 
 abbrev μ-loop : tie.MeasureT-loop
 μ-loop s at kind n largest b₀ i₀ b i = n - i
@@ -33,14 +34,20 @@ loop-again c =
     let d = oneAt (now (a .s)) (a .at) (a .kind) (l .i) in
     let later = filledLeft (now (a .s)) (a .at) (a .kind) (a .n) (l .i + 1) in (
       omega arith,
-      ap (λ (x : Cell). bestOn (a .largest) x later) (c .better .ensures ∙ ap (λ (x : Cell). betterOf (a .largest) x (l .b)) (c .before .held-cell .ensures))
+      ap (λ (x : Cell). bestOn (a .largest) x later)
+          (c .better .ensures ∙ ap (λ (x : Cell). betterOf (a .largest) x (l .b)) (c .before .held-cell .ensures))
           ∙ sym (best-next (a .largest) d (l .b) (l .i + 1) later)
-          ∙ ap (bestOn (a .largest) (l .b)) (sym (filled-next (now (a .s)) (a .at) (a .kind) (a .n) (l .i) (c .before .before .loop-test .taken)))
+          ∙ ap (bestOn (a .largest) (l .b))
+          (sym (filled-next (now (a .s)) (a .at) (a .kind) (a .n) (l .i) (c .before .before .loop-test .taken)))
           ∙ l .inv .1,
     )
 
 returns : tie.Need-returns Inv-loop μ-loop
-returns c = let a = c .before .before .before .args in let l = c .before .loop in sym (best-end (a .largest) (l .b)) ∙ ap (bestOn (a .largest) (l .b)) (sym (filled-none (now (a .s)) (a .at) (a .kind) (a .n) (l .i) (omega arith))) ∙ l .inv .1
+returns c =
+    let a = c .before .before .before .args in
+    let l = c .before .loop in
+    sym (best-end (a .largest) (l .b)) ∙ ap (bestOn (a .largest) (l .b))
+    (sym (filled-none (now (a .s)) (a .at) (a .kind) (a .n) (l .i) (omega arith))) ∙ l .inv .1
 
 pub best-cell-spec : {M : Type 1} → statement M
 best-cell-spec =

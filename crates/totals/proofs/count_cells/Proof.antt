@@ -10,7 +10,8 @@ use Rattle.totals.proofs.count_cells.Statement.{statement}
 use Rattle.totals.proofs.count_cells.Tie as tie
 
 abbrev Inv-loop : tie.InvT-loop
-Inv-loop s at kind n trues count₀ i₀ count i = (i ≤ n) × (count ≤ i) × (count + counted trues (drop i (cellsAt s at kind n)) ≡ counted trues (cellsAt s at kind n))
+Inv-loop s at kind n trues count₀ i₀ count i =
+    (i ≤ n) × (count ≤ i) × (count + counted trues (drop i (cellsAt s at kind n)) ≡ counted trues (cellsAt s at kind n))
 
 abbrev μ-loop : tie.MeasureT-loop
 μ-loop s at kind n trues count₀ i₀ count i = n - i

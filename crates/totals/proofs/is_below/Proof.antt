@@ -7,7 +7,8 @@ use Rattle.totals.proofs.is_below.Tie as tie
 
 returns : tie.Need-returns
 unfolding holds
-returns c = c .is-truth .ensures ∙ sym (ap holds (sym (c .before .before .before .before .lt .ensures) ∙ c .before .before .answer .given .1))
+returns c =
+    c .is-truth .ensures ∙ sym (ap holds (sym (c .before .before .before .before .lt .ensures) ∙ c .before .before .answer .given .1))
 
 returns-2 : tie.Need-returns-2
 unfolding holds

@@ -1,16 +1,20 @@
 -- `totals::total` meets its contract: each way out by the law of its test.
-use mathlib.Core.Path.{sym, _∙_}
+use mathlib.Core.Path.{sym, ap, _∙_}
 use borrow.Author.Needs.{needs}
 use borrow.Author.Tests.{not-false, not-true}
 use Rattle.paper.specs.declared.Total.{Total}
+use Rattle.paper.specs.Refusals.{refused}
 use Rattle.totals.specs.Whole.{total-refused, total-unfit, lying, total-is}
 use Rattle.totals.proofs.total.Statement.{statement}
 use Rattle.totals.proofs.total.Tie as tie
 
 -- an array was chosen, and not refused
-module _ (c : tie.Else1) where
+module _ (c : tie.After-has-total) where
+  abbrev kept : tie.Else1
+  kept = c .before .before .before
+
   abbrev had : tie.After-choose
-  had = c .before .before .before
+  had = kept .before .before .before
 
   abbrev which : Total
   which = had .before .before .args .which
@@ -20,17 +24,22 @@ returns c = let h = c .before .before .before in total-refused (h .choose .ensur
 
 returns-2 : tie.Need-returns-2
 returns-2 c =
-    let q = c .before .before .before .before in
-    total-unfit (had q .choose .ensures) (which q) (q .if1 .left) (sym (c .before .has-total .ensures) ∙ not-true _ (c .if2 .taken))
+    let t = c .before in
+    let h = t .before in
+    ap refused (c .refuse .ensures)
+    ∙ total-unfit (had h .choose .ensures) (which h) (kept h .if1 .left) (sym (h .has-total .ensures) ∙ not-true _ (t .if2 .taken))
 
 total-of-requires : tie.Need-total-of-requires
-total-of-requires c κs = let q = c .before .before .before .before in lying (had q .choose .ensures) (which q) (q .if1 .left)
+total-of-requires c κs = let h = c .before in lying (had h .choose .ensures) (which h) (kept h .if1 .left)
 
 returns-3 : tie.Need-returns-3
 returns-3 c =
-    let q = c .before .before .before .before .before in
+    let h = c .before .before in
     c .total-of .ensures
-    ∙ total-is (had q .choose .ensures) (which q) (q .if1 .left) (sym (c .before .before .has-total .ensures) ∙ not-false _ (c .before .if2 .left))
+    ∙ total-is (had h .choose .ensures) (which h) (kept h .if1 .left) (sym (h .has-total .ensures) ∙ not-false _ (c .before .if2 .left))
 
 pub total-spec : {M : Type 1} → statement M
-total-spec = tie.close (tie.spec (λ c κs. search needs) returns (λ c κs. search needs) returns-2 total-of-requires returns-3)
+total-spec =
+    tie.close
+    (tie.spec
+    (λ c κs. search needs) returns (λ c κs. search needs) (λ c κs. search needs) returns-2 total-of-requires returns-3)

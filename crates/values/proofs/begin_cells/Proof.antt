@@ -1,55 +1,53 @@
--- `values::begin_cells` meets its contract: where nothing was moved, the quick loop begins where the moves left the work area. Assumes
--- nothing.
-use Prim.Native.Nat.{ℕ, _≤_}
-use mathlib.Core.Path.{_≡_, subst}
-use mathlib.Core.List.{List}
+-- `values::begin_cells` meets its contract: all cells moved, or the quick loop as far as it came.
+use Prim.Native.Nat.{ℕ, _+_}
+use mathlib.Core.Path.{_≡_, ap, _∙_}
 use native.Mathlib.Omega.{arith}
 use denote.Ref.{now}
 use borrow.Author.Needs.{needs}
-use Rattle.values.specs.Jobs.{movedCount, moved-most}
-use Rattle.values.specs.Doing.{Filling}
-use Rattle.values.specs.Runs.{Asked}
-use Rattle.values.specs.Begun.{workable, fills}
+use Rattle.paper.specs.Limits.{scalarAt, wordBytes}
+use Rattle.paper.specs.Numbers.{leOf, part}
+use Rattle.values.specs.Turns.{pairingOf}
+use Rattle.values.specs.Runs.{workable, fills}
 use Rattle.values.proofs.begin_cells.Statement.{statement}
 use Rattle.values.proofs.begin_cells.Tie as tie
 
+-- a step whose operands are known
+module _ (c : tie.After-result) where
+  abbrev start : tie.Start
+  start = c .before .before .before .before .before .before .before
+
+-- a step that works cells out
+module _ (c : tie.After-pairing-of) where
+  abbrev known : tie.After-op2
+  known = c .before .before .before .before
+
+  abbrev first : tie.Start
+  first = start (known .before .before)
+
+  told : c .pairing-of .result ≡ pairingOf (known .op2 .given .0 .0) (leOf (part (first .args .turn .step .at + scalarAt) wordBytes (now (first .args .recipe)))) (first .args .turn .a) (first .args .turn .b)
+  told = c .pairing-of .ensures ∙ ap (λ (n : ℕ). pairingOf (known .op2 .given .0 .0) n (first .args .turn .a) (first .args .turn .b)) (c .before .word .ensures)
+
 returns : tie.Need-returns
-returns c = let x = c .before .before .before .move-cells .ensures in (omega (arith, x .0), omega (arith, x .0, moved-most (c .before .before .before .before .before .before .before .before .before .args .job)), x .1)
-
--- nothing was moved
-module _ (c : tie.After-ahead-arg) where
-  abbrev s : tie.Start
-  s = c .before .before .before .before .before .before .before .before .before .before
-
-  abbrev left : List ℕ
-  left = c .before .before .before .before .move-cells .last .1 .1 .0
-
-  none : c .before .before .before .before .move-cells .result ≡ 0
-  none = omega (arith, c .before .if1 .left)
-
-  no-move : movedCount (s .args .job) ≤ 0
-  no-move = omega (arith, none, c .before .before .before .before .move-cells .ensures .0)
-
-  -- a step that began begins still
-  abbrev still : Asked (now (s .args .bundle)) (now (s .args .recipe)) (now (s .args .work)) (s .args .base) (s .args .job) → Asked (now (s .args .bundle)) (now (s .args .recipe)) left (s .args .base) (s .args .job)
-  still m = record {
-    reading = m .reading;
-    plan = m .plan;
-    area = m .area;
-    step = m .step;
-    setting = m .setting;
-    job = m .job;
-    none = subst (λ (k : ℕ). Filling (now (s .args .bundle)) (now (s .args .recipe)) (m .reading) (m .plan) (m .area) (m .step) (s .args .base) k left) none (c .before .before .before .before .move-cells .ensures .1 m);
-  }
+returns c = record { most = omega arith; filled = c .before .before .before .before .move-cells .ensures; works = λ h. absurd (omega arith) }
 
 ahead-requires : tie.Need-ahead-requires
-ahead-requires c κs = workable (now (s c .args .bundle)) (now (s c .args .recipe)) (left c) (s c .args .base) (s c .args .job) (still c (s c .pre .0)) (no-move c) (s c .args .q) (s c .pre .1)
+ahead-requires c κs = let k = c .before in workable (first k .pre) _ (known k .op2 .given .1) _ (told k)
 
 returns-2 : tie.Need-returns-2
 returns-2 c =
-    let x = c .before .before .ahead .ensures in
-    let a = c .before .before .before in
-    (omega (arith, no-move a), x .most, λ m. fills (now (s a .args .bundle)) (now (s a .args .recipe)) (left a) (s a .args .base) (s a .args .job) (still a m) (no-move a) (s a .args .q) (s a .pre .1) (c .before .before .ahead .result) _ (x .most) (x .worked))
+    let h = c .before .before in
+    let k = h .before .before in
+    let v = h .ahead .ensures in
+    record {
+      most = v .most;
+      filled = λ a. fills a _ (known k .op2 .given .1) _ (told k) _ _ (v .most) (v .worked);
+      works = λ l. (_, known k .op2 .given .1, told k);
+    }
 
 pub begin-cells-spec : {M : Type 1} → statement M
-begin-cells-spec = tie.close (tie.spec (λ c κs. search needs) (λ c. search needs) returns ahead-requires (λ c. search needs) returns-2)
+begin-cells-spec =
+    tie.close
+    (tie.spec
+    (λ c. search needs) (λ c κs. search needs) (λ c κs. search needs) (λ c κs. search needs) (λ c. search needs)
+    returns (λ c. search needs) (λ c. search needs) (λ c κs. search needs) (λ c κs. search needs) ahead-requires
+    (λ c. search needs) returns-2)

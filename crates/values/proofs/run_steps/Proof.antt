@@ -1,11 +1,6 @@
--- `values::run_steps` meets its contract: each event of the two loops has its law in specs/Turns.
-use Rattle.paper.specs.Values.{cellAt, operandArray}
-use Rattle.paper.specs.Axes.{atOffset}
-use Rattle.values.specs.Computing.{Computes}
-use Rattle.quick.specs.declared.operands.Pairing.{Pairing}
+-- `values::run_steps` meets its contract: each event of the two loops has its law in specs/Done and specs/Runs.
 use Prim.Native.Nat.{ℕ, _+_, _-_, _*_, _≤_, _<_}
 use mathlib.Core.Path.{_≡_, refl, sym, ap, subst, _∙_}
-use mathlib.Core.Bool.{false}
 use mathlib.Core.List.{List}
 use native.Mathlib.Omega.{arith}
 use denote.Ref.{now}
@@ -13,186 +8,257 @@ use borrow.Author.Needs.{needs}
 use lib.ListN.{length, take}
 use lib.Seq.{length-take-le}
 use Rattle.paper.specs.declared.Refusal.{Refusal}
-use Rattle.paper.specs.Limits.{cellBytes, mostCells, mostSteps}
-use Rattle.paper.specs.Refusals.{refusal}
-use Rattle.coded.specs.Codes.{NoNan}
-use Rattle.recipe.specs.Whole.{stepsOf}
-use Rattle.origin.specs.Origins.{moves}
-use Rattle.values.specs.declared.Job.{Job}
-use Rattle.values.specs.Jobs.{moved-none}
-use Rattle.values.specs.Found.{arraysIn, steps-count}
-use Rattle.values.specs.Doing.{stepAt, Doing, Filling, run-begins, step-begins, run-ends, doing-long}
-use Rattle.values.specs.Turns.{detail-there, few-cells, few-steps, long, room-all, room, ended, worked, worked-on, stops}
+use Rattle.paper.specs.declared.Work.{Work}
+use Rattle.paper.specs.declared.Operation.the-variants.{Works}
+use Rattle.paper.specs.Limits.{cellBytes, wordBytes, scalarAt, mostCells, mostSteps, stepsFrom}
+use Rattle.paper.specs.Numbers.{leOf, part}
+use Rattle.paper.specs.Refusals.{refused, refusal}
+use Rattle.recipe.specs.declared.Plan.{Plan}
+use Rattle.recipe.specs.Whole.{stepsOf, steps-count}
+use Rattle.coded.specs.Codes.{NoNan, answered}
+use Rattle.quick.specs.declared.operands.Pairing.{Pairing}
+use Rattle.quick.specs.Cells.{answerAt}
+use Rattle.values.specs.declared.Turn.{Turn}
+use Rattle.values.specs.Done.{stepAt, answerTo, Done, StepsDone, CellsDone, run-begins, step-begins, steps-long}
+use Rattle.values.specs.Turns.{pairingOf, Computes}
+use Rattle.values.specs.Found.{arraysAt, turnIn, numbers-few, begins-at, ready}
+use Rattle.values.specs.Runs.{InTurn, Asked, few-cells, keeps, room-all, ended, worked-at, worked-on, refuses, untouched, late}
 use Rattle.values.proofs.run_steps.Statement.{statement}
 use Rattle.values.proofs.run_steps.Tie as tie
 
 abbrev Inv-cells : tie.InvT-cells
-Inv-cells bundle recipe reading plan work₀ m out₀ base s n q k₀ work out k =
-    (k₀ ≤ k) × (k ≤ n) × ((W : List ℕ) → Filling bundle recipe reading plan W s base k₀ work₀ → Filling bundle recipe reading plan W s base k work) × (out ≡ out₀)
+Inv-cells bundle recipe work₀ plan m out₀ s base n q k₀ work out k =
+    (k₀ ≤ k) × (k ≤ n) × (n ≤ mostCells) × (base + n * cellBytes ≤ length work) × (length work ≡ length work₀) × (out ≡ out₀)
+    × ((W : List ℕ) (d : Done (arraysAt bundle plan) (stepsOf recipe plan) W s) → CellsDone d k₀ work₀ → CellsDone d k work)
 
 abbrev μ-cells : tie.MeasureT-cells
-μ-cells bundle recipe reading plan work₀ m out₀ base s n q k₀ work out k = n - k
+μ-cells bundle recipe work₀ plan m out₀ s base n q k₀ work out k = n - k
 
 abbrev Inv-steps : tie.InvT-steps
-Inv-steps bundle recipe reading plan work₀ m out₀ base₀ s₀ work out base s = Doing bundle recipe reading plan work₀ s base work × (out ≡ refusal 0 0 0)
+Inv-steps bundle recipe work₀ plan m out₀ s₀ work out s =
+    (s ≤ m) × (m ≤ mostSteps) × StepsDone (arraysAt bundle plan) (stepsOf recipe plan) work₀ s work × (out ≡ refusal 0 0 0)
 
 abbrev μ-steps : tie.MeasureT-steps
-μ-steps bundle recipe reading plan work₀ m out₀ base₀ s₀ work out base s = m - s
+μ-steps bundle recipe work₀ plan m out₀ s₀ work out s = m - s
 
--- a step begins: Start is six places back
+-- a step begins
 module _ (c : tie.In-steps Inv-cells μ-cells Inv-steps μ-steps) where
-  abbrev a : tie.Start Inv-cells μ-cells Inv-steps μ-steps
-  a = c .before .before .before .before .before .before
+  abbrev start : tie.Start Inv-cells μ-cells Inv-steps μ-steps
+  start = c .before .before .before .before .before .before
+
+  abbrev B : List ℕ
+  B = now (start .args .bundle)
+
+  abbrev bs : List ℕ
+  bs = now (start .args .recipe)
+
+  abbrev P : Plan
+  P = start .args .t3
 
   abbrev W : List ℕ
-  W = now (a .args .work)
-
-  step-here : c .before .steps .s < length (stepsOf (now (a .args .recipe)) (a .args .plan))
-  step-here = omega (arith, steps-count (now (a .args .bundle)) (now (a .args .recipe)) (a .args .reading) (a .args .plan) (a .pre .setting), c .steps-test .taken)
-
-  begun : Filling (now (a .args .bundle)) (now (a .args .recipe)) (a .args .reading) (a .args .plan) W (c .before .steps .s) (c .before .steps .base) 0 (c .before .steps .work)
-  begun = step-begins (now (a .args .bundle)) (now (a .args .recipe)) (a .args .reading) (a .args .plan) W (c .before .steps .s) (c .before .steps .base) (c .before .steps .work) (c .before .steps .inv .0) step-here
-
--- the head of the loop over cells: the step begins seven places back
-module _ (c : tie.At-cells Inv-cells μ-cells Inv-steps μ-steps) where
-  abbrev b : tie.In-steps Inv-cells μ-cells Inv-steps μ-steps
-  b = c .before .before .before .before .before .before .before
-
-  abbrev j : Job
-  j = c .before .before .before .before .before .before .job-of .result
+  W = now (start .args .work)
 
   abbrev s : ℕ
-  s = c .before .before .before .before .before .before .before .before .steps .s
+  s = c .before .steps .s
 
-  abbrev base : ℕ
-  base = c .before .before .before .before .before .before .before .before .steps .base
+  abbrev sofar : StepsDone (arraysAt B P) (stepsOf bs P) W s (c .before .steps .work)
+  sofar = c .before .steps .inv .2
 
-  abbrev k : ℕ
-  k = c .cells .k
+  here : s < length (stepsOf bs P)
+  here = omega (arith, steps-count (start .pre .setting .laid), c .steps-test .taken)
 
-  abbrev work : List ℕ
-  work = c .cells .work
+  abbrev t : Turn
+  t = turnIn P s
 
-  -- the work area as the moves left it, X being the one that was lent
-  abbrev Moved : List ℕ → Type 0
-  Moved X = Filling (now (a b .args .bundle)) (now (a b .args .recipe)) (a b .args .reading) (a b .args .plan) X s base (c .before .before .before .begin-cells .result) (c .before .before .before .begin-cells .last .1 .1 .0)
+  numbers : (t .step .a ≤ stepsFrom + mostSteps) × (t .step .b ≤ stepsFrom + mostSteps)
+  numbers = numbers-few (start .pre .setting) (sofar .done) here
 
-  moved : Moved (W b)
-  moved = c .before .before .before .begin-cells .ensures .2 (record { reading = a b .args .reading; plan = a b .args .plan; area = W b; step = s; setting = a b .pre .setting; job = c .before .before .before .before .before .before .job-of .ensures; none = begun b })
+  -- it is ready, whatever the work area was
+  turned : (X : List ℕ) (d : Done (arraysAt B P) (stepsOf bs P) X s) → InTurn B bs t d
+  turned X d = record { at = begins-at (start .pre .setting) d here; ready = ready (start .pre .setting) d here }
 
-  module _ (X : List ℕ) (f : Moved X) where
-    abbrev fill : Filling (now (a b .args .bundle)) (now (a b .args .recipe)) (a b .args .reading) (a b .args .plan) X s base k work
-    fill = c .cells .inv .2 X f
+  abbrev asked : Asked B bs (c .before .steps .work) t
+  asked = record {
+    arrays = arraysAt B P;
+    steps = stepsOf bs P;
+    area = W;
+    number = s;
+    done = sofar .done;
+    in-turn = turned W (sofar .done);
+    none = step-begins sofar here;
+  }
 
-    kept : length work ≡ length X
-    kept = long (now (a b .args .bundle)) (now (a b .args .recipe)) (a b .args .reading) (a b .args .plan) (a b .pre .setting) X s base k work fill j (c .before .before .before .before .before .before .job-of .ensures) (c .cells .inv .1)
+steps-holds : tie.Need-steps-holds Inv-cells μ-cells Inv-steps μ-steps
+steps-holds c =
+    let p = c .before .before .before .before in
+    (omega arith, p .pre .setting .laid .few, run-begins _ _ _ (p .pre .room), c .none .ensures)
 
-    few : j .planned .cells ≤ mostCells
-    few = few-cells (now (a b .args .bundle)) (now (a b .args .recipe)) (a b .args .reading) (a b .args .plan) (a b .pre .setting) X s base k work fill j (c .before .before .before .before .before .before .job-of .ensures)
+mul-a : tie.Need-mul-a Inv-cells μ-cells Inv-steps μ-steps
+mul-a c = omega (arith, numbers (c .before .before) .0)
 
-    steps-few : s < mostSteps
-    steps-few = few-steps (now (a b .args .bundle)) (now (a b .args .recipe)) (a b .args .reading) (a b .args .plan) (a b .pre .setting) X s base k work fill j (c .before .before .before .before .before .before .job-of .ensures)
+element-copy-out-a : tie.Need-element-copy-out-a Inv-cells μ-cells Inv-steps μ-steps
+element-copy-out-a c = omega (arith, numbers (c .before .before) .0)
 
-    all-room : base + j .planned .cells * cellBytes ≤ length X
-    all-room = room-all (now (a b .args .bundle)) (now (a b .args .recipe)) (a b .args .reading) (a b .args .plan) (a b .pre .setting) X s base k work fill j (c .before .before .before .before .before .before .job-of .ensures)
+mul-b : tie.Need-mul-b Inv-cells μ-cells Inv-steps μ-steps
+mul-b c = omega (arith, numbers (c .before .before .before .before) .1)
+
+element-copy-out-b : tie.Need-element-copy-out-b Inv-cells μ-cells Inv-steps μ-steps
+element-copy-out-b c = omega (arith, numbers (c .before .before .before .before) .1)
+
+begin-cells-requires : tie.Need-begin-cells-requires Inv-cells μ-cells Inv-steps μ-steps
+begin-cells-requires c κs = asked (c .before .before .before .before .before .before .before .before)
+
+-- its first cells are there
+module _ (c : tie.After-begin-cells Inv-cells μ-cells Inv-steps μ-steps) where
+  abbrev its : tie.In-steps Inv-cells μ-cells Inv-steps μ-steps
+  its = c .before .before .before .before .before .before .before .before .before
+
+  begun : CellsDone (sofar its .done) (c .begin-cells .result .count) (c .begin-cells .last .1 .1 .0)
+  begun = c .begin-cells .ensures .filled (asked its)
+
+-- the head of the loop over cells
+module _ (c : tie.At-cells Inv-cells μ-cells Inv-steps μ-steps) where
+  abbrev first : tie.After-begin-cells Inv-cells μ-cells Inv-steps μ-steps
+  first = c .before .before .before .before
+
+  abbrev on : InTurn (B (its first)) (bs (its first)) (t (its first)) (sofar (its first) .done)
+  on = turned (its first) _ _
+
+  fill : CellsDone (sofar (its first) .done) (c .cells .k) (c .cells .work)
+  fill = c .cells .inv .6 _ _ (begun first)
 
 -- a turn of it
 module _ (c : tie.In-cells Inv-cells μ-cells Inv-steps μ-steps) where
-  abbrev q : Pairing
-  q = c .before .before .before .before .before .before .pairing-of .result
+  abbrev head : tie.At-cells Inv-cells μ-cells Inv-steps μ-steps
+  head = c .before
 
-  none : moves (j (c .before) .planned .step .operation) ≡ false
-  none = moved-none (j (c .before)) (k (c .before)) (omega (arith, c .before .cells .inv .0, c .before .before .before .before .begin-cells .ensures .0)) (c .cells-test .taken)
+  abbrev pairing : tie.After-begin-cells Inv-cells μ-cells Inv-steps μ-steps
+  pairing = first head
 
-  here : base (c .before) + k (c .before) * cellBytes + cellBytes ≤ length (work (c .before))
-  here = room (now (a (b (c .before)) .args .bundle)) (now (a (b (c .before)) .args .recipe)) (a (b (c .before)) .args .reading) (a (b (c .before)) .args .plan) (a (b (c .before)) .pre .setting) (W (b (c .before))) (s (c .before)) (base (c .before)) (k (c .before)) (work (c .before)) (fill (c .before) (W (b (c .before))) (moved (c .before))) (j (c .before)) (c .before .before .before .before .before .before .before .job-of .ensures) (c .cells-test .taken)
+  works : (w : Work) × (t (its pairing) .step .operation ≡ Works w)
+      × (pairing .begin-cells .result .pairing ≡ pairingOf w (leOf (part (t (its pairing) .step .at + scalarAt) wordBytes (bs (its pairing))))
+      (t (its pairing) .a) (t (its pairing) .b))
+  works = pairing .begin-cells .ensures .works (omega (arith, head .cells .inv .0, c .cells-test .taken))
 
-  works : Computes (now (a (b (c .before)) .args .bundle)) (take (base (c .before)) (work (c .before))) q (k (c .before)) (cellAt (stepAt (now (a (b (c .before)) .args .recipe)) (a (b (c .before)) .args .plan) (s (c .before)) .step .operation) (stepAt (now (a (b (c .before)) .args .recipe)) (a (b (c .before)) .args .plan) (s (c .before)) .step) (operandArray (arraysIn (now (a (b (c .before)) .args .bundle)) (a (b (c .before)) .args .reading)) (fill (c .before) (W (b (c .before))) (moved (c .before)) .sofar .done) (stepAt (now (a (b (c .before)) .args .recipe)) (a (b (c .before)) .args .plan) (s (c .before)) .step .a)) (operandArray (arraysIn (now (a (b (c .before)) .args .bundle)) (a (b (c .before)) .args .reading)) (fill (c .before) (W (b (c .before))) (moved (c .before)) .sofar .done) (stepAt (now (a (b (c .before)) .args .recipe)) (a (b (c .before)) .args .plan) (s (c .before)) .step .b)) (atOffset (stepAt (now (a (b (c .before)) .args .recipe)) (a (b (c .before)) .args .plan) (s (c .before)) .shape .axes) (k (c .before))))
-  works = worked (now (a (b (c .before)) .args .bundle)) (now (a (b (c .before)) .args .recipe)) (a (b (c .before)) .args .reading) (a (b (c .before)) .args .plan) (a (b (c .before)) .pre .setting) (W (b (c .before))) (s (c .before)) (base (c .before)) (k (c .before)) (work (c .before)) (fill (c .before) (W (b (c .before))) (moved (c .before))) (j (c .before)) (c .before .before .before .before .before .before .before .job-of .ensures) none q (c .before .before .before .before .before .before .pairing-of .ensures) (c .cells-test .taken)
-
-steps-holds : tie.Need-steps-holds Inv-cells μ-cells Inv-steps μ-steps
-steps-holds c = (run-begins (now (c .before .before .before .before .args .bundle)) (now (c .before .before .before .before .args .recipe)) (c .before .before .before .before .args .reading) (c .before .before .before .before .args .plan) (now (c .before .before .before .before .args .work)) (c .before .before .before .before .pre .room), c .no-refusal .ensures)
-
-job-of-requires : tie.Need-job-of-requires Inv-cells μ-cells Inv-steps μ-steps
-job-of-requires c κs = (c .before .before .before .before .before .before .pre .setting .arrays, (c .before .before .before .before .before .before .pre .setting .results, c .steps-test .taken))
-
-pairing-of-requires : tie.Need-pairing-of-requires Inv-cells μ-cells Inv-steps μ-steps
-pairing-of-requires c κs = detail-there (now (a (c .before) .args .bundle)) (now (a (c .before) .args .recipe)) (a (c .before) .args .reading) (a (c .before) .args .plan) (a (c .before) .pre .setting) (W (c .before)) (c .before .before .steps .s) (c .before .before .steps .base) 0 (c .before .before .steps .work) (begun (c .before)) (c .job-of .result) (c .job-of .ensures)
-
-begin-cells-requires : tie.Need-begin-cells-requires Inv-cells μ-cells Inv-steps μ-steps
-begin-cells-requires c κs = (record { reading = a (c .before .before .before) .args .reading; plan = a (c .before .before .before) .args .plan; area = W (c .before .before .before); step = c .before .before .before .before .steps .s; setting = a (c .before .before .before) .pre .setting; job = c .before .before .job-of .ensures; none = begun (c .before .before .before) }, c .before .pairing-of .ensures)
+  computed-here : Computes (B (its pairing)) (take (t (its pairing) .result .at) (head .cells .work)) (pairing .begin-cells .result .pairing) (head .cells .k)
+      (answerTo (arraysAt (B (its pairing)) (P (its pairing))) (sofar (its pairing) .done .results) (stepAt (stepsOf (bs (its pairing)) (P (its pairing))) (s (its pairing))) (head .cells .k))
+  computed-here = worked-at (on head) (fill head) (works .0) (works .1) _ (works .2) (head .cells .k) (c .cells-test .taken)
 
 cells-holds : tie.Need-cells-holds Inv-cells μ-cells Inv-steps μ-steps
-cells-holds c = (omega arith, c .before .before .begin-cells .ensures .1, (λ X f. f), refl)
-
-slice-reshare-prefix-done : tie.Need-slice-reshare-prefix-done Inv-cells μ-cells Inv-steps μ-steps
-slice-reshare-prefix-done c = omega (arith, here c)
+cells-holds c =
+    let f = c .before .before .before in
+    let y = turned (its f) _ (sofar (its f) .done) in
+    let m = f .begin-cells .ensures .most in
+    (omega arith, m, few-cells y (begun f), omega (arith, room-all y (begun f), keeps y (begun f) m), refl, refl, λ X d v. v)
 
 slice-aggregate-done : tie.Need-slice-aggregate-done Inv-cells μ-cells Inv-steps μ-steps
-slice-aggregate-done c = sym (length-take-le (base (c .before .before)) (work (c .before .before)) (omega (arith, here (c .before))))
+slice-aggregate-done c = let l = c .before .before .cells in sym (length-take-le _ (l .work) (omega (arith, l .inv .3)))
 
 raw-of-requires : tie.Need-raw-of-requires Inv-cells μ-cells Inv-steps μ-steps
-raw-of-requires c κs = works (c .before) .first
+raw-of-requires c κs = computed-here (c .before) .first
 
 raw-of-requires-2 : tie.Need-raw-of-requires-2 Inv-cells μ-cells Inv-steps μ-steps
-raw-of-requires-2 c κs = works (c .before .before) .second
+raw-of-requires-2 c κs = computed-here (c .before .before) .second
 
 computed-requires : tie.Need-computed-requires Inv-cells μ-cells Inv-steps μ-steps
-computed-requires c κs = λ z. let w = works (c .before .before .before) .words z in (subst NoNan (sym (c .before .raw-of .ensures .1)) (w .0), subst NoNan (sym (c .raw-of2 .ensures .1)) (w .1))
+computed-requires c κs = λ z.
+    let w = computed-here (c .before .before .before) .words z in
+    (subst NoNan (sym (c .before .raw-of .ensures .1)) (w .0), subst NoNan (sym (c .raw-of2 .ensures .1)) (w .1))
 
-mul-write-cell : tie.Need-mul-write-cell Inv-cells μ-cells Inv-steps μ-steps
-mul-write-cell c = omega (arith, few (c .before .before .before .before .before .before .before .before .before) (W (b (c .before .before .before .before .before .before .before .before .before))) (moved (c .before .before .before .before .before .before .before .before .before)), c .before .before .before .before .before .before .before .before .cells-test .taken)
+-- the answer at the cell
+module _ (c : tie.After-computed Inv-cells μ-cells Inv-steps μ-steps) where
+  abbrev turn : tie.In-cells Inv-cells μ-cells Inv-steps μ-steps
+  turn = c .before .before .before .before
+
+  abbrev step : tie.In-steps Inv-cells μ-cells Inv-steps μ-steps
+  step = its (pairing turn)
+
+  abbrev q : Pairing
+  q = pairing turn .begin-cells .result .pairing
+
+  gave : c .computed .result ≡ answerAt (B step) (take (t step .result .at) (head turn .cells .work)) q (head turn .cells .k)
+  gave =
+      let x = c .before .before .raw-of .ensures in
+      let y = c .before .raw-of2 .ensures in
+      c .computed .ensures ∙ (λ i. answered (q .code) (x .0 i) (x .1 i) (y .0 i) (y .1 i))
+
+  kept : length (head turn .cells .work) ≡ length (W step)
+  kept = keeps (on (head turn)) (fill (head turn)) (head turn .cells .inv .1)
 
 add-write-cell : tie.Need-add-write-cell Inv-cells μ-cells Inv-steps μ-steps
-add-write-cell c = omega (arith, here (c .before .before .before .before .before .before .before .before), kept (c .before .before .before .before .before .before .before .before .before) (W (b (c .before .before .before .before .before .before .before .before .before))) (moved (c .before .before .before .before .before .before .before .before .before)), a (b (c .before .before .before .before .before .before .before .before .before)) .good)
+add-write-cell c =
+    let x = c .before .before .before .before in
+    omega (arith, head (turn x) .cells .inv .3, kept x, turn x .cells-test .taken, start (step x) .good)
 
-write-cell-requires : tie.Need-write-cell-requires Inv-cells μ-cells Inv-steps μ-steps
-write-cell-requires c κs = omega (arith, here (c .before .before .before .before .before .before .before .before))
+refusal-of-requires : tie.Need-refusal-of-requires Inv-cells μ-cells Inv-steps μ-steps
+refusal-of-requires c κs =
+    let x = c .before .before .before in
+    (omega (arith, step x .before .steps .inv .1, step x .steps-test .taken), omega (arith, head (turn x) .cells .inv .2, turn x .cells-test .taken))
 
-refusing-requires : tie.Need-refusing-requires Inv-cells μ-cells Inv-steps μ-steps
-refusing-requires c κs = (steps-few (c .before .before .before .before .before .before .before .before) (W (b (c .before .before .before .before .before .before .before .before))) (moved (c .before .before .before .before .before .before .before .before)), omega (arith, few (c .before .before .before .before .before .before .before .before) (W (b (c .before .before .before .before .before .before .before .before))) (moved (c .before .before .before .before .before .before .before .before)), c .before .before .before .before .before .before .before .cells-test .taken))
+-- the cell is stored
+module _ (c : tie.After-write-cell Inv-cells μ-cells Inv-steps μ-steps) where
+  abbrev at : tie.After-computed Inv-cells μ-cells Inv-steps μ-steps
+  at = c .before .before .before .before .before
 
-add-k : tie.Need-add-k Inv-cells μ-cells Inv-steps μ-steps
-add-k c = omega (arith, few (c .before .before .before .before .before .before .before .before .before .before .before .before) (W (b (c .before .before .before .before .before .before .before .before .before .before .before .before))) (moved (c .before .before .before .before .before .before .before .before .before .before .before .before)), c .before .before .before .before .before .before .before .before .before .before .before .cells-test .taken)
+  next : (X : List ℕ) (d : Done (arraysAt (B (step at)) (P (step at))) (stepsOf (bs (step at)) (P (step at))) X (s (step at)))
+      → CellsDone d (pairing (turn at) .begin-cells .result .count) (pairing (turn at) .begin-cells .last .1 .1 .0) → CellsDone d (head (turn at) .cells .k + 1) (c .write-cell .last .0)
+  next X d v =
+      let w = works (turn at) in
+      worked-on (turned (step at) X d) (head (turn at) .cells .inv .6 X d v) (w .0) (w .1) (q at) (w .2) (turn at .cells-test .taken) (at .computed .result) (gave at)
+      _ (c .before .before .before .got .given .1) _ (c .write-cell .ensures)
+
+  stays : length (c .write-cell .last .0) ≡ length (W (step at))
+  stays = keeps (on (head (turn at))) (next _ _ (begun (pairing (turn at)))) (omega (arith, turn at .cells-test .taken))
 
 cells-again : tie.Need-cells-again Inv-cells μ-cells Inv-steps μ-steps
-cells-again c = (omega (arith, c .before .before .before .before .before .before .before .before .before .before .before .before .cells .inv .0), omega (arith, c .before .before .before .before .before .before .before .before .before .before .before .cells-test .taken), (λ X f. worked-on (now (a (b (c .before .before .before .before .before .before .before .before .before .before .before .before)) .args .bundle)) (now (a (b (c .before .before .before .before .before .before .before .before .before .before .before .before)) .args .recipe)) (a (b (c .before .before .before .before .before .before .before .before .before .before .before .before)) .args .reading) (a (b (c .before .before .before .before .before .before .before .before .before .before .before .before)) .args .plan) (a (b (c .before .before .before .before .before .before .before .before .before .before .before .before)) .pre .setting) X (s (c .before .before .before .before .before .before .before .before .before .before .before .before)) (base (c .before .before .before .before .before .before .before .before .before .before .before .before)) (k (c .before .before .before .before .before .before .before .before .before .before .before .before)) (work (c .before .before .before .before .before .before .before .before .before .before .before .before)) (fill (c .before .before .before .before .before .before .before .before .before .before .before .before) X f) (j (c .before .before .before .before .before .before .before .before .before .before .before .before)) (c .before .before .before .before .before .before .before .before .before .before .before .before .before .before .before .before .before .before .job-of .ensures) (none (c .before .before .before .before .before .before .before .before .before .before .before)) (q (c .before .before .before .before .before .before .before .before .before .before .before)) (c .before .before .before .before .before .before .before .before .before .before .before .before .before .before .before .before .before .pairing-of .ensures) (c .before .before .before .before .before .before .before .before .before .before .before .cells-test .taken) _ _ _ _ (c .before .before .before .before .before .before .before .before .before .raw-of .ensures .0) (c .before .before .before .before .before .before .before .before .before .raw-of .ensures .1) (c .before .before .before .before .before .before .before .before .raw-of2 .ensures .0) (c .before .before .before .before .before .before .before .before .raw-of2 .ensures .1) (c .before .before .before .before .before .before .before .computed .result) (c .before .before .before .before .before .before .before .computed .ensures) _ (c .before .before .before .before .before .got .given .1) _ (c .before .before .write-cell .ensures)), c .before .before .before .before .before .before .before .before .before .before .before .before .cells .inv .3)
-
-mul-base : tie.Need-mul-base Inv-cells μ-cells Inv-steps μ-steps
-mul-base c = omega (arith, few (c .before) (W (b (c .before))) (moved (c .before)))
-
-add-base : tie.Need-add-base Inv-cells μ-cells Inv-steps μ-steps
-add-base c = omega (arith, all-room (c .before) (W (b (c .before))) (moved (c .before)), a (b (c .before)) .good)
-
-add-s : tie.Need-add-s Inv-cells μ-cells Inv-steps μ-steps
-add-s c = omega (arith, steps-few (c .before) (W (b (c .before))) (moved (c .before)))
+cells-again c =
+    let y = c .before .before in
+    let l = head (turn (at y)) .cells in
+    (omega (arith, l .inv .0), omega (arith, turn (at y) .cells-test .taken), l .inv .2, omega (arith, l .inv .3, stays y, kept (at y)), stays y ∙ sym (kept (at y)) ∙ l .inv .4, l .inv .5, next y)
 
 steps-again : tie.Need-steps-again Inv-cells μ-cells Inv-steps μ-steps
-steps-again c = (ended (now (a (b (c .before)) .args .bundle)) (now (a (b (c .before)) .args .recipe)) (a (b (c .before)) .args .reading) (a (b (c .before)) .args .plan) (a (b (c .before)) .pre .setting) (W (b (c .before))) (s (c .before)) (base (c .before)) (k (c .before)) (work (c .before)) (fill (c .before) (W (b (c .before))) (moved (c .before))) (j (c .before)) (c .before .before .before .before .before .before .before .job-of .ensures) (c .cells-test .left) (c .before .cells .inv .1), c .before .cells .inv .3 ∙ c .before .before .before .before .before .before .before .before .before .steps .inv .1)
+steps-again c =
+    let l = c .before in
+    let i = its (first l) in
+    (omega (arith, i .steps-test .taken), i .before .steps .inv .1, ended (on l) (fill l) (c .cells-test .left) (l .cells .inv .1), l .cells .inv .5 ∙ i .before .steps .inv .3)
 
 same-length : tie.Need-same-length Inv-cells μ-cells Inv-steps μ-steps
-same-length c = doing-long (now (c .before .before .before .before .before .before .args .bundle)) (now (c .before .before .before .before .before .before .args .recipe)) (c .before .before .before .before .before .before .args .reading) (c .before .before .before .before .before .before .args .plan) (now (c .before .before .before .before .before .before .args .work)) (c .before .steps .s) (c .before .steps .base) (c .before .steps .work) (c .before .steps .inv .0)
+same-length c = steps-long (c .before .steps .inv .2)
 
 returns : tie.Need-returns Inv-cells μ-cells Inv-steps μ-steps
-returns c = let d = c .before .steps .inv .0 in
-    let n = steps-count (now (c .before .before .before .before .before .before .args .bundle)) (now (c .before .before .before .before .before .before .args .recipe)) (c .before .before .before .before .before .before .args .reading) (c .before .before .before .before .before .before .args .plan) (c .before .before .before .before .before .before .pre .setting) in
+returns c =
+    let p = c .before .before .before .before .before .before in
+    let v = c .before .steps .inv in
+    let d = v .2 in
     record {
-      done = λ z. record { results = d .sofar .done; is = sym (run-ends (now (c .before .before .before .before .before .before .args .bundle)) (now (c .before .before .before .before .before .before .args .recipe)) (c .before .before .before .before .before .before .args .reading) (c .before .before .before .before .before .before .args .plan) (now (c .before .before .before .before .before .before .args .work)) (c .before .steps .s) (c .before .steps .base) (c .before .steps .work) (c .before .steps .inv .0) (omega (arith, n, c .steps-test .left))); whole = d .sofar .whole; bytes = d .bytes };
-      stopped = λ h. absurd (h (ap (λ (r : Refusal). r .number) (c .before .steps .inv .1)));
+      done = λ z. record { turn = _; steps = d; all = omega (arith, steps-count (p .pre .setting .laid), c .steps-test .left) };
+      stopped = λ h. absurd (h (ap (λ (r : Refusal). r .number) (v .3)));
     }
 
 same-length-2 : tie.Need-same-length-2 Inv-cells μ-cells Inv-steps μ-steps
-same-length-2 c = kept (c .before .before .before .before .before .before .before .before .before) (W (b (c .before .before .before .before .before .before .before .before .before))) (moved (c .before .before .before .before .before .before .before .before .before))
+same-length-2 c = kept (c .before .before .before .before)
 
 returns-2 : tie.Need-returns-2 Inv-cells μ-cells Inv-steps μ-steps
-returns-2 c = let x = stops (now (a (b (c .before .before .before .before .before .before .before .before .before)) .args .bundle)) (now (a (b (c .before .before .before .before .before .before .before .before .before)) .args .recipe)) (a (b (c .before .before .before .before .before .before .before .before .before)) .args .reading) (a (b (c .before .before .before .before .before .before .before .before .before)) .args .plan) (a (b (c .before .before .before .before .before .before .before .before .before)) .pre .setting) (W (b (c .before .before .before .before .before .before .before .before .before))) (s (c .before .before .before .before .before .before .before .before .before)) (base (c .before .before .before .before .before .before .before .before .before)) (k (c .before .before .before .before .before .before .before .before .before)) (work (c .before .before .before .before .before .before .before .before .before)) (fill (c .before .before .before .before .before .before .before .before .before) (W (b (c .before .before .before .before .before .before .before .before .before))) (moved (c .before .before .before .before .before .before .before .before .before))) (j (c .before .before .before .before .before .before .before .before .before)) (c .before .before .before .before .before .before .before .before .before .before .before .before .before .before .before .job-of .ensures) (none (c .before .before .before .before .before .before .before .before)) (q (c .before .before .before .before .before .before .before .before)) (c .before .before .before .before .before .before .before .before .before .before .before .before .before .before .pairing-of .ensures) (c .before .before .before .before .before .before .before .before .cells-test .taken) _ _ _ _ (c .before .before .before .before .before .before .raw-of .ensures .0) (c .before .before .before .before .before .before .raw-of .ensures .1) (c .before .before .before .before .before .raw-of2 .ensures .0) (c .before .before .before .before .before .raw-of2 .ensures .1) (c .before .before .before .before .computed .result) (c .before .before .before .before .computed .ensures) _ (c .before .before .got2 .given .1) (c .refusing .result) (c .refusing .ensures) in record { done = λ z. absurd (x .0 z); stopped = λ h. x .1 }
+returns-2 c =
+    let x = c .before .before .before .before in
+    let w = works (turn x) in
+    let y = on (head (turn x)) in
+    let f = fill (head (turn x)) in
+    let t = turn x .cells-test .taken in
+    let e = ap refused (c .refusal-of .ensures) ∙ refuses y f (w .0) (w .1) (q x) (w .2) t (x .computed .result) (gave x) _ (c .before .before .got2 .given .1) in
+    record {
+      done = λ z. absurd (late _ _ _ e z);
+      stopped = λ h. record { is = sym e; long = kept x; rest = untouched y f (w .0) (w .1) (q x) (w .2) t (x .computed .result) (gave x) };
+    }
 
 pub run-steps-spec : {M : Type 1} → statement M
 run-steps-spec =
     tie.close
     (tie.spec
-    Inv-cells μ-cells Inv-steps μ-steps (λ c κs. search needs) steps-holds job-of-requires pairing-of-requires
-    begin-cells-requires cells-holds slice-reshare-prefix-done slice-aggregate-done raw-of-requires raw-of-requires-2
-    computed-requires (λ c. search needs) mul-write-cell add-write-cell write-cell-requires (λ c. search needs)
-    refusing-requires add-k (λ c. omega arith) cells-again mul-base add-base add-s (λ c. omega arith) steps-again
-    same-length returns same-length-2 returns-2)
+    Inv-cells μ-cells Inv-steps μ-steps (λ c κs. search needs) steps-holds (λ c. search needs) (λ c. search needs)
+    (λ c. search needs) mul-a element-copy-out-a (λ c. search needs) mul-b element-copy-out-b (λ c. search needs)
+    (λ c. search needs) (λ c. search needs) (λ c. search needs) begin-cells-requires cells-holds (λ c. search needs)
+    slice-aggregate-done raw-of-requires raw-of-requires-2 computed-requires (λ c. search needs) (λ c. search needs)
+    add-write-cell (λ c κs. search needs) (λ c. search needs) refusal-of-requires (λ c. search needs)
+    (λ c. search needs) cells-again (λ c. search needs) (λ c. search needs) steps-again same-length returns
+    same-length-2 returns-2)

@@ -1,5 +1,6 @@
 -- `bundle::mark::is_marked` meets its contract.
-use Rattle.bundle.specs.Axes.{marked, and-true}
+use Rattle.laws.specs.Tests.{and-true}
+use Rattle.bundle.specs.Axes.{marked}
 use denote.Ref.{now}
 use borrow.Author.Tests.{eq-eqb, ne-eqb}
 use mathlib.Core.Path.{sym, _∙_}
@@ -30,7 +31,7 @@ returns-4 c =
 returns-5 : tie.Need-returns-5
 returns-5 c =
     let s = c .before .before .before .before .before .before .before .before .before in
-    sym (marked (now (s .args .s)) (s .pre) ∙ rw (eq-eqb _ _ (c .before .before .before .before .before .before .before .if1 .left), eq-eqb _ _ (c .before .before .before .before .before .if2 .left), eq-eqb _ _ (c .before .before .before .if3 .left), eq-eqb _ _ (c .before .if4 .left)) (sym (and-true _)))
+    sym (marked (now (s .args .s)) (s .pre) ∙ rw (eq-eqb _ _ (c .before .before .before .before .before .before .before .if1 .left), eq-eqb _ _ (c .before .before .before .before .before .if2 .left), eq-eqb _ _ (c .before .before .before .if3 .left), eq-eqb _ _ (c .before .if4 .left)) (and-true _))
 
 pub is-marked-spec : {M : Type 1} → statement M
 is-marked-spec =

@@ -1,39 +1,38 @@
 -- `pack::judge::judged` meets its contract: the loop keeps what is known of the forms left equal to what is known of all.
-use Rattle.pack.proofs.judge.judged.Statement.{statement}
-use Rattle.pack.proofs.judge.judged.Tie as tie
 use Prim.Native.Nat.{ℕ, _+_, _-_, _≤_}
-use mathlib.Core.Path.{_≡_, refl, sym, _∙_}
-use mathlib.Core.Bool.{true}
-use mathlib.Core.List.{_∷_}
+use mathlib.Core.Path.{_≡_, sym, ap, _∙_}
+use mathlib.Core.List.{List, _∷_}
 use native.Mathlib.Omega.{arith}
 use borrow.Author.Needs.{needs}
 use borrow.Author.Tests.{not-true, not-false}
-use denote.Ref.{now}
-use lib.ListN.{length, getD, take, drop}
-use Rattle.laws.specs.Loops.{length-mapped}
-use Rattle.paper.specs.Limits.{mostArrays}
-use Rattle.paper.specs.Refusals.{between}
+use lib.ListN.{getD, take, drop}
 use Rattle.paper.specs.declared.Form.{Form}
-use Rattle.pack.specs.Judging.{Judging, judging-start, judging-more, judging-refused, all-refused, all-count, count-few, count-first, next-form, all-bad, all-left, all-got}
+use Rattle.paper.specs.Limits.{mostArrays}
+use Rattle.laws.specs.Loops.{length-mapped}
+use Rattle.laws.specs.Tests.{between-true}
+use Rattle.pack.specs.Judging.{Judging, judging-start, judging-more, over, Counted, count-first, next-form, all-count, all-bad, all-left, all-got}
+use Rattle.pack.proofs.judge.judged.Statement.{statement}
+use Rattle.pack.proofs.judge.judged.Tie as tie
 
 abbrev Inv-loop : tie.InvT-loop
-Inv-loop count cells forms bad at₀ long₀ i₀ at long i = Judging (take count forms) cells at long i
+Inv-loop count cells forms at₀ long₀ i₀ at long i = Judging (take count forms) cells at long i
 
 abbrev μ-loop : tie.MeasureT-loop
-μ-loop count cells forms bad at₀ long₀ i₀ at long i = count - i
+μ-loop count cells forms at₀ long₀ i₀ at long i = count - i
 
+-- the count is good
 module _ (c : tie.Else1 Inv-loop μ-loop) where
-  abbrev a : tie.Start Inv-loop μ-loop
-  a = c .before .before .before
+  abbrev count : ℕ
+  count = c .before .before .before .args .count
 
-  counted : between 1 mostArrays (a .args .count) ≡ true
-  counted = sym (c .before .in-range .ensures) ∙ not-false _ (c .if1 .left)
+  abbrev forms : List Form
+  forms = c .before .before .before .args .t2
 
-  full : length (a .args .t2) ≡ mostArrays
-  full = search (needs, length-mapped)
+  counted : Counted count forms
+  counted = record { range = sym (c .before .in-range .ensures) ∙ not-false _ (c .if1 .left); full = search (needs, length-mapped) }
 
-  few : a .args .count ≤ mostArrays
-  few = omega (arith, count-few (a .args .count) (a .args .t2) (now (a .args .cells)) counted full, full)
+  few : count ≤ mostArrays
+  few = between-true mostArrays count (counted .range) .1
 
 -- the form that the loop is at
 module _ (c : tie.In-loop Inv-loop μ-loop) where
@@ -43,13 +42,22 @@ module _ (c : tie.In-loop Inv-loop μ-loop) where
   abbrev i : ℕ
   i = c .before .loop .i
 
-  next : (f : Form) → drop i (take (a p .args .count) (a p .args .t2)) ≡ getD (a p .args .t2) i f ∷ drop (i + 1) (take (a p .args .count) (a p .args .t2))
-  next f = next-form (a p .args .count) (a p .args .t2) (now (a p .args .cells)) (counted p) (full p) i f (c .loop-test .taken)
+  next : (f : Form) → drop i (take (count p) (forms p)) ≡ getD (forms p) i f ∷ drop (i + 1) (take (count p) (forms p))
+  next f = next-form (counted p) i f (c .loop-test .taken)
+
+-- a form is judged
+module _ (c : tie.After-struct-known Inv-loop μ-loop) where
+  abbrev one : tie.After-form-judged Inv-loop μ-loop
+  one = c .before .before
+
+  abbrev turn : tie.In-loop Inv-loop μ-loop
+  turn = one .before .before
 
 returns : tie.Need-returns Inv-loop μ-loop
 returns c =
-    let s = c .before .before .before .before .args in
-    all-refused (s .count) (s .t2) (now (s .cells)) (c .refuse .result) _ (c .refuse .ensures) (λ e. omega arith) (all-count (s .count) (s .t2) (now (s .cells)) (sym (c .before .before .in-range .ensures) ∙ not-true _ (c .before .if1 .taken)))
+    let q = c .before .before in
+    all-count (sym (q .before .in-range .ensures) ∙ not-true _ (q .if1 .taken))
+    (c .all-refused .ensures ∙ ap over (c .before .refuse .ensures))
 
 loop-holds : tie.Need-loop-holds Inv-loop μ-loop
 loop-holds c = judging-start _ _
@@ -66,52 +74,43 @@ cast-form-judged c = omega (arith, few (p (c .before)))
 form-judged-requires : tie.Need-form-judged-requires Inv-loop μ-loop
 form-judged-requires c κs = c .before .before .loop .inv .room
 
--- a form is judged
-module _ (c : tie.After-form-judged Inv-loop μ-loop) where
-  abbrev turn : tie.In-loop Inv-loop μ-loop
-  turn = c .before .before
-
 returns-2 : tie.Need-returns-2 Inv-loop μ-loop
 returns-2 c =
-    let o = c .before .before .before .before in
+    let o = c .before .before in
     let t = turn o in
-    let q = p t in
-    all-refused (a q .args .count) (a q .args .t2) (now (a q .args .cells)) (c .refuse2 .result) _ (c .refuse2 .ensures) (c .before .if2 .taken)
-    (all-bad (a q .args .count) (a q .args .t2) (now (a q .args .cells)) (counted q) (full q) _
-    (judging-refused (t .before .loop .inv) (next t _) (o .form-judged .ensures) (c .before .if2 .taken)))
+    all-bad (counted (p t)) (t .before .loop .inv) (next t _) (one o .form-judged .ensures) (c .before .if2 .taken)
+    (c .all-refused2 .ensures)
 
 add-long : tie.Need-add-long Inv-loop μ-loop
 add-long c =
-    let o = c .before .before .before .before in
-    let t = turn o in
-    omega (arith, few (p t), t .before .loop .inv .few, o .form-judged .ensures .few)
+    let o = c .before .before in
+    omega (arith, few (p (turn o)), turn o .before .loop .inv .few, one o .form-judged .ensures .few)
 
 loop-again : tie.Need-loop-again Inv-loop μ-loop
 loop-again c =
-    let o = c .before .before .before .before in
+    let o = c .before .before in
     let t = turn o in
-    let q = p t in
-    judging-more (t .before .loop .inv) (next t _) (o .form-judged .ensures) (c .before .if2 .left)
-    (omega (arith, count-first (a q .args .count) (a q .args .t2) (now (a q .args .cells)) (counted q) (full q)))
+    judging-more (t .before .loop .inv) (next t _) (one o .form-judged .ensures) (c .before .if2 .left)
+    (omega (arith, count-first (counted (p t))))
 
 returns-3 : tie.Need-returns-3 Inv-loop μ-loop
 returns-3 c =
-    let w = c .before .before .before in
-    let l = w .loop in
-    let q = w .before in
-    all-refused (a q .args .count) (a q .args .t2) (now (a q .args .cells)) (c .refuse3 .result) _ (c .refuse3 .ensures) (λ e. omega arith)
-    (all-left (a q .args .count) (a q .args .t2) (now (a q .args .cells)) (counted q) (full q) (l .inv) (c .before .before .loop-test .left) (c .before .if3 .taken))
+    let e = c .before .before in
+    let w = e .before in
+    all-left (counted (w .before .before)) (w .before .loop .inv) (w .loop-test .left) (e .if3 .taken)
+    (c .all-refused3 .ensures ∙ ap over (c .before .refuse2 .ensures))
 
 returns-4 : tie.Need-returns-4 Inv-loop μ-loop
 returns-4 c =
-    let l = c .before .before .loop in
-    let q = c .before .before .before in
-    all-got (a q .args .count) (a q .args .t2) (now (a q .args .cells)) (counted q) (full q) (l .inv) (c .before .loop-test .left) (c .if3 .left) _ refl
+    let w = c .before .before in
+    all-got (counted (w .before .before)) (w .before .loop .inv) (w .loop-test .left) (c .before .if3 .left)
+    (λ j. record { refusal = (c .none .ensures) j; long = w .before .loop .long })
 
 pub judged-spec : {M : Type 1} → statement M
 judged-spec =
     tie.close
     (tie.spec
-    Inv-loop μ-loop (λ c κs. search needs) (λ c κs. search needs) returns loop-holds mul-form array-copy-out-form
-    (λ c. omega arith) cast-form-judged form-judged-requires (λ c κs. search needs) returns-2 add-long
-    (λ c. omega arith) (λ c. omega arith) loop-again (λ c κs. search needs) returns-3 returns-4)
+    Inv-loop μ-loop (λ c κs. search needs) (λ c κs. search needs) (λ c κs. search needs) returns loop-holds mul-form
+    array-copy-out-form (λ c. omega arith) cast-form-judged form-judged-requires (λ c κs. search needs) returns-2 add-long
+    (λ c. omega arith) (λ c. omega arith) loop-again (λ c κs. search needs) (λ c κs. search needs) returns-3
+    (λ c κs. search needs) returns-4)

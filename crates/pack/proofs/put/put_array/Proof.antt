@@ -30,7 +30,8 @@ module _ (c : tie.After-put-axes) where
   o = c .before .before
 
   kept : length (c .put-axes .last .0) ≡ length (now (start o .args .d))
-  kept = axes-kept (start o .pre) (o .before .rank-of .ensures .number) (o .cells-of .ensures .0) (c .put-axes .last .0) (c .put-axes .ensures)
+  kept =
+      axes-kept (start o .pre) (o .before .rank-of .ensures .number) (o .cells-of .ensures .0) (c .put-axes .last .0) (c .put-axes .ensures)
 
 -- and the cells
 module _ (c : tie.After-slice-known3) where
@@ -40,7 +41,8 @@ module _ (c : tie.After-slice-known3) where
   written : c .before .before .copy-bytes .last .1 .1 .0 ≡ put (now (start (o axes) .args .d)) (start (o axes) .args .at) (bytes (o axes))
   written =
       array-put (start (o axes) .pre) (o axes .before .rank-of .ensures .number) (o axes .cells-of .ensures .0)
-      (axes .put-axes .last .0) (c .before .before .copy-bytes .last .1 .1 .0) (axes .put-axes .ensures) (c .before .before .copy-bytes .ensures)
+      (axes .put-axes .last .0) (c .before .before .copy-bytes .last .1 .1 .0) (axes .put-axes .ensures)
+      (c .before .before .copy-bytes .ensures)
 
 cells-of-requires : tie.Need-cells-of-requires
 cells-of-requires c κs =
@@ -61,18 +63,24 @@ put-axes-requires c κs =
 copy-bytes-requires : tie.Need-copy-bytes-requires
 copy-bytes-requires c κs =
     let w = c .before .before .before in
-    let q = o w in
-    (its-fit (start q .pre) (q .before .rank-of .ensures .number) (q .cells-of .ensures .0), omega (arith, start q .pre .room, long q, kept w))
+    let q = o w in (
+      its-fit (start q .pre) (q .before .rank-of .ensures .number) (q .cells-of .ensures .0),
+      omega (arith, start q .pre .room, long q, kept w),
+    )
 
 same-length : tie.Need-same-length
-same-length c = let q = o (axes c) in ap length (written c) ∙ length-put (now (start q .args .d)) (start q .args .at) (bytes q) (start q .pre .room)
+same-length c =
+    let q = o (axes c) in
+    ap length (written c) ∙ length-put (now (start q .args .d)) (start q .args .at) (bytes q) (start q .pre .room)
 
 returns : tie.Need-returns
 returns c =
     let q = o (axes c) in
     record {
       bytes = written c;
-      cells = ap (λ (j : ℕ). start q .args .from + j * cellBytes) (its-cells (start q .pre) (q .before .rank-of .ensures .number) (q .cells-of .ensures .0));
+      cells =
+          ap (λ (j : ℕ). start q .args .from + j * cellBytes)
+          (its-cells (start q .pre) (q .before .rank-of .ensures .number) (q .cells-of .ensures .0));
       next = omega (arith, long q);
     }
 

@@ -38,7 +38,8 @@ module _ (c : tie.In-loop Inv-loop μ-loop) where
   abbrev i : ℕ
   i = c .before .loop .i
 
-  next : (f : Form) → drop i (take (s .args .count) (s .args .t2)) ≡ getD (s .args .t2) i f ∷ drop (i + 1) (take (s .args .count) (s .args .t2))
+  next : (f : Form) → drop i (take (s .args .count) (s .args .t2))
+      ≡ getD (s .args .t2) i f ∷ drop (i + 1) (take (s .args .count) (s .args .t2))
   next f = rw add-one (drop-first-cons (s .args .t2) (s .args .count) (room s) i f (c .loop-test .taken))
 
 loop-holds : tie.Need-loop-holds Inv-loop μ-loop
@@ -65,7 +66,8 @@ loop-again : tie.Need-loop-again Inv-loop μ-loop
 loop-again c =
     let w = c .before .before in
     let t = turn w in
-    laying-more (t .before .loop .inv) (next t _) (omega (arith, first (s t))) (w .put-array .result) (w .put-array .last .1 .1 .1 .0) (w .put-array .ensures)
+    laying-more (t .before .loop .inv) (next t _) (omega (arith, first (s t))) (w .put-array .result) (w .put-array .last .1 .1 .1 .0)
+    (w .put-array .ensures)
 
 same-length : tie.Need-same-length Inv-loop μ-loop
 same-length c = c .before .loop .inv .long

@@ -7,9 +7,9 @@ use native.Mathlib.Omega.{arith}
 use borrow.Author.Needs.{needs}
 use lib.ListN.{length}
 use Rattle.laws.specs.Loops.{length-mapped}
-use Rattle.extent.specs.Rank.{Rank, ranked}
+use Rattle.extent.specs.Rank.{Rank}
 use Rattle.paper.specs.Limits.{mostAxes}
-use Rattle.pack.specs.Put.{Writing, axes-start, axes-more, axes-done}
+use Rattle.pack.specs.Put.{ranked, Writing, axes-start, axes-more, axes-done}
 
 abbrev Inv-loop : tie.InvT-loop
 Inv-loop d₀ at e m rank i₀ d i = Writing e m d₀ at d i
@@ -49,7 +49,9 @@ add-put-axis : tie.Need-add-put-axis Inv-loop μ-loop
 add-put-axis c = let q = p (c .before .before .before) in omega (arith, start q .pre .room, q .rank-of .ensures .number)
 
 put-axis-requires : tie.Need-put-axis-requires Inv-loop μ-loop
-put-axis-requires c κs = let i = c .before .before .before in omega (arith, start (p i) .pre .room, p i .rank-of .ensures .number, i .before .loop .inv .long)
+put-axis-requires c κs =
+    let i = c .before .before .before in
+    omega (arith, start (p i) .pre .room, p i .rank-of .ensures .number, i .before .loop .inv .long)
 
 -- an axis is written
 module _ (c : tie.After-put-axis Inv-loop μ-loop) where

@@ -13,7 +13,8 @@ returns c =
     let o₁ = o₂ .before .before .before .before .before in
     let o₀ = o₁ .before .before .before .before .before in
     let s = o₀ .before .before .before in
-    axis-put (now (s .args .d)) (o₀ .put-name .last .0) (o₁ .put4 .last .0) (o₂ .put42 .last .0) (o₃ .put43 .last .0) (o₄ .put44 .last .0) (s .args .at) (s .args .a) (s .args .m) (s .pre)
+    axis-put (now (s .args .d)) (o₀ .put-name .last .0) (o₁ .put4 .last .0) (o₂ .put42 .last .0) (o₃ .put43 .last .0) (o₄ .put44 .last .0)
+    (s .args .at) (s .args .a) (s .args .m) (s .pre)
     (o₀ .put-name .ensures)
     (record { bits = o₁ .before .bits-of .result; its = o₁ .before .bits-of .ensures; four = o₁ .put4 .ensures })
     (record { bits = o₂ .before .bits-of2 .result; its = o₂ .before .bits-of2 .ensures; four = o₂ .put42 .ensures })

@@ -45,11 +45,11 @@ returns-9 c = c .of-pair .ensures ∙ sym (ap (λ (n : ℕ). operation n (c .bef
 
 returns-10 : tie.Need-returns-10
 unfolding operation
-returns-10 c = c .of-right .ensures ∙ sym (ap (λ (n : ℕ). operation n (c .before .before .args .o)) (c .before .match .keys10))
+returns-10 c = c .of-scalar .ensures ∙ sym (ap (λ (n : ℕ). operation n (c .before .before .args .o)) (c .before .match .keys10))
 
 returns-11 : tie.Need-returns-11
 unfolding operation
-returns-11 c = c .of-left .ensures ∙ sym (ap (λ (n : ℕ). operation n (c .before .before .args .o)) (c .before .match .keys11))
+returns-11 c = c .of-scalar2 .ensures ∙ sym (ap (λ (n : ℕ). operation n (c .before .before .args .o)) (c .before .match .keys11))
 
 returns-12 : tie.Need-returns-12
 unfolding operation

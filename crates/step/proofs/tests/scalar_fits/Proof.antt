@@ -1,7 +1,7 @@
 -- `step::tests::scalar_fits` meets its contract.
 use mathlib.Core.Path.{sym, ap, _∙_}
 use borrow.Author.Tests.{not-true, not-false}
-use Rattle.step.specs.Steps.{and-no}
+use Rattle.laws.specs.Tests.{and-no}
 use denote.Ref.{now}
 use Rattle.paper.specs.Recipe.{isScalar}
 use Rattle.cell.specs.Reads.{told}

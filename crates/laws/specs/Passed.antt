@@ -1,0 +1,102 @@
+-- A step that was planned passed its tests: what each test says of it, over the bundle's arrays and the results of earlier steps.
+use Prim.Native.Nat.{ℕ, zero, suc, _+_, _/_, _%_, _≤_, _<_}
+use mathlib.Core.Path.{_≡_, refl, sym, ap, subst}
+use mathlib.Core.Bool.{true, _&&_}
+use mathlib.Core.List.{List, [], _∷_, _++_, map, append-assoc, append-nil}
+use mathlib.Core.Option.{some}
+use native.Mathlib.Omega.{arith}
+use borrow.Author.Tests.{leb-true}
+use lib.Dec.{eqb, leb}
+use lib.ListN.{length, getD, take, drop}
+use Rattle.paper.specs.declared.Operation.{Operation}
+use Rattle.paper.specs.Limits.{headBytes, stepBytes, mostSteps}
+use Rattle.paper.specs.Refusals.{Res, got, _>>_, refusal, present, between, unknown4, badAxis5, outside6, unfit7, differ8, badResult9}
+use Rattle.paper.specs.Axes.{Shape}
+use Rattle.paper.specs.Recipe.{Step, Planned, operation, stepOf, operand, operandB, uses, unusedZero, axisIn, typesFit, agree, fitsIn, resultOf, goodResult, stepTests, stepResult, stepOver, planStep, planSteps, planRecipe}
+use Rattle.laws.specs.Tests.{got-one, bind-got, ensure-got, ensured, present-got, and-left, and-right}
+
+-- what a step's tests say of it and its operands
+pub record Tested (s : Step) (A B : Shape) : Type 0 where
+  pub unused : unusedZero (uses (s .operation)) (length (A .axes)) s ≡ true
+  pub axis : axisIn (uses (s .operation)) (length (A .axes)) (s .axis) ≡ true
+  pub types : typesFit (s .operation) s (A .type) (B .type) ≡ true
+  pub agrees : agree (s .operation) (s .axis) (A .axes) (B .axes) ≡ true
+  pub fits : fitsIn (s .operation) s A B ≡ true
+
+pub tests-passed : {C : Type 0} (k : ℕ) (s : Step) (A B : Shape) (m : Res C) (c : C) → (stepTests k s A B >> m) ≡ got c
+    → Tested s A B × (m ≡ got c)
+unfolding stepTests
+tests-passed k s A B m c e =
+    let op = s .operation in
+    let h = bind-got (stepTests k s A B) (λ u. m) c e in
+    let u = ensure-got (unusedZero (uses op) (length (A .axes)) s) unknown4 k _ tt (h .1) in
+    let x = ensure-got (axisIn (uses op) (length (A .axes)) (s .axis)) badAxis5 k _ tt (u .1) in
+    let t = ensure-got (typesFit op s (A .type) (B .type)) unfit7 k _ tt (x .1) in
+    let g = ensure-got (agree op (s .axis) (A .axes) (B .axes)) differ8 k _ tt (t .1) in
+    let f = ensured (fitsIn op s A B) outside6 k (g .1) in
+    (record { unused = u .0; axis = x .0; types = t .0; agrees = g .0; fits = f }, h .2)
+
+-- a step with its operands
+pub record Passed (arrays earlier : List Shape) (p : Planned) : Type 0 where
+  pub first : Shape
+  pub second : Shape
+  pub is-first : operand arrays earlier (p .step .a) ≡ some first
+  pub is-second : operandB arrays earlier (p .step) ≡ some second
+  pub tested : Tested (p .step) first second
+  pub shape : p .shape ≡ resultOf (p .step) first second
+  pub good : goodResult (p .shape .axes) ≡ true
+
+plan-passed : (k : ℕ) (arrays earlier : List Shape) (bs : List ℕ) (p : Planned) → planStep k arrays earlier bs ≡ got p
+    → Passed arrays earlier p
+unfolding planStep stepOver stepResult
+plan-passed k arrays earlier bs p e =
+    let o = bind-got {A = Operation} (present (operation (getD bs 0 0) (getD bs headBytes 0)) (refusal unknown4 k 0)) _ p e in
+    let s = stepOf (o .0) bs in
+    let a = bind-got {A = Shape} (present (operand arrays earlier (s .a)) (refusal unknown4 k 0)) _ p (o .2) in
+    let b = bind-got {A = Shape} (present (operandB arrays earlier s) (refusal unknown4 k 0)) _ p (a .2) in
+    let A : Shape = a .0 in
+    let B : Shape = b .0 in
+    let t = tests-passed k s A B _ p (b .2) in
+    let r = ensure-got (goodResult (resultOf s A B .axes)) badResult9 k (got (record { step = s; shape = resultOf s A B })) p (t .1) in
+    subst (Passed arrays earlier) (got-one (record { step = s; shape = resultOf s A B }) p (r .1))
+    (record {
+      first = A;
+      second = B;
+      is-first = present-got (operand arrays earlier (s .a)) (refusal unknown4 k 0) A (a .1);
+      is-second = present-got (operandB arrays earlier s) (refusal unknown4 k 0) B (b .1);
+      tested = t .0;
+      shape = refl;
+      good = r .0;
+    })
+
+abbrev shapesOf : List Planned → List Shape
+shapesOf ps = map (λ (p : Planned). p .shape) ps
+
+steps-passed : (n k : ℕ) (arrays earlier : List Shape) (bs : List ℕ) (ps : List Planned) → planSteps k n arrays earlier bs ≡ got ps
+    → (length ps ≡ n) × ((j : ℕ) (d : Planned) → j < length ps → Passed arrays (earlier ++ shapesOf (take j ps)) (getD ps j d))
+unfolding planSteps
+steps-passed zero k arrays earlier bs ps e =
+    subst (λ (l : List Planned). (length l ≡ 0) × ((j : ℕ) (d : Planned) → j < length l → Passed arrays (earlier ++ shapesOf (take j l)) (getD l j d))) (got-one [] ps e)
+    (refl, λ j d h. absurd (omega arith))
+steps-passed (suc n) k arrays earlier bs ps e =
+    let a = bind-got (planStep k arrays earlier (take stepBytes bs)) _ ps e in
+    let b = bind-got (planSteps (k + 1) n arrays (earlier ++ (a .0 .shape ∷ [])) (drop stepBytes bs)) _ ps (a .2) in
+    let r = steps-passed n (k + 1) arrays (earlier ++ (a .0 .shape ∷ [])) (drop stepBytes bs) (b .0) (b .1) in
+    subst (λ (l : List Planned). (length l ≡ suc n) × ((j : ℕ) (d : Planned) → j < length l → Passed arrays (earlier ++ shapesOf (take j l)) (getD l j d))) (got-one (a .0 ∷ b .0) ps (b .2))
+    (ap suc (r .0), each (a .0) (b .0) (a .1) (r .1))
+  where
+    each : (p : Planned) (l : List Planned) → planStep k arrays earlier (take stepBytes bs) ≡ got p
+        → ((j : ℕ) (d : Planned) → j < length l → Passed arrays ((earlier ++ (p .shape ∷ [])) ++ shapesOf (take j l)) (getD l j d))
+        → (j : ℕ) (d : Planned) → j < suc (length l) → Passed arrays (earlier ++ shapesOf (take j (p ∷ l))) (getD (p ∷ l) j d)
+    each p l q f zero d h = subst (λ (m : List Shape). Passed arrays m p) (sym (append-nil earlier)) (plan-passed k arrays earlier (take stepBytes bs) p q)
+    each p l q f (suc j) d h = subst (λ (m : List Shape). Passed arrays m (getD l j d)) (append-assoc earlier (p .shape ∷ []) (shapesOf (take j l))) (f j d (omega arith))
+
+-- each step of a recipe planned
+pub recipe-passed : (arrays : List Shape) (bs : List ℕ) (ps : List Planned) → planRecipe arrays bs ≡ got ps
+    → (1 ≤ length ps) × ((j : ℕ) (d : Planned) → j < length ps → Passed arrays (map (λ (p : Planned). p .shape) (take j ps)) (getD ps j d))
+unfolding planRecipe
+recipe-passed arrays bs ps e =
+    let t = ensure-got (eqb (length bs % stepBytes) 0 && between 1 mostSteps (length bs / stepBytes)) unknown4 0 _ ps e in
+    let r = steps-passed (length bs / stepBytes) 1 arrays [] bs ps (t .1) in
+    let l = leb-true 1 (length bs / stepBytes) (and-left (leb 1 (length bs / stepBytes)) _ (and-right (eqb (length bs % stepBytes) 0) _ (t .0))) in
+    (omega (arith, r .0), r .1)

@@ -1,0 +1,47 @@
+-- `recipe::steps::plan_step` meets its contract.
+use mathlib.Core.Path.{_≡_, ap, _∙_}
+use native.Mathlib.Omega.{arith}
+use denote.Ref.{now}
+use borrow.Author.Needs.{needs}
+use Rattle.step.specs.declared.operation.OperationGot.the-variants.{Is}
+use Rattle.recipe.specs.Stepped.{stopped, step-unknown, step-known}
+use Rattle.recipe.proofs.steps.plan_step.Statement.{statement}
+use Rattle.recipe.proofs.steps.plan_step.Tie as tie
+
+module _ (c : tie.After-operation-of) where
+  abbrev start : tie.Start
+  start = c .before .before .before .before
+
+-- the operation is known
+module _ (c : tie.After-shared-slice-known6) where
+  abbrev called : tie.After-operation-of
+  called = c .before .before .before .before .before .before
+
+  told : called .operation-of .result ≡ Is (c .before .before .before .before .got .given .0 .0)
+  told = c .before .before .before .before .got .given .1
+
+judge-requires : tie.Need-judge-requires
+judge-requires c κs = let v = start (called c) in (v .pre .0, (v .pre .1 .0, omega (arith, v .pre .1 .1)))
+
+returns : tie.Need-returns
+returns c =
+    let x = called (c .before) in
+    let p = start x .args in
+    step-known (now (p .s)) (p .base) (p .a) (p .b) (p .at) (p .k .0) (c .judge .result) _ (x .operation-of .ensures) _ (told (c .before)) (c .judge .ensures)
+
+returns-2 : tie.Need-returns-2
+returns-2 c =
+    let e = c .before .before in
+    let x = e .before .before in
+    let p = start x .args in
+    step-unknown (now (p .s)) (p .base) (p .a) (p .b) (p .at) (p .k .0) (c .refused-step .result) _ (x .operation-of .ensures) (e .enum-told .given .1)
+    (c .refused-step .ensures ∙ ap stopped (c .before .refuse .ensures))
+
+pub plan-step-spec : {M : Type 1} → statement M
+plan-step-spec =
+    tie.close
+    (tie.spec
+    (λ c. search needs) (λ c. search needs) (λ c. search needs) (λ c κs. search needs) (λ c. search needs)
+    (λ c. search needs) (λ c. search needs) (λ c. search needs) (λ c. search needs) (λ c. search needs)
+    (λ c. search needs) (λ c. search needs) judge-requires returns (λ c. search needs) (λ c κs. search needs)
+    (λ c κs. search needs) returns-2)

@@ -1,0 +1,156 @@
+-- `recipe::steps::step_refusal` meets its contract: the first test that fails, or none.
+use Prim.Native.Nat.{ℕ}
+use mathlib.Core.Path.{_≡_, sym, ap, subst, _∙_}
+use mathlib.Core.Bool.{Bool, true, false, not, _||_}
+use denote.Ref.{now}
+use lib.ListN.{length}
+use borrow.Author.Tests.{not-true, not-false}
+use borrow.Author.Needs.{needs}
+use Rattle.paper.specs.Refusals.{between}
+use Rattle.paper.specs.Axes.{Shape}
+use Rattle.paper.specs.Recipe.{Step, uses, unusedZero, axisIn, typesFit, agree, stepTests}
+use Rattle.paper.specs.Answers.{shapeOf}
+use Rattle.laws.specs.Answers.{axes-few}
+use Rattle.step.specs.Steps.{stepIn}
+use Rattle.step.specs.Using.{Column, column, axis-by, unused-by}
+use Rattle.recipe.proofs.steps.step_refusal.Statement.{statement}
+use Rattle.recipe.proofs.steps.step_refusal.Tie as tie
+
+module _ (c : tie.Start) where
+  abbrev st : Step
+  st = stepIn (now (c .args .s)) (c .args .step)
+
+  abbrev A : Shape
+  A = shapeOf (c .args .a)
+
+  abbrev B : Shape
+  B = shapeOf (c .args .b)
+
+  uses-by : Column (st .operation) (length (A .axes)) (c .args .used)
+  uses-by = subst (Column (st .operation) (length (A .axes))) (sym (c .pre .1 .1)) (column (st .operation) (length (A .axes)))
+
+-- 4
+module _ (c : tie.After-unused-zero) where
+  abbrev start : tie.Start
+  start = c .before .before .before
+
+  unused-told : (b : Bool) → c .unused-zero .result ≡ b → unusedZero (uses (st start .operation)) (length (A start .axes)) (st start) ≡ b
+  unused-told b e = sym (unused-by _ _ _ (uses-by start) (st start)) ∙ sym (c .unused-zero .ensures) ∙ e
+
+module _ (c : tie.Else1) where
+  abbrev in4 : tie.Start
+  in4 = start (c .before)
+
+  held4 : unusedZero (uses (st in4 .operation)) (length (A in4 .axes)) (st in4) ≡ true
+  held4 = unused-told (c .before) true (not-false _ (c .if1 .left))
+
+-- 5
+module _ (c : tie.After-axis-in) where
+  abbrev past4 : tie.Else1
+  past4 = c .before .before
+
+  axis-told : (b : Bool) → c .axis-in .result ≡ b → axisIn (uses (st (in4 past4) .operation)) (length (A (in4 past4) .axes)) (st (in4 past4) .axis) ≡ b
+  axis-told b e =
+      sym (axis-by _ _ _ (uses-by (in4 past4)) (st (in4 past4) .axis))
+      ∙ ap (λ (n : ℕ). not (in4 past4 .args .used .axis) || between 1 n (st (in4 past4) .axis)) (sym (c .before .rank-of .ensures .number))
+      ∙ sym (c .axis-in .ensures) ∙ e
+
+module _ (c : tie.Else2) where
+  abbrev in5 : tie.Start
+  in5 = in4 (past4 (c .before))
+
+  held5 : axisIn (uses (st in5 .operation)) (length (A in5 .axes)) (st in5 .axis) ≡ true
+  held5 = axis-told (c .before) true (not-false _ (c .if2 .left))
+
+-- 7
+module _ (c : tie.After-types-fit) where
+  abbrev past5 : tie.Else2
+  past5 = c .before
+
+  types-told : (b : Bool) → c .types-fit .result ≡ b → typesFit (st (in5 past5) .operation) (st (in5 past5)) (A (in5 past5) .type) (B (in5 past5) .type) ≡ b
+  types-told b e = sym (c .types-fit .ensures) ∙ e
+
+-- 8
+module _ (c : tie.After-agrees) where
+  abbrev past7 : tie.Else3
+  past7 = c .before .before
+
+  abbrev in7 : tie.After-types-fit
+  in7 = past7 .before
+
+  agrees-told : (b : Bool) → c .agrees .result ≡ b → agree (st (in5 (past5 in7)) .operation) (st (in5 (past5 in7)) .axis) (A (in5 (past5 in7)) .axes) (B (in5 (past5 in7)) .axes) ≡ b
+  agrees-told b e = sym (c .agrees .ensures) ∙ e
+
+unused-zero-requires : tie.Need-unused-zero-requires
+unused-zero-requires c κs = let p = c .before .before in (uses-by p .few (axes-few (p .args .a .extent)), p .pre .1 .0)
+
+returns : tie.Need-returns
+unfolding stepTests
+returns c = rw (c .refuse .ensures, unused-told (c .before .before) false (not-true _ (c .before .if1 .taken)))
+
+returns-2 : tie.Need-returns-2
+unfolding stepTests
+returns-2 c =
+    let x = c .before .before in
+    rw (c .refuse2 .ensures, held4 (past4 x), axis-told x false (not-true _ (c .before .if2 .taken)))
+
+types-fit-requires : tie.Need-types-fit-requires
+types-fit-requires c κs = let p = in5 c in (p .pre .1 .0, sym (uses-by p .b))
+
+returns-3 : tie.Need-returns-3
+unfolding stepTests
+returns-3 c =
+    let x = c .before .before in
+    rw (c .refuse3 .ensures, held4 (past4 (past5 x .before)), held5 (past5 x), types-told x false (not-true _ (c .before .if3 .taken)))
+
+returns-4 : tie.Need-returns-4
+unfolding stepTests
+returns-4 c =
+    let y = c .before .before in
+    let x = in7 y in
+    rw (
+      c .refuse4 .ensures,
+      held4 (past4 (past5 x .before)),
+      held5 (past5 x),
+      types-told x true (not-false _ (past7 y .if3 .left)),
+      agrees-told y false (not-true _ (c .before .if4 .taken)),
+    )
+
+returns-5 : tie.Need-returns-5
+unfolding stepTests
+returns-5 c =
+    let z = c .before .before in
+    let y = z .before .before in
+    let x = in7 y in
+    rw (
+      c .refuse5 .ensures,
+      held4 (past4 (past5 x .before)),
+      held5 (past5 x),
+      types-told x true (not-false _ (past7 y .if3 .left)),
+      agrees-told y true (not-false _ (z .before .if4 .left)),
+      sym (z .fits-in .ensures) ∙ not-true _ (c .before .if5 .taken),
+    )
+
+returns-6 : tie.Need-returns-6
+unfolding stepTests
+returns-6 c =
+    let z = c .before .before in
+    let y = z .before .before in
+    let x = in7 y in
+    rw (
+      c .none .ensures,
+      held4 (past4 (past5 x .before)),
+      held5 (past5 x),
+      types-told x true (not-false _ (past7 y .if3 .left)),
+      agrees-told y true (not-false _ (z .before .if4 .left)),
+      sym (z .fits-in .ensures) ∙ not-false _ (c .before .if5 .left),
+    )
+
+pub step-refusal-spec : {M : Type 1} → statement M
+step-refusal-spec =
+    tie.close
+    (tie.spec
+    unused-zero-requires (λ c κs. search needs) returns (λ c κs. search needs) (λ c κs. search needs)
+    (λ c κs. search needs) returns-2 types-fit-requires (λ c κs. search needs) returns-3 (λ c. search needs)
+    (λ c κs. search needs) (λ c κs. search needs) returns-4 (λ c κs. search needs) (λ c κs. search needs) returns-5
+    (λ c κs. search needs) returns-6)

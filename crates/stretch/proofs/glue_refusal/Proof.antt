@@ -1,0 +1,89 @@
+-- `stretch::glue_refusal` meets its contract: each way out by the paper's tests up to it.
+use mathlib.Core.Path.{_≡_, sym, _∙_}
+use mathlib.Core.Bool.{true}
+use borrow.Author.Needs.{needs}
+use borrow.Author.Tests.{not-true, not-false, eq-eqb, ne-eqb}
+use lib.Dec.{eqb}
+use lib.ListN.{length}
+use Rattle.paper.specs.declared.Move.the-variants.{Glue}
+use Rattle.paper.specs.declared.Operation.the-variants.{Moves}
+use Rattle.paper.specs.Refusals.{between}
+use Rattle.paper.specs.Recipe.{agree}
+use Rattle.paper.specs.Answers.{axesOf}
+use Rattle.paper.specs.Stretch.{glueTests}
+use Rattle.laws.specs.Tests.{between-true}
+use Rattle.laws.specs.Glue.{Gluable, gluable}
+use Rattle.extent.specs.Judged.{good-zero, good-some}
+use Rattle.stretch.specs.Sides.{glued-some}
+use Rattle.stretch.proofs.glue_refusal.Statement.{statement}
+use Rattle.stretch.proofs.glue_refusal.Tie as tie
+
+-- the axis index is in the left
+inside : (c : tie.Else1) → let a = c .before .before .before .before .args in between 1 (length (axesOf (a .left))) (a .axis .0) ≡ true
+inside c = rw (← c .before .before .rank-of .ensures .number) (sym (c .before .in-range .ensures) ∙ not-false _ (c .if1 .left))
+
+-- and the axes agree
+module _ (c : tie.Else3) where
+  abbrev first : tie.Else1
+  first = c .before .before .before
+
+  abbrev s : tie.Start
+  s = first .before .before .before .before
+
+  agreed : agree (Moves Glue) (s .args .axis .0) (axesOf (s .args .left)) (axesOf (s .args .right)) ≡ true
+  agreed = sym (c .before .agrees .ensures) ∙ not-false _ (c .if3 .left)
+
+  fits : Gluable (s .args .axis .0) (axesOf (s .args .left)) (axesOf (s .args .right))
+  fits = let b = between-true _ _ (inside first) in gluable _ _ _ (b .0) (b .1) (s .pre .0 .sound) agreed
+
+returns : tie.Need-returns
+unfolding glueTests
+returns c =
+    let r = c .before .before in
+    let n = sym (r .in-range .ensures) ∙ not-true _ (c .before .if1 .taken) in
+    record { said = λ bs cs. rw (c .refuse .ensures, ← r .before .rank-of .ensures .number, n) }
+
+returns-2 : tie.Need-returns-2
+unfolding glueTests
+returns-2 c = record { said = λ bs cs. rw (c .refuse2 .ensures, inside (c .before .before), ne-eqb _ _ (c .before .if2 .taken)) }
+
+returns-3 : tie.Need-returns-3
+unfolding glueTests
+returns-3 c =
+    let q = c .before .before .before in
+    let n = sym (c .before .before .agrees .ensures) ∙ not-true _ (c .before .if3 .taken) in
+    record { said = λ bs cs. rw (c .refuse3 .ensures, inside (q .before), eq-eqb _ _ (q .if2 .left), n) }
+
+glued-along-requires : tie.Need-glued-along-requires
+glued-along-requires c κs =
+    record { one = fits c .one; last = fits c .first; first = s c .pre .0 .sound; second = s c .pre .1 .sound }
+
+returns-4 : tie.Need-returns-4
+unfolding glueTests
+returns-4 c =
+    let d = c .before .before in
+    let q = d .before .before in
+    let t = eq-eqb _ _ (q .before .before .if2 .left) in
+    let g = good-zero _ (sym (d .good-extent .ensures .0) ∙ c .before .if4 .taken) in
+    record {
+      said = λ bs cs. rw (c .refuse4 .ensures, inside (first q), t, agreed q, glued-some (fits q), ← d .before .glued-along .ensures, g);
+    }
+
+returns-5 : tie.Need-returns-5
+unfolding glueTests
+returns-5 c =
+    let d = c .before .before in
+    let q = d .before .before in
+    let t = eq-eqb _ _ (q .before .before .if2 .left) in
+    let g = good-some _ (λ z. c .before .if4 .left (d .good-extent .ensures .0 ∙ z)) .0 in
+    record {
+      said = λ bs cs. rw (c .none .ensures, inside (first q), t, agreed q, glued-some (fits q), ← d .before .glued-along .ensures, g);
+    }
+
+pub glue-refusal-spec : {M : Type 1} → statement M
+glue-refusal-spec =
+    tie.close
+    (tie.spec
+    (λ c. search needs) (λ c κs. search needs) (λ c κs. search needs) (λ c κs. search needs) returns
+    (λ c κs. search needs) returns-2 (λ c κs. search needs) (λ c κs. search needs) returns-3 glued-along-requires
+    (λ c κs. search needs) (λ c κs. search needs) returns-4 (λ c κs. search needs) returns-5)
