@@ -1,11 +1,10 @@
 -- Numbers and positions in decimal: a number below 2 ^ 64 is the number without its last digit, and that digit; and how many bytes a
 -- number takes at most.
-use Prim.Native.Nat.{ℕ, zero, suc, _+_, _-_, _*_, _/_, _%_, _^_, _≤_, _<_}
+use Prim.Native.Nat.{ℕ, zero, suc, _+_, _-_, _/_, _%_, _^_, _≤_, _<_}
 use Prim.Native.Char.{code}
-use mathlib.Core.Path.{_≡_, ap, _∙_}
+use mathlib.Core.Path.{_≡_, ap}
 use mathlib.Core.Bool.{Bool, true, false}
 use mathlib.Core.List.{List, [], _∷_, _++_}
-use native.Mathlib.Nat.{pow-suc}
 use native.Mathlib.Omega.{arith}
 use borrow.Author.Tests.{lt-ltb, le-ltb}
 use lib.Dec.{ltb}
@@ -31,34 +30,22 @@ mostSigned = 1 + mostDigits
 
 -- ---- one digit more
 
-pub tenth : (x p q : ℕ) → x < q → q ≡ p * 10 → x / 10 < p
-tenth x p q h e = omega arith
-
-ten : (x q : ℕ) → x < q → q ≡ 1 * 10 → x < 10
-ten x q h e = omega arith
-
 -- more digits than a number has change nothing
 enough : (k x : ℕ) → x < 10 ^ suc k → digits k x ≡ digits (suc k) x
 unfolding digits
-enough zero x h = let e : ltb x 10 ≡ true = lt-ltb x 10 (ten x (10 ^ 1) h (pow-suc 10 0)) in rw e
+enough zero x h = rw (lt-ltb x 10 h)
 enough (suc k) x h =
-    ap (λ (l : List ℕ). (if ltb x 10 then [] else l) ++ (digit x ∷ []))
-    (enough k (x / 10) (tenth x (10 ^ suc k) (10 ^ suc (suc k)) h (pow-suc 10 (suc k))))
-
-few : (x : ℕ) → x < 2 ^ 64 → x / 10 < 10 ^ 19
-few x h = omega arith
+    ap (λ (l : List ℕ). (if ltb x 10 then [] else l) ++ (digit x ∷ [])) (enough k (x / 10) (omega arith))
 
 -- a number of one digit
 pub digits-one : (x : ℕ) → x < 10 → digits 19 x ≡ digit x ∷ []
 unfolding digits
-digits-one x h = let e : ltb x 10 ≡ true = lt-ltb x 10 h in rw e
+digits-one x h = rw (lt-ltb x 10 h)
 
 -- a number of more
 pub digits-more : (x : ℕ) → 10 ≤ x → x < 2 ^ 64 → digits 19 x ≡ digits 19 (x / 10) ++ (digit x ∷ [])
 unfolding digits
-digits-more x h l =
-    let e : ltb x 10 ≡ false = le-ltb x 10 h in
-    rw e (ap (λ (r : List ℕ). r ++ (digit x ∷ [])) (enough 18 (x / 10) (few x l)))
+digits-more x h l = rw (le-ltb x 10 h, enough 18 (x / 10) (omega arith))
 
 -- ---- how many
 
@@ -86,12 +73,11 @@ pub decimal-below : (d : ℕ) → d < reach → decimal (position d) ≡ text "-
 unfolding decimal
 decimal-below d h =
     let e : suc (reach - d - 1) ≡ reach - d = omega arith in
-    ap decimal (parts-eq (position d) (negsuc (reach - d - 1)) (omega (arith, position-parts d)))
-    ∙ ap (λ (n : ℕ). text "-" ++ digits 19 n) e
+    rw (parts-eq (position d) (negsuc (reach - d - 1)) (omega (arith, position-parts d)), e)
 
 pub decimal-from : (d : ℕ) → reach ≤ d → decimal (position d) ≡ digits 19 (d - reach)
 unfolding decimal
-decimal-from d h = ap decimal (parts-eq (position d) (pos (d - reach)) (omega (arith, position-parts d)))
+decimal-from d h = rw (parts-eq (position d) (pos (d - reach)) (omega (arith, position-parts d)))
 
 pub decimal-most : (z : ℤ) → length (decimal z) ≤ mostSigned
 unfolding decimal

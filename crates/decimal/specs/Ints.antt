@@ -2,7 +2,7 @@
 use Prim.Native.Nat.{ℕ, _+_, _≤_}
 use Prim.Native.Char.{code}
 use mathlib.Core.Bool.{true, false}
-use mathlib.Core.Path.{_≡_, refl, sym, ap, _∙_}
+use mathlib.Core.Path.{_≡_, refl, ap, _∙_}
 use mathlib.Core.List.{List, [], _++_}
 use native.Mathlib.Omega.{arith}
 use borrow.Author.Tests.{ltb-true}
@@ -12,7 +12,7 @@ use lib.Signed.{ltZ}
 use Rattle.paper.specs.Numbers.{text}
 use Rattle.paper.specs.Rests.{digits, decimal}
 use Rattle.laws.specs.Put.{put-byte}
-use Rattle.decimal.specs.Wrote.{Wrote, wrote-as, wrote-both, wrote-over}
+use Rattle.decimal.specs.Wrote.{Wrote, wrote-both, wrote-over}
 use Rattle.decimal.specs.Digits.{digits-some}
 
 -- `-` where negative
@@ -36,20 +36,18 @@ signed (negsuc x) = refl
 -- of a number whose magnitude is m
 module _ (z : ℤ) (m : ℕ) (e : m ≡ natAbs z) where
   decimal-sign : decimal z ≡ sign z ++ digits 19 m
-  decimal-sign = signed z ∙ ap (λ (n : ℕ). sign z ++ digits 19 n) (sym e)
+  decimal-sign = rw e (signed z)
 
   pub decimal-long : length (decimal z) ≡ length (sign z) + length (digits 19 m)
   decimal-long = ap length decimal-sign ∙ length-append (sign z) (digits 19 m)
 
 -- the digits after `-`, or where there is no sign over it: k bytes from it on
-pub signed-wrote : (z : ℤ) (m k : ℕ) → m ≡ natAbs z → k ≡ length (sign z) → (d : List ℕ) (at r : ℕ) (y : List ℕ)
-    → at + length (decimal z) ≤ length d
-    → Wrote (set d at (code "-")) (at + k) (digits 19 m) r y → Wrote d at (decimal z) r y
-signed-wrote (pos x) m k e f d at r y h p =
+pub signed-wrote : (z : ℤ) {m k : ℕ} → m ≡ natAbs z → k ≡ length (sign z) → (d : List ℕ) (at : ℕ) {r : ℕ} {y : List ℕ}
+    → at + length (decimal z) ≤ length d → Wrote (set d at (code "-")) (at + k) (digits 19 m) r y → Wrote d at (decimal z) r y
+signed-wrote (pos x) {m} {k} e f d at h p =
     let n : at + k ≡ at = omega arith in
-    wrote-as d at (digits 19 m) (decimal (pos x)) r y (decimal-sign (pos x) m e)
-    (wrote-over d at (code "-") (digits 19 m) r y (digits-some 19 m) (rw n at p))
-signed-wrote (negsuc x) m k e f d at r y h p =
+    rw (decimal-sign (pos x) m e) (wrote-over d at (code "-") (digits 19 m) (digits-some 19 m) (rw n at p))
+signed-wrote (negsuc x) {m} {k} e f d at h p =
     let l = decimal-long (negsuc x) m e in
-    wrote-both d at (text "-") (digits 19 m) (decimal (negsuc x)) (at + k) r (set d at (code "-")) y (decimal-sign (negsuc x) m e) h
+    wrote-both d at (text "-") (digits 19 m) (decimal (negsuc x)) (decimal-sign (negsuc x) m e) h
     (omega arith, put-byte d at (code "-") (omega arith)) p

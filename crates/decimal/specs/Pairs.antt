@@ -1,13 +1,14 @@
 -- Digits two, four and eight at a time: the text of a number of a few digits, that of a longer one in parts, and how many digits it has.
-use Prim.Native.Nat.{ℕ, _+_, _/_, _%_, _^_, _≤_, _<_}
+use Prim.Native.Nat.{ℕ, _+_, _*_, _/_, _%_, _^_, _≤_, _<_}
 use Prim.Native.Char.{code}
-use mathlib.Core.Path.{_≡_, refl, sym, ap, ap₂, _∙_}
+use mathlib.Core.Path.{_≡_, ap, ap₂, _∙_}
 use mathlib.Core.Bool.{Bool, true, false}
 use mathlib.Core.List.{List, [], _∷_, _++_, append-assoc}
+use native.Mathlib.Nat.{add-zero, mul-le-mul-right, le-div-iff-mul-le, lt-of-le-of-lt, div-le-self, div-div-eq-div-mul}
 use native.Mathlib.Omega.{arith}
 use borrow.Author.Tests.{leb-true, leb-false}
 use lib.Dec.{leb}
-use lib.ListN.{length, set, length-append}
+use lib.ListN.{length, set}
 use lib.Seq.{set-set}
 use mir.Val.{boolByte}
 use Rattle.paper.specs.Rests.{digits}
@@ -42,103 +43,60 @@ eight-rest x y h = ap₂ (λ (a b : List ℕ). a ++ b) (four-rest (x / 10000) (y
 pub pair-stored : (d : List ℕ) (at x : ℕ) → at + 2 ≤ length d
     → set (set d at (code "0" + x % 100 / 10)) (at + 1) (code "0" + x % 100 % 10) ≡ put d at (pair x)
 pair-stored d at x h =
-    let e : code "0" + x % 100 / 10 ≡ digit (x / 10) = omega arith in
-    let f : code "0" + x % 100 % 10 ≡ digit x = omega arith in
-    ap₂ (λ (a b : ℕ). set (set d at a) (at + 1) b) e f ∙ stores-at (pair x) d at h
+    let e : x % 100 / 10 ≡ x / 10 % 10 = omega arith in
+    let f : x % 100 % 10 ≡ x % 10 = omega arith in
+    rw (e, f) (stores-at (pair x) d at h)
 
 -- ---- one digit or two
 
 digits-two : (x : ℕ) → 10 ≤ x → x < 100 → digits 19 x ≡ pair x
-digits-two x h l = digits-more x h (omega arith) ∙ ap (λ (r : List ℕ). r ++ (digit x ∷ [])) (digits-one (x / 10) (omega arith))
+digits-two x h l = digits-more x h (omega arith) ∙ rw (digits-one (x / 10) (omega arith))
 
 -- what the test for two digits gives is the place of the last
-place : (b : Bool) (x : ℕ) → leb 10 x ≡ b → x < 100 → boolByte b + 1 ≡ length (digits 19 x)
-place true x e h = omega (arith, ap length (digits-two x (leb-true 10 x e) h))
-place false x e h = omega (arith, ap length (digits-one x (leb-false 10 x e)))
-
-pub last-place : (x : ℕ) → x < 100 → boolByte (leb 10 x) + 1 ≡ length (digits 19 x)
-last-place x h = place (leb 10 x) x refl h
+pub last-place : {b : Bool} (x : ℕ) → leb 10 x ≡ b → x < 100 → boolByte b + 1 ≡ length (digits 19 x)
+last-place {b = true} x e h = rw (digits-two x (leb-true 10 x e) h)
+last-place {b = false} x e h = rw (digits-one x (leb-false 10 x e))
 
 -- the bytes that are stored: where there is one digit the last stands over the first
-small : (b : Bool) (d : List ℕ) (at x : ℕ) → leb 10 x ≡ b → x < 100 → at + length (digits 19 x) ≤ length d
+pub small-stored : {b : Bool} (d : List ℕ) (at x : ℕ) → leb 10 x ≡ b → x < 100 → at + length (digits 19 x) ≤ length d
     → set (set d at (code "0" + x / 10)) (at + boolByte b) (digit x) ≡ put d at (digits 19 x)
-small true d at x e h l =
+small-stored {b = true} d at x e h l =
     let f = digits-two x (leb-true 10 x e) h in
-    let g : code "0" + x / 10 ≡ digit (x / 10) = omega arith in
-    ap (λ (a : ℕ). set (set d at a) (at + 1) (digit x)) g ∙ stores-at (pair x) d at (omega (arith, ap length f)) ∙ ap (put d at) (sym f)
-small false d at x e h l =
+    let g : x / 10 ≡ x / 10 % 10 = omega arith in
+    rw (g, f) (stores-at (pair x) d at (rw f at l))
+small-stored {b = false} d at x e h l =
     let f = digits-one x (leb-false 10 x e) in
-    let g : at + 0 ≡ at = omega arith in
-    ap (λ (n : ℕ). set (set d at (code "0" + x / 10)) n (digit x)) g ∙ set-set d at (code "0" + x / 10) (digit x)
-    ∙ put-byte d at (digit x) (omega (arith, ap length f)) ∙ ap (put d at) (sym f)
-
-pub small-stored : (d : List ℕ) (at x : ℕ) → x < 100 → at + length (digits 19 x) ≤ length d
-    → set (set d at (code "0" + x / 10)) (at + boolByte (leb 10 x)) (digit x) ≡ put d at (digits 19 x)
-small-stored d at x h l = small (leb 10 x) d at x refl h l
+    rw (add-zero, set-set, f) (put-byte d at (digit x) (omega (arith, ap length f)))
 
 -- ---- more
 
-pub digits-pair : (x : ℕ) → 100 ≤ x → x < 2 ^ 64 → digits 19 x ≡ digits 19 (x / 100) ++ pair x
-digits-pair x h l =
-    let e : x / 10 / 10 ≡ x / 100 = omega arith in
-    let f = digits-more (x / 10) (omega arith) (omega arith) ∙ ap (λ (n : ℕ). digits 19 n ++ (digit (x / 10) ∷ [])) e in
-    digits-more x (omega arith) l ∙ ap (λ (r : List ℕ). r ++ (digit x ∷ [])) f
-    ∙ append-assoc (digits 19 (x / 100)) (digit (x / 10) ∷ []) (digit x ∷ [])
+-- the text of a number from b on is that of the number without its last digits, and these
+abbrev Splits : ℕ → (ℕ → List ℕ) → Type 0
+Splits b F = (x : ℕ) → b ≤ x → x < 2 ^ 64 → digits 19 x ≡ digits 19 (x / b) ++ F x
 
-pub digits-fours : (x : ℕ) → 10000 ≤ x → x < 2 ^ 64 → digits 19 x ≡ digits 19 (x / 10000) ++ four x
-digits-fours x h l =
-    let e : x / 100 / 100 ≡ x / 10000 = omega arith in
-    let f = digits-pair (x / 100) (omega arith) (omega arith) ∙ ap (λ (n : ℕ). digits 19 n ++ pair (x / 100)) e in
-    digits-pair x (omega arith) l ∙ ap (λ (r : List ℕ). r ++ pair x) f ∙ append-assoc (digits 19 (x / 10000)) (pair (x / 100)) (pair x)
+-- in three parts, and in two
+module _ (F G : ℕ → List ℕ) (b c : ℕ) (f : Splits b F) (g : Splits c G) (p : 1 ≤ b) (q : 1 ≤ c) where
+  three : (x : ℕ) → c * b ≤ x → x < 2 ^ 64 → digits 19 x ≡ digits 19 (x / (c * b)) ++ F (x / c) ++ G x
+  three x h l =
+      g x (omega (arith, mul-le-mul-right c p)) l
+      ∙ rw (f (x / c) (le-div-iff-mul-le q .1 (omega arith)) (lt-of-le-of-lt (div-le-self x c) l), div-div-eq-div-mul)
 
-pub digits-eights : (x : ℕ) → 100000000 ≤ x → x < 2 ^ 64 → digits 19 x ≡ digits 19 (x / 100000000) ++ eight x
-digits-eights x h l =
-    let e : x / 10000 / 10000 ≡ x / 100000000 = omega arith in
-    let f = digits-fours (x / 10000) (omega arith) (omega arith) ∙ ap (λ (n : ℕ). digits 19 n ++ four (x / 10000)) e in
-    digits-fours x (omega arith) l ∙ ap (λ (r : List ℕ). r ++ four x) f
-    ∙ append-assoc (digits 19 (x / 100000000)) (four (x / 10000)) (four x)
+  two : Splits (c * b) (λ x. F (x / c) ++ G x)
+  two x h l = three x h l ∙ append-assoc (digits 19 (x / (c * b))) (F (x / c)) (G x)
+
+pub digits-pair : Splits 100 pair
+digits-pair = two (λ x. digit x ∷ []) (λ x. digit x ∷ []) 10 10 digits-more digits-more (omega arith) (omega arith)
+
+pub digits-fours : Splits 10000 four
+digits-fours = two pair pair 100 100 digits-pair digits-pair (omega arith) (omega arith)
+
+pub digits-eights : Splits 100000000 eight
+digits-eights = two four four 10000 10000 digits-fours digits-fours (omega arith) (omega arith)
 
 pub digits-twelves : (x : ℕ) → 1000000000000 ≤ x → x < 2 ^ 64
     → digits 19 x ≡ digits 19 (x / 1000000000000) ++ four (x / 100000000) ++ eight x
-digits-twelves x h l =
-    let e : x / 100000000 / 10000 ≡ x / 1000000000000 = omega arith in
-    let f = digits-fours (x / 100000000) (omega arith) (omega arith) ∙ ap (λ (n : ℕ). digits 19 n ++ four (x / 100000000)) e in
-    digits-eights x (omega arith) l ∙ ap (λ (r : List ℕ). r ++ eight x) f
+digits-twelves = three four eight 10000 100000000 digits-fours digits-eights (omega arith) (omega arith)
 
 pub digits-sixteens : (x : ℕ) → 10000000000000000 ≤ x → x < 2 ^ 64
     → digits 19 x ≡ digits 19 (x / 10000000000000000) ++ eight (x / 100000000) ++ eight x
-digits-sixteens x h l =
-    let e : x / 100000000 / 100000000 ≡ x / 10000000000000000 = omega arith in
-    let f = digits-eights (x / 100000000) (omega arith) (omega arith) ∙ ap (λ (n : ℕ). digits 19 n ++ eight (x / 100000000)) e in
-    digits-eights x (omega arith) l ∙ ap (λ (r : List ℕ). r ++ eight x) f
-
--- ---- how many digits
-
-pub long-pair : (x : ℕ) → 100 ≤ x → x < 2 ^ 64 → length (digits 19 x) ≡ 2 + length (digits 19 (x / 100))
-long-pair x h l = omega (arith, ap length (digits-pair x h l), length-append (digits 19 (x / 100)) (pair x))
-
-pub long-fours : (x : ℕ) → 10000 ≤ x → x < 2 ^ 64 → length (digits 19 x) ≡ 4 + length (digits 19 (x / 10000))
-long-fours x h l = omega (arith, ap length (digits-fours x h l), length-append (digits 19 (x / 10000)) (four x))
-
-pub long-eights : (x : ℕ) → 100000000 ≤ x → x < 2 ^ 64 → length (digits 19 x) ≡ 8 + length (digits 19 (x / 100000000))
-long-eights x h l = omega (arith, ap length (digits-eights x h l), length-append (digits 19 (x / 100000000)) (eight x))
-
-pub long-twelves : (x : ℕ) → 1000000000000 ≤ x → x < 2 ^ 64 → length (digits 19 x) ≡ 12 + length (digits 19 (x / 1000000000000))
-long-twelves x h l =
-    let e : x / 100000000 / 10000 ≡ x / 1000000000000 = omega arith in
-    omega (
-      arith,
-      long-eights x (omega arith) l,
-      long-fours (x / 100000000) (omega arith) (omega arith),
-      ap (λ (n : ℕ). length (digits 19 n)) e,
-    )
-
-pub long-sixteens : (x : ℕ) → 10000000000000000 ≤ x → x < 2 ^ 64 → length (digits 19 x) ≡ 16 + length (digits 19 (x / 10000000000000000))
-long-sixteens x h l =
-    let e : x / 100000000 / 100000000 ≡ x / 10000000000000000 = omega arith in
-    omega (
-      arith,
-      long-eights x (omega arith) l,
-      long-eights (x / 100000000) (omega arith) (omega arith),
-      ap (λ (n : ℕ). length (digits 19 n)) e,
-    )
+digits-sixteens = three eight eight 100000000 100000000 digits-eights digits-eights (omega arith) (omega arith)

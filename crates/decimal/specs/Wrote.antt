@@ -1,6 +1,6 @@
 -- What a writer says of its buffer: where it stopped, and what stands there now. One writer after the other writes both texts.
 use Prim.Native.Nat.{ℕ, _+_, _≤_}
-use mathlib.Core.Path.{_≡_, refl, sym, ap, ap₂, _∙_, subst}
+use mathlib.Core.Path.{_≡_, refl, ap, _∙_}
 use mathlib.Core.List.{List, _++_}
 use native.Mathlib.Omega.{arith}
 use lib.ListN.{length, set, length-append}
@@ -19,30 +19,24 @@ pub wrote-then : (d : List ℕ) (at : ℕ) (x : List ℕ) (m : ℕ) (y w : List 
 wrote-then d at x m y w r z h p q = (omega (arith, length-append x w, p .0, q .0), after d at x w y z m h (p .0) (p .1) (q .1))
 
 -- the same text said otherwise
-pub wrote-as : (d : List ℕ) (at : ℕ) (x w : List ℕ) (r : ℕ) (y : List ℕ) → w ≡ x → Wrote d at x r y → Wrote d at w r y
-wrote-as d at x w r y e p = subst (λ (l : List ℕ). Wrote d at l r y) (sym e) p
+pub wrote-as : (d : List ℕ) (at : ℕ) {x w y : List ℕ} {r : ℕ} → w ≡ x → Wrote d at x r y → Wrote d at w r y
+wrote-as d at e p = rw e p
 
 -- a text in two parts, where there is room for all of it
-pub wrote-both : (d : List ℕ) (at : ℕ) (x w t : List ℕ) (m r : ℕ) (y z : List ℕ) → t ≡ x ++ w → at + length t ≤ length d → Wrote d at x m y
+pub wrote-both : (d : List ℕ) (at : ℕ) (x w t : List ℕ) {m r : ℕ} {y z : List ℕ} → t ≡ x ++ w → at + length t ≤ length d → Wrote d at x m y
     → Wrote y m w r z → Wrote d at t r z
-wrote-both d at x w t m r y z e h p q =
-    wrote-as d at (x ++ w) t r z e (wrote-then d at x m y w r z (omega (arith, ap length e, length-append x w)) p q)
+wrote-both d at x w t e h p q = rw e (wrote-then d at x _ _ w _ _ (omega (arith, ap length e, length-append x w)) p q)
 
 -- in three
-pub wrote-three : (d : List ℕ) (at : ℕ) (x v w t : List ℕ) (m n r : ℕ) (y u z : List ℕ) → t ≡ x ++ v ++ w → at + length t ≤ length d
-    → Wrote d at x m y → Wrote y m v n u
-    → Wrote u n w r z → Wrote d at t r z
-wrote-three d at x v w t m n r y u z e h p q s =
-    wrote-both d at (x ++ v) w t n r u z e h
-    (wrote-then d at x m y v n u (omega (arith, ap length e, length-append (x ++ v) w, length-append x v)) p q) s
+pub wrote-three : (d : List ℕ) (at : ℕ) (x v w t : List ℕ) {m n r : ℕ} {y u z : List ℕ} → t ≡ x ++ v ++ w → at + length t ≤ length d
+    → Wrote d at x m y → Wrote y m v n u → Wrote u n w r z → Wrote d at t r z
+wrote-three d at x v w t e h p q s =
+    wrote-both d at (x ++ v) w t e h
+    (wrote-then d at x _ _ v _ _ (omega (arith, ap length e, length-append (x ++ v) w, length-append x v)) p q) s
 
 -- over a byte that was stored where the text begins
-pub wrote-over : (d : List ℕ) (at b : ℕ) (x : List ℕ) (r : ℕ) (y : List ℕ) → 1 ≤ length x → Wrote (set d at b) at x r y → Wrote d at x r y
-wrote-over d at b x r y h p = (
-  p .0,
-  p .1 ∙ ap₂ (λ (u v : List ℕ). u ++ x ++ v) (take-set-le at d at b (omega arith))
-      (drop-set-lt (at + length x) d at b (omega arith)),
-)
+pub wrote-over : (d : List ℕ) (at b : ℕ) (x : List ℕ) {r : ℕ} {y : List ℕ} → 1 ≤ length x → Wrote (set d at b) at x r y → Wrote d at x r y
+wrote-over d at b x h p = rw (take-set-le at d at b (omega arith), drop-set-lt (at + length x) d at b (omega arith)) at p
 
 -- the buffer keeps its length
 pub wrote-long : (d : List ℕ) (at : ℕ) (x : List ℕ) (r : ℕ) (y : List ℕ) → at + length x ≤ length d → Wrote d at x r y → length y ≡ length d

@@ -1,20 +1,21 @@
 -- How long the text of an array is: the bytes of its brackets and commas, by its axes alone, and those of its cells.
 use Prim.Native.Nat.{ℕ, zero, suc, _+_, _-_, _*_, _≤_, _<_}
-use mathlib.Core.Path.{_≡_, sym, ap, _∙_}
+use mathlib.Core.Path.{_≡_, refl, ap, _∙_}
 use mathlib.Core.Bool.{true, false}
 use mathlib.Core.List.{List, [], _∷_, map}
 use native.Mathlib.Omega.{arith}
-use native.Mathlib.Nat.{suc-mul, mul-le-mul-left, mul-le-mul-right, le-trans}
-use lib.ListN.{length, drop, take, getD, length-append, length-drop, length-take}
+use native.Mathlib.Nat.{zero-add, add-zero, suc-add, suc-mul, mul-le-mul-left, mul-le-mul-right}
+use lib.IntN.{ℤ}
+use lib.ListN.{length, length-append}
 use Rattle.paper.specs.declared.Axis.{Axis}
 use Rattle.paper.specs.declared.Cell.{Cell}
 use Rattle.paper.specs.declared.Cell.the-variants.{Empty, Int, Float, Truth}
 use Rattle.paper.specs.Limits.{mostAxes, mostCells}
 use Rattle.paper.specs.Numbers.{text, from}
 use Rattle.paper.specs.Axes.{width, cells}
+use Rattle.paper.specs.Rests.{decimal}
 use Rattle.paper.specs.Json.{cellText, jsonText}
-use Rattle.laws.specs.Limits.{Sound, cells-pos, cells-drop, sound-drop}
-use Rattle.laws.specs.Loops.{drop-first, drop-down}
+use Rattle.laws.specs.Limits.{Sound, cells-pos}
 use Rattle.decimal.specs.Digits.{mostSigned, decimal-most}
 use Rattle.json_write.specs.Texts.{comma, items, rowOf, row-length, cellOn, axesOn, brackets-one, brackets-more}
 
@@ -27,10 +28,7 @@ marks (a ∷ E) = 1 + width a + width a * marks E
 
 -- how many they are at most: an axis of one position has two for each cell
 step-most : (w c r m : ℕ) → 1 ≤ c → m + c ≤ r * (2 * c) + 1 → 1 + w + w * m + w * c ≤ suc r * (2 * (w * c)) + 1
-step-most w c r m p h =
-    let a : w * (m + c) ≤ w * (r * (2 * c) + 1) = mul-le-mul-left w h in
-    let b : w * 1 ≤ w * c = mul-le-mul-left w p in
-    omega arith
+step-most w c r m p h = omega (arith, mul-le-mul-left w h, mul-le-mul-left w p)
 
 pub marks-most : (E : List Axis) → Sound E → marks E + cells E ≤ length E * (2 * cells E) + 1
 unfolding marks cells
@@ -38,25 +36,7 @@ marks-most [] s = omega arith
 marks-most (a ∷ E) s = step-most (width a) (cells E) (length E) (marks E) (cells-pos E (s .2)) (marks-most E (s .2))
 
 pub marks-few : (E : List Axis) → Sound E → length E ≤ mostAxes → cells E ≤ mostCells → marks E ≤ 2 * (mostAxes * mostCells)
-marks-few E s r c =
-    omega (arith, marks-most E s, cells-pos E s, mul-le-mul-right (2 * cells E) r)
-
--- for a loop from the last axis to the first
-module _ (l : List Axis) (r : ℕ) (h : r ≤ length l) where
-  pub marks-end : 0 ≡ marks (drop r (take r l))
-  unfolding marks
-  marks-end = sym (ap marks (drop-first l r h))
-
-  pub marks-down : (i : ℕ) (d : Axis) → 0 < i → i ≤ r
-      → marks (drop (i - 1) (take r l)) ≡ 1 + width (getD l (i - 1) d) + width (getD l (i - 1) d) * marks (drop i (take r l))
-  unfolding marks
-  marks-down i d p k = ap marks (drop-down l r h i d p k)
-
-  pub marks-bound : (i : ℕ) → Sound (take r l) → r ≤ mostAxes → cells (take r l) ≤ mostCells
-      → marks (drop i (take r l)) ≤ 2 * (mostAxes * mostCells)
-  marks-bound i s m c =
-      marks-few (drop i (take r l)) (sound-drop (take r l) i s) (omega (arith, length-drop i (take r l), length-take r l))
-      (le-trans (cells-drop (take r l) i s) c)
+marks-few E s r c = omega (arith, marks-most E s, cells-pos E s, mul-le-mul-right (2 * cells E) r)
 
 -- ---- cells
 
@@ -76,27 +56,26 @@ long-end f i n h = let e : n - i ≡ 0 = omega arith in ap (cellsLong f i) e
 
 long-split : (f : ℕ → Cell) (m n i : ℕ) → cellsLong f i (m + n) ≡ cellsLong f i m + cellsLong f (i + m) n
 unfolding cellsLong
-long-split f zero n i =
-    let e : i ≡ i + 0 = omega arith in
-    let z : zero + n ≡ n = omega arith in
-    omega (arith, ap (cellsLong f i) z, ap (λ (k : ℕ). cellsLong f k n) e)
+long-split f zero n i = simp (zero-add, add-zero)
 long-split f (suc m) n i =
-    let e : suc m + n ≡ suc (m + n) = omega arith in
-    let k : i + 1 + m ≡ i + suc m = omega arith in
-    ap (cellsLong f i) e ∙ omega (arith, long-split f m n (i + 1), ap (λ (j : ℕ). cellsLong f j n) k)
+    let k : i + suc m ≡ i + 1 + m = omega arith in
+    rw (suc-add, k) (omega (arith, long-split f m n (i + 1)))
 
 pub long-most : (f : ℕ → Cell) (m : ℕ) → ((k : ℕ) → length (cellText (f k)) ≤ m) → (n i : ℕ) → cellsLong f i n ≤ n * m
 unfolding cellsLong
 long-most f m h zero i = omega arith
 long-most f m h (suc n) i = omega (arith, h i, long-most f m h n (i + 1), suc-mul n m)
 
-pub cell-most : (c : Cell) → length (cellText c) ≤ mostSigned
+pub cell-most : (c : Cell) {m : ℕ} → 5 ≤ m → ((z : ℤ) → c ≡ Int z → length (decimal z) ≤ m) → length (cellText c) ≤ m
 unfolding cellText
-cell-most Empty = omega arith
-cell-most (Int z) = decimal-most z
-cell-most (Float x) = omega arith
-cell-most (Truth true) = omega arith
-cell-most (Truth false) = omega arith
+cell-most Empty h f = omega arith
+cell-most (Int z) h f = f z refl
+cell-most (Float x) h f = omega arith
+cell-most (Truth true) h f = omega arith
+cell-most (Truth false) h f = omega arith
+
+pub cells-most : (f : ℕ → Cell) (n i : ℕ) → cellsLong f i n ≤ n * mostSigned
+cells-most f n i = long-most f mostSigned (λ k. cell-most (f k) (omega arith) (λ z e. decimal-most z)) n i
 
 -- ---- the text
 
@@ -105,38 +84,23 @@ module _ (f : ℕ → Cell) where
   module _ (F : ℕ → List ℕ) (m s : ℕ) (h : (k : ℕ) → length (F k) ≡ m + cellsLong f k s) where
     items-long : (n i : ℕ) → length (items (suc n) F s i) ≡ n + suc n * m + cellsLong f i (suc n * s)
     unfolding items comma
-    items-long zero i =
-        let e : suc zero * s ≡ s = omega arith in
-        let z : suc zero * m ≡ m = omega arith in
-        omega (arith, length-append (F i) [], h i, ap (cellsLong f i) e)
+    items-long zero i = let e : suc zero * s ≡ s = omega arith in rw e (omega (arith, length-append (F i) [], h i))
     items-long (suc n) i =
         let e : suc (suc n) * s ≡ s + suc n * s = suc-mul (suc n) s ∙ (omega arith) in
-        let z : suc (suc n) * m ≡ suc n * m + m = suc-mul (suc n) m in
-        omega (
-          arith,
-          length-append (F i) (44 ∷ items (suc n) F s (i + s)),
-          h i,
-          items-long n (i + s),
-          ap (cellsLong f i) e,
-          long-split f s (suc n * s) i,
-        )
+        rw (e, long-split) (omega (arith, length-append (F i) (44 ∷ items (suc n) F s (i + s)), h i, items-long n (i + s)))
 
     row-long : (w i : ℕ) → 0 < w → length (rowOf w F s i) ≡ 1 + w + w * m + cellsLong f i (w * s)
     row-long zero i p = absurd (omega arith)
     row-long (suc n) i p = omega (arith, row-length (suc n) F s i, items-long n i)
 
-  one-long : (k : ℕ) → length (cellOn f k) ≡ 0 + cellsLong f k 1
-  unfolding cellsLong
-  one-long k = omega arith
-
   pub brackets-long : (E : List Axis) → Sound E → 1 ≤ length E → (i : ℕ) → length (axesOn f E i) ≡ marks E + cellsLong f i (cells E)
-  unfolding marks cells
+  unfolding marks cells cellsLong
   brackets-long [] s h i = absurd (omega arith)
-  brackets-long (a ∷ []) s h i = ap length (brackets-one f a i) ∙ row-long (cellOn f) 0 1 one-long (width a) i (omega (arith, s .0))
+  brackets-long (a ∷ []) s h i =
+      ap length (brackets-one f a i) ∙ row-long (cellOn f) 0 1 (λ k. omega arith) (width a) i (omega (arith, s .0))
   brackets-long (a ∷ b ∷ E) s h i =
       ap length (brackets-more f a (b ∷ E) i (omega arith))
-      ∙ row-long (axesOn f (b ∷ E)) (marks (b ∷ E)) (cells (b ∷ E)) (λ k. brackets-long (b ∷ E) (s .2) (omega arith) k) (width a) i
-      (omega (arith, s .0))
+      ∙ row-long (axesOn f (b ∷ E)) _ _ (brackets-long (b ∷ E) (s .2) (omega arith)) (width a) i (omega (arith, s .0))
 
   pub json-long : (E : List Axis) → Sound E → 1 ≤ length E
       → length (jsonText E (map f (from 0 (cells E)))) ≡ 9 + marks E + cellsLong f 0 (cells E)
@@ -145,5 +109,4 @@ module _ (f : ℕ → Cell) where
   -- it is short
   pub json-short : (E : List Axis) → Sound E → length E ≤ mostAxes → cells E ≤ mostCells
       → 9 + marks E + cellsLong f 0 (cells E) ≤ 9 + 2 * (mostAxes * mostCells) + mostCells * mostSigned
-  json-short E s r c =
-      omega (arith, marks-few E s r c, long-most f mostSigned (λ k. cell-most (f k)) (cells E) 0, mul-le-mul-right mostSigned c)
+  json-short E s r c = omega (arith, marks-few E s r c, cells-most f (cells E) 0, mul-le-mul-right mostSigned c)

@@ -15,7 +15,7 @@ use mir.Syntax.{w64}
 use mir.Val.{SFits}
 use Rattle.paper.specs.declared.Axis.{Axis}
 use Rattle.paper.specs.declared.Cell.{Cell}
-use Rattle.paper.specs.declared.Cell.the-variants.{Empty, Int, Float, Truth}
+use Rattle.paper.specs.declared.Cell.the-variants.{Empty, Int}
 use Rattle.paper.specs.Limits.{FLOAT, mostAxes, mostCells, smallestInt}
 use Rattle.paper.specs.Refusals.{got}
 use Rattle.paper.specs.Numbers.{from}
@@ -31,8 +31,8 @@ use Rattle.laws.specs.Parts.{fit-parts}
 use Rattle.laws.specs.Limits.{Sound, extent-true}
 use Rattle.decimal.specs.Digits.{digits-most, digits-fewer}
 use Rattle.roundtrip.specs.Valid.{EachOfKind, Valid}
-use Rattle.json_write.specs.Lengths.{marks, marks-most, cellsLong, long-most, json-long}
-use Rattle.json_write.specs.Whole.{chosen-valid, has-axis, few-axes}
+use Rattle.json_write.specs.Lengths.{marks, marks-most, cellsLong, long-most, cell-most, json-long}
+use Rattle.json_write.specs.Whole.{chosen-valid, its-axes}
 
 -- ---- a cell
 
@@ -41,18 +41,10 @@ unfolding decimal
 int-most (pos x) f = digits-most 19 x
 int-most (negsuc x) f = omega (arith, digits-fewer (suc x) (omega (arith, fit-parts f .1)))
 
-cell-most : (t : ℕ) (c : Cell) → OfKind t c → length (cellText c) ≤ 20
-unfolding cellText OfKind
-cell-most t Empty h = omega arith
-cell-most t (Int z) h = int-most z (h .1)
-cell-most t (Float x) h = omega arith
-cell-most t (Truth true) h = omega arith
-cell-most t (Truth false) h = omega arith
-
 each-most : (t : ℕ) (cs : List Cell) → EachOfKind t cs → (k : ℕ) → length (cellText (getD cs k Empty)) ≤ 20
-unfolding OfKind
-each-most t [] h k = cell-most t Empty tt
-each-most t (c ∷ cs) h zero = cell-most t c (h .0)
+unfolding cellText OfKind
+each-most t [] h k = omega arith
+each-most t (c ∷ cs) h zero = cell-most c (omega arith) (λ z e. int-most z (rw e at (h .0) .1))
 each-most t (c ∷ cs) h (suc k) = each-most t cs (h .1) k
 
 -- ---- an array
@@ -72,26 +64,13 @@ by-index (c ∷ cs) = ap (λ (l : List Cell). c ∷ l) (by-index cs ∙ sym (fro
 abbrev pub mostText : ℕ → ℕ → ℕ
 mostText n d = 10 + n * (19 + 2 * d)
 
-joined : (n d m l : ℕ) → m + n ≤ d * (2 * n) + 1 → l ≤ n * 20 → 9 + m + l ≤ mostText n d
-joined n d m l h k = omega arith
-
 pub text-most : (A : Array) → Valid A
     → length (jsonText (A .shape .axes) (A .cells)) ≤ mostText (cells (A .shape .axes)) (length (A .shape .axes))
 text-most A v =
+    let f : ℕ → Cell = λ k. getD (A .cells) k Empty in
     let s : Sound (A .shape .axes) = extent-true (A .shape .axes) (v .extent) .0 in
-    let e : A .cells ≡ map (λ k. getD (A .cells) k Empty) (from 0 (cells (A .shape .axes))) =
-    by-index (A .cells) ∙ ap (λ (n : ℕ). map (λ k. getD (A .cells) k Empty) (from 0 n)) (v .full) in
-    let l =
-    ap (λ (cs : List Cell). length (jsonText (A .shape .axes) cs)) e
-    ∙ json-long (λ k. getD (A .cells) k Empty) (A .shape .axes) s (has-axis A v) in
-    omega (
-      arith,
-      l,
-      joined (cells (A .shape .axes)) (length (A .shape .axes)) (marks (A .shape .axes))
-          (cellsLong (λ k. getD (A .cells) k Empty) 0 (cells (A .shape .axes)))
-          (marks-most (A .shape .axes) s)
-          (long-most (λ k. getD (A .cells) k Empty) 20 (each-most (A .shape .type) (A .cells) (v .kinds)) (cells (A .shape .axes)) 0),
-    )
+    let m = long-most f 20 (each-most (A .shape .type) (A .cells) (v .kinds)) (cells (A .shape .axes)) 0 in
+    rw (by-index (A .cells), v .full) (omega (arith, json-long f (A .shape .axes) s (its-axes A v .0), marks-most (A .shape .axes) s, m))
 
 -- ---- every text
 
@@ -106,7 +85,7 @@ pub every-text : (bs : List ℕ) (k : ℕ) (A : Array) → Bytes bs → chosen b
     → length (jsonText (A .shape .axes) (A .cells)) ≤ longest
 every-text bs k A b e =
     let v = chosen-valid bs k A b e in
-    let d : 19 + 2 * length (A .shape .axes) ≤ 19 + 2 * mostAxes = omega (arith, few-axes A v) in
+    let d : 19 + 2 * length (A .shape .axes) ≤ 19 + 2 * mostAxes = omega (arith, its-axes A v) in
     omega (
       arith,
       text-most A v,
@@ -139,10 +118,5 @@ twenty (suc n) i = omega (arith, twenty n (i + 1), suc-mul n 20)
 pub longest-met : length (jsonText longestAxes (map (λ k. Int smallestInt) (from 0 (cells longestAxes)))) ≡ longest
 unfolding opened marks
 longest-met =
-    let m : marks longestAxes ≡ 28673 = refl in
-    let c : cells longestAxes ≡ 4096 = refl in
-    omega (
-      arith,
-      json-long (λ k. Int smallestInt) longestAxes (extent-true longestAxes longest-good .0) (omega arith),
-      twenty (cells longestAxes) 0,
-    )
+    let s : Sound longestAxes = extent-true longestAxes longest-good .0 in
+    json-long (λ k. Int smallestInt) longestAxes s (omega arith) ∙ rw (twenty (cells longestAxes) 0)

@@ -1,8 +1,8 @@
 -- Forms judged one after the other: what is known of one, the loop as a record with a law for each event, and what is known of all.
 use Prim.Native.Nat.{ℕ, _+_, _-_, _*_, _≤_, _<_}
-use mathlib.Core.Path.{_≡_, refl, sym, ap, subst, _∙_}
+use mathlib.Core.Path.{_≡_, refl, sym, ap, _∙_}
 use mathlib.Core.Bool.{true, false}
-use mathlib.Core.List.{List, [], _∷_, _++_, map}
+use mathlib.Core.List.{List, [], _∷_, map}
 use native.Mathlib.Numerals.{add-one}
 use native.Mathlib.Omega.{arith}
 use borrow.Author.Tests.{ne-eqb}
@@ -11,7 +11,7 @@ use lib.Seq.{drop-drop}
 use Rattle.paper.specs.declared.Form.{Form}
 use Rattle.paper.specs.declared.Refusal.{Refusal}
 use Rattle.paper.specs.Limits.{mostArrays, mostAxes, axisBytes, typeBytes}
-use Rattle.paper.specs.Refusals.{got, refused, _>>=_, _>>_, refusal, between, badBytes1}
+use Rattle.paper.specs.Refusals.{refused, refusal, between, badBytes1}
 use Rattle.paper.specs.Numbers.{none?}
 use Rattle.paper.specs.Cells.{isType}
 use Rattle.paper.specs.Bundle.{markBytes, packArray, packArrays, packed}
@@ -21,7 +21,7 @@ use Rattle.laws.specs.Loops.{length-first, drop-first-cons}
 use Rattle.laws.specs.Tests.{between-true}
 use Rattle.extent.specs.Rank.{Rank}
 use Rattle.bundle.specs.declared.ArrayRead.{ArrayRead}
-use Rattle.bundle.specs.Read.{cellsIn, Fit, JudgedArray}
+use Rattle.bundle.specs.Read.{JudgedArray}
 use Rattle.pack.specs.declared.judge.FormJudged.{FormJudged}
 use Rattle.pack.specs.declared.judge.Verdict.{Verdict}
 use Rattle.pack.specs.Laid.{shapesOf, shapes-length, shapes-few, cellRoom, formBytes, mostBytes, Ready, ready-packed, ready-small, ready-long, AllReady, laidBytes, restOf, packed-left}
@@ -43,64 +43,43 @@ pub record JudgedForm (bs : List ℕ) (from k : ℕ) (form : Form) (r : FormJudg
   pub few : r .long ≤ mostBytes
   pub room : r .end ≤ length bs
 
--- an array that was read is ready to be packed
-module _ {bs : List ℕ} {from k : ℕ} {form : Form} {o : ArrayRead} (j : JudgedArray bs from k form o) (z : o .refusal .number ≡ 0)
-    (t : isType (form .kind) ≡ true) {n : ℕ} (r : Rank (form .extent) n) (b : between 1 mostAxes n ≡ true) (w : from ≤ length bs) where
-  form-ready : Ready form (drop from bs)
-  form-ready =
-      let f : Fit bs (record { form = form; at = from; cells = cellsIn form }) = subst (Fit bs) (j .held z) (j .fit z) in
-      record {
-        type = t;
-        rank = ap (between 1 mostAxes) (sym (r .number)) ∙ b;
-        good = f .good;
-        fits = omega (arith, length-drop from bs, f .fits);
-        clean = f .clean;
-      }
-
 -- each way out of the judging of one
-module _ {bs : List ℕ} {from k : ℕ} {form : Form} {y : FormJudged} where
-  form-refused : {x : Refusal} → y ≡ stopped x → (x .number ≡ 0 → ⊥) → packArray k (shapeOf form) (drop from bs) ≡ refused x
-      → JudgedForm bs from k form y
-  form-refused e h q =
-      let z : y .refusal .number ≡ 0 → ⊥ = λ f. h (sym (ap (λ (o : FormJudged). o .refusal .number) e) ∙ f) in
-      record {
-        no = λ f. q ∙ ap (λ (o : FormJudged). refused (o .refusal)) (sym e);
-        ready = λ f. absurd (z f);
-        end = λ f. absurd (z f);
-        long = λ f. absurd (z f);
-        few = omega (arith, ap (λ (o : FormJudged). o .long) e);
-        room = omega (arith, ap (λ (o : FormJudged). o .end) e);
-      }
+module _ {bs : List ℕ} {from k : ℕ} {form : Form} where
+  form-refused : {x : Refusal} → (x .number ≡ 0 → ⊥) → packArray k (shapeOf form) (drop from bs) ≡ refused x
+      → JudgedForm bs from k form (stopped x)
+  form-refused h q =
+      record { no = λ f. q; ready = λ f. search; end = λ f. search; long = λ f. search; few = omega arith; room = omega arith }
 
-  pub form-type : isType (form .kind) ≡ false → y ≡ stopped (refusal badBytes1 k 0) → JudgedForm bs from k form y
+  pub form-type : isType (form .kind) ≡ false → JudgedForm bs from k form (stopped (refusal badBytes1 k 0))
   unfolding packArray
-  form-type t e = form-refused e (λ z. omega arith) (rw t)
+  form-type t = form-refused (λ z. omega arith) (rw t)
 
   module _ (t : isType (form .kind) ≡ true) {n : ℕ} (r : Rank (form .extent) n) where
-    pub form-count : between 1 mostAxes n ≡ false → y ≡ stopped (refusal badBytes1 k 0) → JudgedForm bs from k form y
+    pub form-count : between 1 mostAxes n ≡ false → JudgedForm bs from k form (stopped (refusal badBytes1 k 0))
     unfolding packArray
-    form-count b e = form-refused e (λ z. omega arith) (rw (t, ← r .number, b))
+    form-count b = form-refused (λ z. omega arith) (rw (t, ← r .number, b))
 
     module _ (b : between 1 mostAxes n ≡ true) {o : ArrayRead} (j : JudgedArray bs from k form o) where
-      pub form-bad : (o .refusal .number ≡ 0 → ⊥) → y ≡ stopped (o .refusal) → JudgedForm bs from k form y
+      pub form-bad : (o .refusal .number ≡ 0 → ⊥) → JudgedForm bs from k form (stopped (o .refusal))
       unfolding packArray
-      form-bad f e = form-refused e f (rw (t, ← r .number, b) (sym (j .said) ∙ unless-refused (o .refusal) _ f))
+      form-bad f = form-refused f (rw (t, ← r .number, b) (sym (j .said) ∙ unless-refused (o .refusal) _ f))
 
-      module _ (w : from ≤ length bs) (z : o .refusal .number ≡ 0) where
-        pub form-got : y ≡ record { refusal = o .refusal; end = o .end; long = typeBytes + n * axisBytes + (o .end - from) }
-            → JudgedForm bs from k form y
-        form-got e =
-            let v = form-ready j z t r b w in
-            let p = j .past z in
-            let l : y .long ≡ typeBytes + n * axisBytes + (o .end - from) = ap (λ (x : FormJudged). x .long) e in
-            record {
-              no = λ f. absurd (f (ap (λ (x : FormJudged). x .refusal .number) e ∙ z));
-              ready = λ f. v;
-              end = λ f. ap (λ (x : FormJudged). x .end) e ∙ p;
-              long = λ f. omega (arith, r .number, ready-long form (drop from bs) v);
-              few = omega (arith, r .few, ready-small form (drop from bs) v .few);
-              room = omega (arith, ap (λ (x : FormJudged). x .end) e, j .end);
-            }
+      -- an array that was read is ready to be packed
+      pub form-got : from ≤ length bs → o .refusal .number ≡ 0
+          → JudgedForm bs from k form (record { refusal = o .refusal; end = o .end; long = typeBytes + n * axisBytes + (o .end - from) })
+      form-got w z =
+          let f = rw (j .held z) at (j .fit z) in
+          let l : cellRoom form ≤ length (drop from bs) = omega (arith, length-drop from bs, f .fits) in
+          let v : Ready form (drop from bs) = record { type = t; rank = rw (← r .number) b; good = f .good; fits = l; clean = f .clean } in
+          let p = j .past z in
+          record {
+            no = λ f. absurd (f z);
+            ready = λ f. v;
+            end = λ f. p;
+            long = λ f. omega (arith, r .number, ready-long v);
+            few = omega (arith, r .few, ready-small v .few);
+            room = j .end;
+          }
 
 -- ---- arrays in a loop
 
@@ -123,33 +102,21 @@ module _ {fs : List Form} {bs : List ℕ} {at long i : ℕ} (v : Judging fs bs a
     {r : FormJudged} (j : JudgedForm bs at (i + 1) f r) where
   judging-refused : (r .refusal .number ≡ 0 → ⊥) → packArrays 1 (map shapeOf fs) bs ≡ refused (r .refusal)
   unfolding packArrays
-  judging-refused h = v .no (r .refusal) (ap (λ (l : List Form). packArrays (i + 1) (map shapeOf l) (drop at bs)) e ∙ rw (j .no h))
+  judging-refused h = v .no (r .refusal) (rw (e, j .no h))
 
-  module _ (z : r .refusal .number ≡ 0) where
-    further : drop (cellRoom f) (drop at bs) ≡ drop (r .end) bs
-    further = drop-drop (cellRoom f) at bs ∙ ap (λ (n : ℕ). drop n bs) (sym (j .end z))
-
-    pub judging-more : i < length fs → Judging fs bs (r .end) (long + r .long) (i + 1)
-    unfolding packArrays laidBytes restOf
-    judging-more h =
-        let y = j .ready z in
-        let g = further in
-        let x = formBytes f (drop at bs) in
-        let l = laidBytes (drop (i + 1) fs) (drop (r .end) bs) in
-        record {
-          turns = omega arith;
-          few = omega (arith, v .few, j .few);
-          room = j .room;
-          no = λ x q.
-              v .no x
-              (ap (λ (l : List Form). packArrays (i + 1) (map shapeOf l) (drop at bs)) e
-              ∙ rw (ready-packed f (drop at bs) y (i + 1), g, q));
-          ready = λ a. v .ready (rw e (y, rw g a));
-          rest = ap (restOf (drop (i + 1) fs)) (sym g) ∙ sym (ap (λ (l : List Form). restOf l (drop at bs)) e) ∙ v .rest;
-          size =
-              let p : laidBytes (drop i fs) (drop at bs) ≡ x ++ l = rw (e, g) in
-              omega (arith, v .size, ap length p, length-append x l, j .long z);
-        }
+  pub judging-more : r .refusal .number ≡ 0 → i < length fs → Judging fs bs (r .end) (long + r .long) (i + 1)
+  unfolding packArrays laidBytes restOf
+  judging-more z h =
+      let g : drop (cellRoom f) (drop at bs) ≡ drop (r .end) bs = rw (j .end z, drop-drop) in
+      record {
+        turns = omega arith;
+        few = omega (arith, v .few, j .few);
+        room = j .room;
+        no = λ x q. v .no x (rw (e, ready-packed (j .ready z) (i + 1), g, q));
+        ready = λ a. v .ready (rw e (j .ready z, rw g a));
+        rest = ap (restOf (drop (i + 1) fs)) (sym g) ∙ (rw e at (v .rest));
+        size = omega (arith, rw (e, g, length-append (formBytes f (drop at bs))) at (v .size), j .long z);
+      }
 
 -- ---- all of them
 
@@ -166,74 +133,59 @@ pub record Counted (count : ℕ) (forms : List Form) : Type 0 where
   pub range : between 1 mostArrays count ≡ true
   pub full : length forms ≡ mostArrays
 
-module _ {count : ℕ} {forms : List Form} (n : Counted count forms) where
-  count-few : count ≤ length forms
-  count-few = omega (arith, n .full, between-true mostArrays count (n .range))
-
-  pub count-first : length (take count forms) ≡ count
-  count-first = length-first forms count count-few
-
-  pub next-form : (i : ℕ) (d : Form) → i < count → drop i (take count forms) ≡ getD forms i d ∷ drop (i + 1) (take count forms)
-  next-form i d h = rw add-one (drop-first-cons forms count count-few i d h)
-
--- none are left
-module _ {count : ℕ} {forms : List Form} (n : Counted count forms) {bs : List ℕ} {at long i : ℕ}
-    (v : Judging (take count forms) bs at long i)
-    (h : count ≤ i) where
-  none-left : drop i (take count forms) ≡ []
-  none-left = drop-of-length-le (take count forms) {i = i} (omega (arith, count-first n))
-
-  all-ready : AllReady (take count forms) bs
-  all-ready = v .ready (rw none-left tt)
-
-  its-rest : drop at bs ≡ restOf (take count forms) bs
-  unfolding restOf
-  its-rest = sym (ap (λ (l : List Form). restOf l (drop at bs)) none-left) ∙ v .rest
-
 -- each way out
-module _ {count : ℕ} {forms : List Form} {bs : List ℕ} {y : Verdict} where
-  all-refused : {x : Refusal} → y ≡ over x → (x .number ≡ 0 → ⊥) → ((room : ℕ) → packed (shapesOf count forms) bs room ≡ refused x)
-      → JudgedAll count forms bs y
-  all-refused e h q =
-      let z : y .refusal .number ≡ 0 → ⊥ = λ f. h (sym (ap (λ (o : Verdict). o .refusal .number) e) ∙ f) in
-      record {
-        no = λ f room. q room ∙ ap (λ (o : Verdict). refused (o .refusal)) (sym e);
-        counted = λ f. absurd (z f);
-        ready = λ f. absurd (z f);
-        rest = λ f. absurd (z f);
-        long = λ f. absurd (z f);
-        few = omega (arith, ap (λ (o : Verdict). o .long) e);
-      }
+module _ {count : ℕ} {forms : List Form} where
+  all-refused : {bs : List ℕ} {x : Refusal} → (x .number ≡ 0 → ⊥) → ((room : ℕ) → packed (shapesOf count forms) bs room ≡ refused x)
+      → JudgedAll count forms bs (over x)
+  all-refused h q =
+      record { no = λ f. q; counted = λ f. search; ready = λ f. search; rest = λ f. search; long = λ f. search; few = omega arith }
 
-  pub all-count : between 1 mostArrays count ≡ false → y ≡ over (refusal badBytes1 0 0) → JudgedAll count forms bs y
+  pub all-count : {bs : List ℕ} → between 1 mostArrays count ≡ false → JudgedAll count forms bs (over (refusal badBytes1 0 0))
   unfolding packed
-  all-count b e = all-refused e (λ z. omega arith) (λ room. rw (shapes-length count forms, b))
+  all-count b = all-refused (λ z. omega arith) (λ room. rw (shapes-length count forms, b))
 
-  module _ (n : Counted count forms) {at long i : ℕ} (v : Judging (take count forms) bs at long i) where
-    pub all-bad : {f : Form} → drop i (take count forms) ≡ f ∷ drop (i + 1) (take count forms) → {r : FormJudged}
-        → JudgedForm bs at (i + 1) f r
-        → (r .refusal .number ≡ 0 → ⊥) → y ≡ over (r .refusal) → JudgedAll count forms bs y
-    unfolding packed
-    all-bad g j h e =
-        let q = judging-refused v g j h in
-        all-refused e h (λ room. rw (shapes-length count forms, n .range, shapes-few count forms (count-few n), q))
+  module _ (n : Counted count forms) where
+    count-few : count ≤ length forms
+    count-few = omega (arith, n .full, between-true mostArrays count (n .range))
 
-    module _ (h : count ≤ i) where
-      pub all-left : at < length bs → y ≡ over (refusal badBytes1 0 0) → JudgedAll count forms bs y
-      all-left g e =
-          let f : none? (drop at bs) ≡ false = rw (length-drop at bs) (ne-eqb (length bs - at) 0 (λ e. omega arith)) in
-          let z = ap none? (sym (its-rest n v h)) ∙ f in
-          all-refused e (λ z. omega arith) (λ room. packed-left count forms bs room (count-few n) (n .range) (all-ready n v h) z)
+    pub count-first : length (take count forms) ≡ count
+    count-first = length-first forms count count-few
 
-      pub all-got : length bs ≤ at → y ≡ record { refusal = refusal 0 0 0; long = long } → JudgedAll count forms bs y
-      unfolding laidBytes
-      all-got g e =
-          let p = ap (λ (o : Verdict). o .long) e in
-          record {
-            no = λ f. absurd (f (ap (λ (o : Verdict). o .refusal .number) e));
-            counted = λ f. n .range;
-            ready = λ f. all-ready n v h;
-            rest = λ f. sym (its-rest n v h) ∙ drop-of-length-le bs {i = at} g;
-            long = λ f. omega (arith, v .size, ap (λ (fs : List Form). length (laidBytes fs (drop at bs))) (none-left n v h));
-            few = omega (arith, v .few, v .turns, count-first n, count-few n);
-          }
+    pub next-form : (i : ℕ) (d : Form) → i < count → drop i (take count forms) ≡ getD forms i d ∷ drop (i + 1) (take count forms)
+    next-form i d h = rw add-one (drop-first-cons forms count count-few i d h)
+
+    module _ {bs : List ℕ} {at long i : ℕ} (v : Judging (take count forms) bs at long i) where
+      pub all-bad : {f : Form} → drop i (take count forms) ≡ f ∷ drop (i + 1) (take count forms) → {r : FormJudged}
+          → JudgedForm bs at (i + 1) f r → (r .refusal .number ≡ 0 → ⊥) → JudgedAll count forms bs (over (r .refusal))
+      unfolding packed
+      all-bad g j h =
+          all-refused h (λ room. rw (shapes-length count forms, n .range, shapes-few count forms count-few, judging-refused v g j h))
+
+      -- none are left
+      module _ (h : count ≤ i) where
+        none-left : drop i (take count forms) ≡ []
+        none-left = drop-of-length-le (take count forms) {i = i} (omega (arith, count-first))
+
+        all-ready : AllReady (take count forms) bs
+        all-ready = v .ready (rw none-left tt)
+
+        its-rest : drop at bs ≡ restOf (take count forms) bs
+        unfolding restOf
+        its-rest = rw none-left at (v .rest)
+
+        pub all-left : at < length bs → JudgedAll count forms bs (over (refusal badBytes1 0 0))
+        all-left g =
+            let z : none? (drop at bs) ≡ false = rw (length-drop at bs) (ne-eqb (length bs - at) 0 (λ e. omega arith)) in
+            all-refused (λ z. omega arith) (λ room. packed-left count forms bs room count-few (n .range) all-ready (rw its-rest at z))
+
+        pub all-got : length bs ≤ at → JudgedAll count forms bs (record { refusal = refusal 0 0 0; long = long })
+        unfolding laidBytes
+        all-got g =
+            record {
+              no = λ f. absurd (f refl);
+              counted = λ f. n .range;
+              ready = λ f. all-ready;
+              rest = λ f. sym its-rest ∙ drop-of-length-le bs {i = at} g;
+              long = λ f. omega (arith, rw none-left at (v .size));
+              few = omega (arith, v .few, v .turns, count-first, count-few);
+            }

@@ -1,7 +1,7 @@
 -- Forms whose cells stand one after the other in a buffer: what it is that each was judged good, the bytes that the bundle then has, and
 -- that packing gives these bytes.
 use Prim.Native.Nat.{ℕ, zero, suc, _+_, _*_, _≤_, _<_}
-use mathlib.Core.Path.{_≡_, refl, sym, ap, ap₂, _∙_}
+use mathlib.Core.Path.{_≡_, refl, sym, ap, _∙_}
 use mathlib.Core.Bool.{true, false, _&&_}
 use mathlib.Core.List.{List, [], _∷_, _++_, map}
 use mathlib.Core.Option.{Option, none, some}
@@ -39,10 +39,7 @@ abbrev pub shapesOf : ℕ → List Form → List Shape
 shapesOf count forms = map shapeOf (take count (forms ++ replicate count noForm))
 
 pub shapes-length : (count : ℕ) (forms : List Form) → length (shapesOf count forms) ≡ count
-shapes-length count forms =
-    length-map (take count (forms ++ replicate count noForm)) shapeOf
-    ∙ length-take-le count (forms ++ replicate count noForm)
-    (omega (arith, length-append forms (replicate count noForm), length-replicate count noForm))
+shapes-length count forms = simp (length-map, length-take, length-append, length-replicate) (omega arith)
 
 pub shapes-few : (count : ℕ) (forms : List Form) → count ≤ length forms → shapesOf count forms ≡ map shapeOf (take count forms)
 shapes-few count forms h = ap (map shapeOf) (take-append-le count forms (replicate count noForm) h)
@@ -85,17 +82,15 @@ cells-written (suc n) t o bs p l h e =
     let f = first-one (cellOf t (take cellBytes bs)) _ o p e in
     let s : length (take cellBytes bs) ≡ cellBytes = omega (arith, length-take cellBytes bs) in
     let w : suc n * cellBytes ≡ cellBytes + n * cellBytes = omega arith in
-    ap₂ (λ (x y : List ℕ). x ++ y)
-    (bytes-back t (take cellBytes bs) _ s (bytes-take cellBytes bs h) (f .0))
-    (cells-written n t (o + 1) (drop cellBytes bs) (omega arith) (omega (arith, length-drop cellBytes bs)) (bytes-drop cellBytes bs h)
-    (f .1))
-    ∙ sym (take-add cellBytes (n * cellBytes) bs) ∙ ap (λ (j : ℕ). take j bs) (sym w)
+    let d = bytes-drop cellBytes bs h in
+    let i = cells-written n t (o + 1) (drop cellBytes bs) (omega arith) (omega (arith, length-drop cellBytes bs)) d (f .1) in
+    rw (w, take-add cellBytes (n * cellBytes) bs, bytes-back t (take cellBytes bs) _ s (bytes-take cellBytes bs h) (f .0), i)
 
 -- the array that it is
 unfoldable pub arrayIn : Form → List ℕ → Array
 arrayIn f bs = record { shape = shapeOf f; cells = cellsFrom (f .kind) (cellsIn f) bs }
 
-module _ (f : Form) (bs : List ℕ) (v : Ready f bs) where
+module _ {f : Form} {bs : List ℕ} (v : Ready f bs) where
   abbrev E : List Axis
   E = axesOf (f .extent)
 
@@ -110,12 +105,7 @@ module _ (f : Form) (bs : List ℕ) (v : Ready f bs) where
 
   pub ready-long : length (formBytes f bs) ≡ typeBytes + length E * axisBytes + cellRoom f
   ready-long =
-      omega (
-        arith,
-        length-append (axesBytes E M) (take (cellRoom f) bs),
-        axes-length E M ready-alike,
-        length-take-le (cellRoom f) bs (v .fits),
-      )
+      simp (length-append, length-take) (omega (arith, axes-length E M ready-alike, v .fits))
 
   pub ready-packed : (k : ℕ) → packArray k (shapeOf f) bs ≡ got (arrayIn f bs, drop (cellRoom f) bs)
   unfolding packArray arrayOf arrayIn
@@ -125,9 +115,7 @@ module _ (f : Form) (bs : List ℕ) (v : Ready f bs) where
 
   ready-bytes : Bytes bs → arrayBytes (arrayIn f bs) ≡ formBytes f bs
   unfolding arrayBytes arrayIn
-  ready-bytes h =
-      ap (λ (x : List ℕ). f .kind ∷ length E ∷ (axesBytes E M ++ x))
-      (cells-written (cellsIn f) (f .kind) 1 bs (omega arith) (v .fits) h (v .clean))
+  ready-bytes h = rw (cells-written (cellsIn f) (f .kind) 1 bs (omega arith) (v .fits) h (v .clean))
 
 -- ---- forms, one after the other
 
@@ -158,14 +146,13 @@ arrays-packed : (fs : List Form) (k : ℕ) (bs : List ℕ) → AllReady fs bs
     → packArrays k (map shapeOf fs) bs ≡ got (arraysIn fs bs, restOf fs bs)
 unfolding packArrays arraysIn restOf
 arrays-packed [] k bs v = refl
-arrays-packed (f ∷ fs) k bs v = rw (ready-packed f bs (v .0) k, arrays-packed fs (k + 1) (drop (cellRoom f) bs) (v .1))
+arrays-packed (f ∷ fs) k bs v = rw (ready-packed (v .0) k, arrays-packed fs (k + 1) (drop (cellRoom f) bs) (v .1))
 
 arrays-bytes : (fs : List Form) (bs : List ℕ) → AllReady fs bs → Bytes bs → concat (map arrayBytes (arraysIn fs bs)) ≡ laidBytes fs bs
 unfolding concat arraysIn laidBytes
 arrays-bytes [] bs v h = refl
 arrays-bytes (f ∷ fs) bs v h =
-    ap₂ (λ (x y : List ℕ). x ++ y) (ready-bytes f bs (v .0) h)
-    (arrays-bytes fs (drop (cellRoom f) bs) (v .1) (bytes-drop (cellRoom f) bs h))
+    rw (ready-bytes (v .0) h, arrays-bytes fs (drop (cellRoom f) bs) (v .1) (bytes-drop (cellRoom f) bs h))
 
 -- ---- the bundle
 

@@ -1,8 +1,7 @@
 -- Arrays written one after the other: an array's parts as the code puts them, the loop over the arrays as a record with a law for each
 -- event, and packing as a whole.
 use Prim.Native.Nat.{ℕ, _+_, _*_, _≤_, _<_}
-use mathlib.Core.Path.{_≡_, refl, sym, ap, ap₂, subst, _∙_}
-use mathlib.Core.Bool.{Bool, true, false}
+use mathlib.Core.Path.{_≡_, refl, sym, ap, _∙_}
 use mathlib.Core.List.{List, [], _∷_, _++_}
 use native.Mathlib.Omega.{arith}
 use borrow.Author.Tests.{le-leb, lt-leb}
@@ -14,7 +13,7 @@ use Rattle.paper.specs.declared.Refusal.{Refusal}
 use Rattle.paper.specs.declared.NumberAnswer.{NumberAnswer}
 use Rattle.paper.specs.declared.NumberAnswer.the-variants.{Got, Refused}
 use Rattle.paper.specs.Limits.{mostArrays, mostCells, axisBytes, typeBytes, cellBytes}
-use Rattle.paper.specs.Refusals.{got, refused, _>>=_, _>>_, refusal, ensure, smallOutput14}
+use Rattle.paper.specs.Refusals.{got, refused, _>>_, refusal, ensure, smallOutput14}
 use Rattle.paper.specs.Numbers.{part}
 use Rattle.paper.specs.Axes.{Shape}
 use Rattle.paper.specs.Bundle.{mark, markBytes, axesBytes, packed, putInto, pack}
@@ -25,7 +24,8 @@ use Rattle.extent.specs.Judged.{fewCells}
 use Rattle.bundle.specs.Read.{cellsIn}
 use Rattle.pack.specs.declared.judge.Verdict.{Verdict}
 use Rattle.pack.specs.declared.put.Ends.{Ends}
-use Rattle.laws.specs.Put.{put, put-none, put-byte, length-put, after}
+use Rattle.laws.specs.Put.{put, put-none, length-put, after}
+use Rattle.cell.proofs.Runs.{stores-at}
 use Rattle.pack.specs.Put.{axes-length}
 use Rattle.pack.specs.Laid.{shapesOf, cellRoom, formBytes, Ready, ready-small, ready-alike, ready-long, AllReady, laidBytes, bundleOf, packed-ready}
 use Rattle.pack.specs.Judging.{JudgedAll}
@@ -51,42 +51,46 @@ module _ {form : Form} {bs : List ℕ} {from : ℕ} {d : List ℕ} {at : ℕ} (q
   axes = axesBytes (axesOf (form .extent)) (axesOf (form .maximum))
 
   pub its-cells : m ≡ cellsIn form
-  its-cells = em ∙ rw (le-leb (cellsIn form) mostCells (ready-small form (drop from bs) (q .ready) .few))
+  its-cells = em ∙ rw (le-leb (cellsIn form) mostCells (ready-small (q .ready) .few))
 
   pub its-long : length (formBytes form (drop from bs)) ≡ typeBytes + n * axisBytes + m * cellBytes
-  its-long = omega (arith, ready-long form (drop from bs) (q .ready), its-cells)
+  its-long = omega (arith, ready-long (q .ready), its-cells)
 
   pub its-fit : from + m * cellBytes ≤ length bs
   its-fit = omega (arith, q .ready .fits, q .start, length-drop from bs, its-cells)
 
-  its-axes : length (axesBytes (axesOf (form .extent)) (axesOf (form .maximum))) ≡ n * axisBytes
-  its-axes = axes-length _ _ (ready-alike form (drop from bs) (q .ready)) ∙ ap (λ (j : ℕ). j * axisBytes) (sym en)
+  its-axes : length axes ≡ n * axisBytes
+  its-axes = rw en (axes-length _ _ (ready-alike (q .ready)))
 
   -- the buffer after the axes is as long as before
   pub axes-kept : (y : List ℕ) → y ≡ put (set (set d at (form .kind)) (at + 1) n) (at + typeBytes) axes → length y ≡ length d
   axes-kept y p =
-      let l : length (set (set d at (form .kind)) (at + 1) n) ≡ length d =
-      length-set (set d at (form .kind)) (at + 1) n ∙ length-set d at (form .kind) in
+      let b : length (set (set d at (form .kind)) (at + 1) n) ≡ length d = simp length-set in
       ap length p ∙ length-put (set (set d at (form .kind)) (at + 1) n) (at + typeBytes) axes (omega (arith, its-axes, its-long, q .room))
-      ∙ l
+      ∙ b
 
   -- type, axis count, axes, cells, one after the other
   pub array-put : (y z : List ℕ) → y ≡ put (set (set d at (form .kind)) (at + 1) n) (at + typeBytes) axes
       → z ≡ put y (at + typeBytes + n * axisBytes) (part from (m * cellBytes) bs)
-      → z ≡ put d at (formBytes form (drop from bs))
+      → ArrayPut form bs from d at (record { from = from + m * cellBytes; at = at + typeBytes + n * axisBytes + m * cellBytes }) z
   array-put y z p w =
       let l = its-long in
       let r = q .room in
+      let x = its-axes in
       let t : List ℕ = form .kind ∷ n ∷ [] in
-      let d₁ = set d at (form .kind) in
-      let e₁ = put-byte d at (form .kind) (omega arith) in
-      let l₁ = length-set d at (form .kind) in
-      let e₂ = after d at (form .kind ∷ []) (n ∷ []) d₁ _ (at + 1) (omega arith) refl e₁ (put-byte d₁ (at + 1) n (omega arith)) in
-      let e₃ = after d at t axes _ y (at + typeBytes) (omega arith) refl e₂ p in
-      let e₄ =
-      after d at (t ++ axes) (part from (m * cellBytes) bs) y z (at + typeBytes + n * axisBytes) (omega (arith, its-axes))
-      (omega (arith, its-axes)) e₃ w in
-      e₄ ∙ ap₂ (λ (i j : ℕ). put d at (form .kind ∷ i ∷ (axes ++ take (j * cellBytes) (drop from bs)))) en its-cells
+      let u = after d at t axes _ y (at + typeBytes) (omega arith) refl (stores-at t d at (omega arith)) p in
+      record {
+        bytes =
+            after d at (t ++ axes) (part from (m * cellBytes) bs) y z (at + typeBytes + n * axisBytes) (omega arith) (omega arith) u w
+            ∙ rw (its-cells, en);
+        cells = rw its-cells;
+        next = omega arith;
+      }
+
+-- the buffer after an array is as long as before
+pub array-kept : {form : Form} {bs : List ℕ} {from : ℕ} {d : List ℕ} {at : ℕ} {r : Ends} {y : List ℕ} → ArrayRoom form bs from d at
+    → ArrayPut form bs from d at r y → length y ≡ length d
+array-kept {form} {bs} {from} {d} {at} q p = ap length (p .bytes) ∙ length-put d at (formBytes form (drop from bs)) (q .room)
 
 -- ---- arrays in a loop
 
@@ -111,38 +115,31 @@ laying-start fs bs d v h = record { turns = omega arith; long = refl; start = om
 
 module _ {fs : List Form} {bs d₀ d : List ℕ} {from at i : ℕ} (v : Laying fs bs d₀ d from at i) where
   module _ {f : Form} (e : drop i fs ≡ f ∷ drop (i + 1) fs) where
-    parted : laidBytes (drop i fs) (drop from bs) ≡ formBytes f (drop from bs) ++ laidBytes (drop (i + 1) fs) (drop (from + cellRoom f) bs)
+    its-room : at + (length (formBytes f (drop from bs)) + length (laidBytes (drop (i + 1) fs) (drop (from + cellRoom f) bs))) ≤ length d
     unfolding laidBytes
-    parted = rw (e, drop-drop (cellRoom f) from bs)
+    its-room = rw (e, drop-drop (cellRoom f) from bs, length-append (formBytes f (drop from bs))) at (v .room)
 
-    both-long : length (laidBytes (drop i fs) (drop from bs))
-        ≡ length (formBytes f (drop from bs)) + length (laidBytes (drop (i + 1) fs) (drop (from + cellRoom f) bs))
-    both-long = ap length parted ∙ length-append (formBytes f (drop from bs)) _
-
-    its-ready : Ready f (drop from bs) × AllReady (drop (i + 1) fs) (drop (cellRoom f) (drop from bs))
-    its-ready = rw e at (v .ready)
+    its-ready : Ready f (drop from bs) × AllReady (drop (i + 1) fs) (drop (from + cellRoom f) bs)
+    its-ready = rw (e, drop-drop (cellRoom f) from bs) at (v .ready)
 
     pub laying-room : ArrayRoom f bs from d at
-    laying-room = record { start = v .start; ready = its-ready .0; room = omega (arith, v .room, both-long) }
+    laying-room = record { start = v .start; ready = its-ready .0; room = omega (arith, its-room) }
 
-    pub laying-more : i < length fs → (r : Ends) (y : List ℕ) → ArrayPut f bs from d at r y → Laying fs bs d₀ y (r .from) (r .at) (i + 1)
-    laying-more h r y p =
-        let x = formBytes f (drop from bs) in
-        let b : at + length (formBytes f (drop from bs)) ≤ length d = laying-room .room in
-        let l : length y ≡ length d = ap length (p .bytes) ∙ length-put d at x b in
-        let w : AllReady (drop (i + 1) fs) (drop (from + cellRoom f) bs) = rw drop-drop at (its-ready .1) in
-        let z : laidBytes (drop (i + 1) fs) (drop (r .from) bs) ≡ laidBytes (drop (i + 1) fs) (drop (from + cellRoom f) bs) =
-        ap (λ (j : ℕ). laidBytes (drop (i + 1) fs) (drop j bs)) (p .cells) in
-        record {
+    pub laying-more : i < length fs → {r : Ends} {y : List ℕ} → ArrayPut f bs from d at r y → Laying fs bs d₀ y (r .from) (r .at) (i + 1)
+    unfolding laidBytes
+    laying-more h {r} {y} p =
+        let k = array-kept laying-room p in
+        rw (p .cells)
+        (record {
           turns = omega arith;
-          long = l ∙ v .long;
-          start = omega (arith, p .cells, its-ready .0 .fits, v .start, length-drop from bs);
-          ready = subst (λ (j : ℕ). AllReady (drop (i + 1) fs) (drop j bs)) (sym (p .cells)) w;
-          room = omega (arith, ap length z, v .room, both-long, p .next);
+          long = k ∙ v .long;
+          start = omega (arith, its-ready .0 .fits, v .start, length-drop from bs);
+          ready = its-ready .1;
+          room = omega (arith, its-room, p .next);
           left =
-              ap (put y (r .at)) z ∙ after d at x (laidBytes (drop (i + 1) fs) (drop (from + cellRoom f) bs)) y _ (r .at) b (p .next)
-              (p .bytes) refl ∙ ap (put d at) (sym parted) ∙ v .left;
-        }
+              after d at (formBytes f (drop from bs)) _ y _ (r .at) (laying-room .room) (p .next) (p .bytes) refl
+              ∙ (rw (e, drop-drop (cellRoom f) from bs) at (v .left));
+        })
 
   pub laying-end : length fs ≤ i → d ≡ put d₀ (markBytes + 1) (laidBytes fs bs)
   unfolding laidBytes
@@ -177,25 +174,19 @@ module _ {count : ℕ} {forms : List Form} {bs : List ℕ} {r : Verdict} (j : Ju
       record { few = count-least .1; ready = j .ready z; room = omega (arith, j .long z) }
 
   module _ (l : length forms ≡ mostArrays) (g : Bytes bs) (out : List ℕ) where
-    by-room : (b : Bool) → leb (length bundle) (length out) ≡ b
-        → packed (shapesOf count forms) bs (length out) ≡ (ensure b smallOutput14 0 >> got bundle)
-    by-room b e =
-        packed-ready count forms bs (length out) (omega (arith, count-least)) (j .counted z) (j .ready z) (j .rest z) g
-        ∙ ap (λ (b : Bool). ensure b smallOutput14 0 >> got bundle) e
+    by-room : packed (shapesOf count forms) bs (length out) ≡ (ensure (leb (length bundle) (length out)) smallOutput14 0 >> got bundle)
+    by-room = packed-ready count forms bs (length out) (omega (arith, count-least)) (j .counted z) (j .ready z) (j .rest z) g
 
-    pub pack-small : length out < r .long → (x : Refusal) → x ≡ refusal smallOutput14 0 0
-        → PackedInto (shapesOf count forms) bs out (Refused x) out
-    pack-small h x e =
-        let f = lt-leb (length bundle) (length out) (omega (arith, its-length)) in
-        pack-refused _ bs out x (by-room false f ∙ ap refused (sym e))
+    pub pack-small : length out < r .long → PackedInto (shapesOf count forms) bs out (Refused (refusal smallOutput14 0 0)) out
+    pack-small h = pack-refused _ bs out _ (rw (lt-leb (length bundle) (length out) (omega (arith, its-length))) at by-room)
 
     pub pack-got : r .long ≤ length out → (y w : List ℕ) → y ≡ put out 0 (mark ++ (count ∷ []))
         → w ≡ put y (markBytes + 1) (laidBytes (take count forms) bs) → PackedInto (shapesOf count forms) bs out (Got (r .long)) w
     unfolding putInto
     pack-got h y w p q =
-        let f = le-leb (length bundle) (length out) (omega (arith, its-length)) in
-        let e : packed (shapesOf count forms) bs (length out) ≡ got bundle = by-room true f in
+        let e : packed (shapesOf count forms) bs (length out) ≡ got bundle =
+        rw (le-leb (length bundle) (length out) (omega (arith, its-length))) at by-room in
         let u =
         after out 0 (mark ++ (count ∷ [])) (laidBytes (take count forms) bs) y w (markBytes + 1) (omega (arith, j .long z)) refl p q in
         let n : 0 + length bundle ≡ length bundle = omega arith in
-        record { said = rw e (ap got (sym its-length)); wrote = rw e (u ∙ ap (λ (i : ℕ). bundle ++ drop i out) n) }
+        record { said = rw (e, its-length); wrote = rw e (rw n at u) }

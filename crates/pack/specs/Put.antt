@@ -13,7 +13,7 @@ use Rattle.paper.specs.Limits.{mostAxes, limitBytes, pairBytes, nameBytes, axis
 use Rattle.paper.specs.Numbers.{leBytes, position, positionBytes}
 use Rattle.paper.specs.Bundle.{axesBytes}
 use Rattle.paper.specs.Answers.{axesOf}
-use Rattle.laws.specs.Put.{put, put-none, length-put, put-put, after}
+use Rattle.laws.specs.Put.{put, put-none, length-put, after}
 use Rattle.laws.specs.Answers.{count-few}
 use Rattle.extent.specs.Rank.{Rank, rank-told, axisNo, axes-up, axes-end}
 
@@ -22,25 +22,12 @@ use Rattle.extent.specs.Rank.{Rank, rank-told, axisNo, axes-up, axes-end}
 -- the two halves of eight bytes
 eight-bytes : (n : ℕ) → leBytes limitBytes (n % 256 ^ limitBytes) ++ leBytes limitBytes (n / 256 ^ limitBytes) ≡ leBytes nameBytes n
 unfolding leBytes
-eight-bytes n = halves
-  where
-    b0 : n % 256 ^ limitBytes % 256 ≡ n % 256
-    b0 = omega arith
-
-    b1 : n % 256 ^ limitBytes / 256 % 256 ≡ n / 256 % 256
-    b1 = omega arith
-
-    b2 : n % 256 ^ limitBytes / 256 / 256 % 256 ≡ n / 256 / 256 % 256
-    b2 = omega arith
-
-    b3 : n % 256 ^ limitBytes / 256 / 256 / 256 % 256 ≡ n / 256 / 256 / 256 % 256
-    b3 = omega arith
-
-    b4 : n / 256 ^ limitBytes ≡ n / 256 / 256 / 256 / 256
-    b4 = omega arith
-
-    halves : leBytes limitBytes (n % 256 ^ limitBytes) ++ leBytes limitBytes (n / 256 ^ limitBytes) ≡ leBytes nameBytes n
-    halves = rw (b0, b1, b2, b3, b4)
+eight-bytes n =
+    let b : (n % 256 ^ limitBytes % 256 ≡ n % 256) × (n % 256 ^ limitBytes / 256 % 256 ≡ n / 256 % 256)
+    × (n % 256 ^ limitBytes / 256 / 256 % 256 ≡ n / 256 / 256 % 256)
+    × (n % 256 ^ limitBytes / 256 / 256 / 256 % 256 ≡ n / 256 / 256 / 256 % 256)
+    × (n / 256 ^ limitBytes ≡ n / 256 / 256 / 256 / 256) = omega arith in
+    rw (b .0, b .1, b .2, b .3, b .4)
 
 -- what a call that puts four bytes says
 abbrev pub FourPut : List ℕ → ℕ → ℕ → List ℕ → Type 0
@@ -54,49 +41,27 @@ name-put d y z at n h p q =
     (omega arith) refl p q ∙ ap (put d at) (eight-bytes n)
 
 -- and of a position's
-pub record PositionPut (d : List ℕ) (at p : ℕ) (y : List ℕ) : Type 0 where
-  pub bits : ℕ
-  pub its : bits ≡ ofZ w32 (position p)
-  pub four : FourPut d at bits y
-
-position-put : (d : List ℕ) (at p : ℕ) (y : List ℕ) → PositionPut d at p y → y ≡ put d at (positionBytes p)
-unfolding leBytes
-position-put d at p y v = v .four ∙ ap (λ (n : ℕ). put d at (leBytes limitBytes n)) (v .its)
+abbrev pub PositionPut : List ℕ → ℕ → ℕ → List ℕ → Type 0
+PositionPut d at p y = FourPut d at (ofZ w32 (position p)) y
 
 -- an axis with its maximum
 abbrev pub axisPart : Axis → Axis → List ℕ
 axisPart a m =
     leBytes nameBytes (a .name) ++ (positionBytes (a .lo) ++ (positionBytes (a .hi) ++ (positionBytes (m .lo) ++ positionBytes (m .hi))))
 
-pub axis-long : (a m : Axis) → length (axisPart a m) ≡ axisBytes
-unfolding leBytes
-axis-long a m = refl
-
 -- five parts, one after the other
-module _ (d₀ d₁ d₂ d₃ d₄ d₅ : List ℕ) (at : ℕ) (a m : Axis) (h : at + axisBytes ≤ length d₀) where
-  pub axis-put : d₁ ≡ put d₀ at (leBytes nameBytes (a .name)) → PositionPut d₁ (at + nameBytes) (a .lo) d₂
-      → PositionPut d₂ (at + (nameBytes + limitBytes)) (a .hi) d₃ → PositionPut d₃ (at + (nameBytes + pairBytes)) (m .lo) d₄
-      → PositionPut d₄ (at + (nameBytes + pairBytes + limitBytes)) (m .hi) d₅ → d₅ ≡ put d₀ at (axisPart a m)
-  unfolding leBytes
-  axis-put n p q r s =
-      let x = leBytes nameBytes (a .name) in
-      let b = after d₀ at x (positionBytes (a .lo)) d₁ d₂ (at + nameBytes) (omega arith) refl n (position-put d₁ _ _ d₂ p) in
-      let c =
-      after d₀ at (x ++ positionBytes (a .lo)) (positionBytes (a .hi)) d₂ d₃ (at + (nameBytes + limitBytes)) (omega arith) refl b
-      (position-put d₂ _ _ d₃ q) in
-      let e =
-      after d₀ at ((x ++ positionBytes (a .lo)) ++ positionBytes (a .hi)) (positionBytes (m .lo)) d₃ d₄ (at + (nameBytes + pairBytes))
-      (omega arith) refl c (position-put d₃ _ _ d₄ r) in
-      after d₀ at (((x ++ positionBytes (a .lo)) ++ positionBytes (a .hi)) ++ positionBytes (m .lo)) (positionBytes (m .hi)) d₄ d₅
-      (at + (nameBytes + pairBytes + limitBytes)) (omega arith) refl e (position-put d₄ _ _ d₅ s)
-
-axes-cons : (a m : Axis) (E M : List Axis) → axesBytes (a ∷ E) (m ∷ M) ≡ axisPart a m ++ axesBytes E M
-unfolding axesBytes leBytes
-axes-cons a m E M = refl
-
-axes-none : (M : List Axis) → axesBytes [] M ≡ []
-unfolding axesBytes
-axes-none M = refl
+pub axis-put : (d d₁ d₂ d₃ d₄ d₅ : List ℕ) (at : ℕ) (a m : Axis) → at + axisBytes ≤ length d → d₁ ≡ put d at (leBytes nameBytes (a .name))
+    → PositionPut d₁ (at + nameBytes) (a .lo) d₂ → PositionPut d₂ (at + (nameBytes + limitBytes)) (a .hi) d₃
+    → PositionPut d₃ (at + (nameBytes + pairBytes)) (m .lo) d₄ → PositionPut d₄ (at + (nameBytes + pairBytes + limitBytes)) (m .hi) d₅
+    → d₅ ≡ put d at (axisPart a m)
+unfolding leBytes
+axis-put d d₁ d₂ d₃ d₄ d₅ at a m h n p q r s =
+    let x = leBytes nameBytes (a .name) ++ positionBytes (a .lo) in
+    let y = x ++ positionBytes (a .hi) in
+    let b = after d at (leBytes nameBytes (a .name)) (positionBytes (a .lo)) d₁ d₂ (at + nameBytes) (omega arith) refl n p in
+    let c = after d at x (positionBytes (a .hi)) d₂ d₃ (at + (nameBytes + limitBytes)) (omega arith) refl b q in
+    let e = after d at y (positionBytes (m .lo)) d₃ d₄ (at + (nameBytes + pairBytes)) (omega arith) refl c r in
+    after d at (y ++ positionBytes (m .lo)) (positionBytes (m .hi)) d₄ d₅ (at + (nameBytes + pairBytes + limitBytes)) (omega arith) refl e s
 
 -- the number of an extent's axes, however it was had
 pub ranked : (e : Extent) (r : ℕ) → length (e .axes) ≡ mostAxes → r ≡ length (axesOf e) → Rank e r
@@ -119,32 +84,25 @@ module _ {e m : Extent} {d₀ : List ℕ} {at : ℕ} where
 
   module _ {r : ℕ} (re : Rank e r) (rm : Rank m r) (q : AxesRoom e m at d₀) {d : List ℕ} {i : ℕ} (v : Writing e m d₀ at d i) where
     pub axes-more : i < r → (y : List ℕ) → y ≡ put d (at + i * axisBytes) (axisPart (axisNo e i) (axisNo m i)) → Writing e m d₀ at y (i + 1)
+    unfolding axesBytes leBytes
     axes-more h y w =
         let x = axisPart (axisNo e i) (axisNo m i) in
-        let z = axesBytes (drop (i + 1) (axesOf e)) (drop (i + 1) (axesOf m)) in
-        let n = axis-long (axisNo e i) (axisNo m i) in
-        let b : at + i * axisBytes + length (axisPart (axisNo e i) (axisNo m i)) ≤ length d =
-        omega (arith, n, v .long, q .room, re .number) in
-        let f : at + (i + 1) * axisBytes ≡ at + i * axisBytes + length (axisPart (axisNo e i) (axisNo m i)) = omega (arith, n) in
-        let p : axesBytes (drop i (axesOf e)) (drop i (axesOf m)) ≡ x ++ z =
-        rw (axes-up e r re i h, axes-up m r rm i h) (axes-cons _ _ _ _) in
+        let b : at + i * axisBytes + axisBytes ≤ length d = omega (arith, v .long, q .room, re .number) in
         record {
           turns = omega (arith, re .number);
           long = ap length w ∙ length-put d (at + i * axisBytes) x b ∙ v .long;
           left =
-              ap (λ (u : List ℕ). put u (at + (i + 1) * axisBytes) z) w ∙ put-put d (at + i * axisBytes) x b (at + (i + 1) * axisBytes) z f
-              ∙ ap (put d (at + i * axisBytes)) (sym p) ∙ v .left;
+              after d _ x _ y _ (at + (i + 1) * axisBytes) b (omega arith) w refl
+              ∙ (rw (axes-up e r re i h, axes-up m r rm i h) at (v .left));
         }
 
     pub axes-done : r ≤ i → d ≡ put d₀ at (axesBytes (axesOf e) (axesOf m))
-    axes-done h =
-        let p : axesBytes (drop i (axesOf e)) (drop i (axesOf m)) ≡ [] = rw (axes-end e r re i h) (axes-none _) in
-        sym (put-none d (at + i * axisBytes)) ∙ ap (put d (at + i * axisBytes)) (sym p) ∙ v .left
+    unfolding axesBytes
+    axes-done h = sym (put-none d (at + i * axisBytes)) ∙ (rw (axes-end e r re i h) at (v .left))
 
 -- as many bytes as axes say
 pub axes-length : (E M : List Axis) → length M ≡ length E → length (axesBytes E M) ≡ length E * axisBytes
-axes-length [] M h = ap length (axes-none M)
+unfolding axesBytes leBytes
+axes-length [] M h = refl
 axes-length (a ∷ E) [] h = absurd (omega arith)
-axes-length (a ∷ E) (m ∷ M) h =
-    ap length (axes-cons a m E M) ∙ length-append (axisPart a m) (axesBytes E M)
-    ∙ omega (arith, axis-long a m, axes-length E M (omega arith))
+axes-length (a ∷ E) (m ∷ M) h = omega (arith, length-append (axisPart a m) (axesBytes E M), axes-length E M (omega arith))

@@ -3,15 +3,14 @@ use Prim.Native.Nat.{ℕ}
 use mathlib.Core.Path.{_≡_, refl, ap}
 use mathlib.Core.List.{List, [], _∷_, map}
 use native.Mathlib.Omega.{arith}
-use lib.ListN.{length, getD}
+use lib.ListN.{getD}
 use Rattle.paper.specs.declared.Head.{Head}
 use Rattle.paper.specs.declared.Reading.{Reading}
 use Rattle.paper.specs.Axes.{within, Shape, Array}
-use Rattle.paper.specs.Answers.{axesOf}
 use Rattle.laws.specs.Tests.{and-left}
 use Rattle.laws.specs.Answers.{noHead}
 use Rattle.laws.specs.Lists.{getD-any}
-use Rattle.extent.specs.Judged.{Small, good-small}
+use Rattle.extent.specs.Judged.{good-small}
 use Rattle.bundle.specs.Read.{arrayAt, ReadAll}
 use Rattle.recipe.specs.Operands.{shapeIn}
 use Rattle.recipe.specs.Whole.{GoodArrays}

@@ -3,7 +3,7 @@ use Prim.Native.Nat.{ℕ, _+_, _<_}
 use mathlib.Core.Path.{_≡_, sym, ap, ap₂, subst, _∙_}
 use mathlib.Core.Bool.{Bool, true, false, not}
 use mathlib.Core.List.{List}
-use mathlib.Core.Option.{none, some}
+use mathlib.Core.Option.{some}
 use native.Mathlib.Omega.{arith}
 use borrow.Author.Tests.{ne-eqb}
 use lib.ListN.{length, drop, getD, length-take, length-drop}
@@ -16,7 +16,7 @@ use Rattle.paper.specs.declared.Operation.{Operation}
 use Rattle.paper.specs.declared.Operation.the-variants.{Moves}
 use Rattle.paper.specs.declared.Move.the-variants.{Trim}
 use Rattle.paper.specs.Limits.{headBytes, detailBytes, stepBytes}
-use Rattle.paper.specs.Refusals.{Res, got, _>>_, refused, if_then_else_, refusal, unknown4, badResult9}
+use Rattle.paper.specs.Refusals.{Res, got, refused, if_then_else_, refusal, unknown4, badResult9}
 use Rattle.paper.specs.Numbers.{part, none?}
 use Rattle.paper.specs.Axes.{cells, Shape, result}
 use Rattle.paper.specs.Recipe.{Step, Planned, operation, stepOf, operand, operandB, noShape, uses, axisIn, resultAxes, resultOf, goodResult, stepTests, stepResult, stepOver, planStep}

@@ -12,7 +12,6 @@ use Rattle.paper.specs.declared.PairOp.{PairOp}
 use Rattle.paper.specs.declared.Operation.the-variants.{Moves}
 use Rattle.paper.specs.declared.Move.the-variants.{Glue}
 use Rattle.paper.specs.Limits.{limitBytes, wordBytes, detailBytes, scalarAt}
-use Rattle.paper.specs.Refusals.{between}
 use Rattle.paper.specs.Numbers.{leOf, part, distance, positionAt}
 use Rattle.paper.specs.Cells.{filled}
 use Rattle.paper.specs.Operators.{takes}

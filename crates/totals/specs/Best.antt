@@ -1,14 +1,14 @@
 -- The best of the filled cells, the first of equals: the best so far, empty where nothing was filled, and the cells left.
-use Prim.Native.Nat.{ℕ}
-use mathlib.Core.Path.{_≡_, refl, sym, ap, _∙_}
+use Prim.Native.Nat.{ℕ, _+_, _<_}
+use mathlib.Core.Path.{_≡_, refl}
 use mathlib.Core.Bool.{Bool, true, false}
-use mathlib.Core.List.{List, [], _∷_}
+use mathlib.Core.List.{List, []}
 use Rattle.paper.specs.declared.Cell.{Cell}
 use Rattle.paper.specs.declared.Cell.the-variants.{Empty, Int, Float, Truth}
 use Rattle.paper.specs.Refusals.{if_then_else_}
 use Rattle.paper.specs.Operators.{emptyCell}
 use Rattle.paper.specs.Totals.{Numbered, below, best, bestOf}
-use Rattle.totals.specs.Cells.{inFront}
+use Rattle.totals.specs.Cells.{oneAt, inFront, filledLeft, filled-next}
 
 -- smaller, or larger where the largest is asked for
 abbrev pub beatsOf : Bool → Cell → Cell → Bool
@@ -33,31 +33,22 @@ best-end largest (Int z) = refl
 best-end largest (Float x) = refl
 best-end largest (Truth v) = refl
 
-on-if : (largest : Bool) (b : Cell) (cs : List Numbered) (y : Bool) → emptyCell b ≡ y
-    → bestOn largest b cs ≡ (if y then bestOf (beatsOf largest) cs else best (beatsOf largest) b cs)
-unfolding bestOn
-on-if largest b cs y e = ap (λ (v : Bool). if v then bestOf (beatsOf largest) cs else best (beatsOf largest) b cs) e
-
 -- by what c, b and their comparison are
-turn : (largest : Bool) (c b : Cell) (o : ℕ) (cs : List Numbered) (x y z : Bool) → Type 0
-turn largest c b o cs x y z =
-    (if y then bestOf (beatsOf largest) (if x then cs else record { at = o; cell = c } ∷ cs) else best (beatsOf largest) b
-    (if x then cs else record { at = o; cell = c } ∷ cs))
-    ≡ bestOn largest (if x then b else (if y then c else (if z then c else b))) cs
+module _ (largest : Bool) (c b : Cell) (o : ℕ) (cs : List Numbered) where
+  either : emptyCell c ≡ false → emptyCell b ≡ false → (z : Bool)
+      → best (beatsOf largest) (if z then c else b) cs ≡ bestOn largest (if z then c else b) cs
+  unfolding bestOn
+  either p q true = rw p
+  either p q false = rw q
 
-turned : (largest : Bool) (c b : Cell) (o : ℕ) (cs : List Numbered) (x : Bool) → emptyCell c ≡ x → (y : Bool) → emptyCell b ≡ y
-    → (z : Bool) → beatsOf largest c b ≡ z → turn largest c b o cs x y z
-unfolding bestOf best turn
-turned largest c b o cs true p true q z r = sym (on-if largest b cs true q)
-turned largest c b o cs true p false q z r = sym (on-if largest b cs false q)
-turned largest c b o cs false p true q z r = sym (on-if largest c cs false p)
-turned largest c b o cs false p false q true r =
-    ap (λ (v : Bool). best (beatsOf largest) (if v then c else b) cs) r ∙ sym (on-if largest c cs false p)
-turned largest c b o cs false p false q false r =
-    ap (λ (v : Bool). best (beatsOf largest) (if v then c else b) cs) r ∙ sym (on-if largest b cs false q)
+  turned : (x y : Bool) → emptyCell c ≡ x → emptyCell b ≡ y → bestOn largest b (inFront c o cs) ≡ bestOn largest (betterOf largest c b) cs
+  unfolding bestOn bestOf best
+  turned true y p q = rw p
+  turned false true p q = rw (p, q, p)
+  turned false false p q = rw (p, q) (either p q (beatsOf largest c b))
 
 -- one cell more
-pub best-next : (largest : Bool) (c b : Cell) (o : ℕ) (cs : List Numbered)
-    → bestOn largest b (inFront c o cs) ≡ bestOn largest (betterOf largest c b) cs
-unfolding bestOn turn
-best-next largest c b o cs = turned largest c b o cs (emptyCell c) refl (emptyCell b) refl (beatsOf largest c b) refl
+pub best-next : (bs : List ℕ) (at t n i : ℕ) → i < n → (largest : Bool) (b : Cell)
+    → bestOn largest b (filledLeft bs at t n i) ≡ bestOn largest (betterOf largest (oneAt bs at t i) b) (filledLeft bs at t n (i + 1))
+best-next bs at t n i h largest b =
+    rw (filled-next bs at t n i h) (turned largest (oneAt bs at t i) b (i + 1) (filledLeft bs at t n (i + 1)) _ _ refl refl)

@@ -1,11 +1,11 @@
 -- The cells of an array one after the other, from their bytes: what is filled, and what is TRUE, of the cells left.
 use Prim.Native.Nat.{ℕ, _+_, _*_, _≤_, _<_}
-use mathlib.Core.Path.{_≡_, refl, sym, ap, _∙_}
+use mathlib.Core.Path.{_≡_, refl, ap}
 use mathlib.Core.Bool.{Bool, true, false}
 use mathlib.Core.List.{List, [], _∷_}
 use native.Mathlib.Numerals.{add-one}
 use native.Mathlib.Omega.{arith}
-use lib.ListN.{length, take, drop, getD, drop-of-length-le}
+use lib.ListN.{length, drop, drop-of-length-le}
 use lib.Seq.{drop-cons, drop-drop}
 use Rattle.paper.specs.declared.Cell.{Cell}
 use Rattle.paper.specs.declared.Cell.the-variants.{Empty}
@@ -49,38 +49,31 @@ counted t (c ∷ cs) = tallyOf t c + counted t cs
 abbrev pub inFront : Cell → ℕ → List Numbered → List Numbered
 inFront c o later = if emptyCell c then later else record { at = o; cell = c } ∷ later
 
-filled-cons : (o : ℕ) (c : Cell) (cs : List Cell) → filledFrom o (c ∷ cs) ≡ inFront c o (filledFrom (o + 1) cs)
-unfolding filledFrom
-filled-cons o c cs = refl
+length-if : {A : Type 0} (b : Bool) (a : A) (l : List A) → length (if b then a ∷ l else l) ≡ (if b then 1 else 0) + length l
+length-if true a l = omega arith
+length-if false a l = omega arith
 
 pub counted-true : (o : ℕ) (cs : List Cell) → counted true cs ≡ length (trues o cs)
 unfolding counted trues
 counted-true o [] = refl
-counted-true o (c ∷ cs) = by (isTrue c) (counted-true (o + 1) cs)
-  where
-    by : (b : Bool) → counted true cs ≡ length (trues (o + 1) cs)
-        → (if b then 1 else 0) + counted true cs ≡ length (if b then o ∷ trues (o + 1) cs else trues (o + 1) cs)
-    by true e = omega arith
-    by false e = omega arith
+counted-true o (c ∷ cs) = rw (length-if (isTrue c) o (trues (o + 1) cs), counted-true (o + 1) cs)
+
+length-unless : {A : Type 0} (b : Bool) (a : A) (l : List A) → length (if b then l else a ∷ l) ≡ (if b then 0 else 1) + length l
+length-unless true a l = omega arith
+length-unless false a l = omega arith
 
 pub counted-filled : (o : ℕ) (cs : List Cell) → counted false cs ≡ length (filledFrom o cs)
 unfolding counted filledFrom
 counted-filled o [] = refl
-counted-filled o (c ∷ cs) = by (emptyCell c) (counted-filled (o + 1) cs)
-  where
-    by : (b : Bool) → counted false cs ≡ length (filledFrom (o + 1) cs)
-        → (if b then 0 else 1) + counted false cs
-        ≡ length (if b then filledFrom (o + 1) cs else record { at = o; cell = c } ∷ filledFrom (o + 1) cs)
-    by true e = omega arith
-    by false e = omega arith
+counted-filled o (c ∷ cs) = rw (length-unless (emptyCell c) _ (filledFrom (o + 1) cs), counted-filled (o + 1) cs)
 
-at-most-one : (b : Bool) (x y : ℕ) → x ≤ 1 → y ≤ 1 → (if b then x else y) ≤ 1
-at-most-one true x y p q = p
-at-most-one false x y p q = q
+at-most-one : (b : Bool) {x y : ℕ} → x ≤ 1 → y ≤ 1 → (if b then x else y) ≤ 1
+at-most-one true p q = p
+at-most-one false p q = q
 
 pub tally-one : (t : Bool) (c : Cell) → tallyOf t c ≤ 1
-tally-one true c = at-most-one (isTrue c) 1 0 (omega arith) (omega arith)
-tally-one false c = at-most-one (emptyCell c) 0 1 (omega arith) (omega arith)
+tally-one true c = at-most-one (isTrue c) (omega arith) (omega arith)
+tally-one false c = at-most-one (emptyCell c) (omega arith) (omega arith)
 
 module _ (bs : List ℕ) (at t n : ℕ) where
   abbrev cs : List Cell
@@ -94,12 +87,11 @@ module _ (bs : List ℕ) (at t n : ℕ) where
     pub cell-next : drop i cs ≡ oneAt bs at t i ∷ drop (i + 1) cs
     cell-next =
         let l : i < length cs = omega (arith, length-cells t n (drop at bs)) in
-        let c : getD cs i Empty ≡ oneAt bs at t i =
-        cell-no n t i (drop at bs) h ∙ ap (λ (x : List ℕ). orEmpty (cellOf t (take cellBytes x))) (drop-drop (i * cellBytes) at bs) in
-        drop-cons cs i Empty l ∙ ap (λ (j : ℕ). getD cs i Empty ∷ drop j cs) (sym (add-one i)) ∙ ap (λ (x : Cell). x ∷ drop (i + 1) cs) c
+        rw (add-one, drop-cons cs i Empty, cell-no n t i (drop at bs) h, drop-drop (i * cellBytes) at bs)
 
     pub filled-next : filledLeft i ≡ inFront (oneAt bs at t i) (i + 1) (filledLeft (i + 1))
-    filled-next = ap (filledFrom (i + 1)) cell-next ∙ filled-cons (i + 1) (oneAt bs at t i) (drop (i + 1) cs)
+    unfolding filledFrom
+    filled-next = ap (filledFrom (i + 1)) cell-next
 
     pub counted-next : (v : Bool) → counted v (drop i cs) ≡ tallyOf v (oneAt bs at t i) + counted v (drop (i + 1) cs)
     unfolding counted

@@ -1,14 +1,13 @@
 -- The running sums: what one cell more does to the exact total and to the mean, whether it is filled or not, and the sum of all cells.
 use Prim.Native.Nat.{ℕ, _+_, _≤_, _<_}
-use mathlib.Core.Path.{_≡_, refl, sym, ap, subst, _∙_}
+use mathlib.Core.Path.{_≡_, refl, sym, ap, _∙_}
 use mathlib.Core.Bool.{Bool, true, false}
 use mathlib.Core.List.{List, [], _∷_, _++_, append-nil, append-assoc}
 use native.Mathlib.Omega.{arith}
 use lib.ListN.{length, length-append}
-use lib.IntN.{ℤ, pos}
 use lib.Ieee as Ieee
 use Rattle.paper.specs.declared.Cell.{Cell}
-use Rattle.paper.specs.declared.Cell.the-variants.{Empty, Int, Float, Truth}
+use Rattle.paper.specs.declared.Cell.the-variants.{Empty, Float}
 use Rattle.paper.specs.Limits.{mostCells}
 use Rattle.paper.specs.Refusals.{Res, got, refused, _>>=_, if_then_else_, refusal, noFit12}
 use Rattle.paper.specs.Operators.{emptyCell}
@@ -39,55 +38,35 @@ ExactNext t c r = (cs : List Numbered) (o : ℕ) → Sums t cs → length cs < m
 pub gone-start : (t : Exact) (all : List Numbered) → Sums t [] → Gone t all all 0
 gone-start t all s = record { gone = []; sums = s; whole = refl; few = omega arith }
 
-front-append : (c : Cell) (o : ℕ) (later : List Numbered) → inFront c o [] ++ later ≡ inFront c o later
-front-append c o later = by (emptyCell c)
-  where
-    by : (b : Bool) → (if b then [] else record { at = o; cell = c } ∷ []) ++ later
-        ≡ (if b then later else record { at = o; cell = c } ∷ later)
-    by true = refl
-    by false = refl
+front-append : (b : Bool) (d : Numbered) (later : List Numbered) → (if b then [] else d ∷ []) ++ later ≡ (if b then later else d ∷ later)
+front-append true d later = refl
+front-append false d later = refl
 
-front-one : (c : Cell) (o : ℕ) → length (inFront c o []) ≤ 1
-front-one c o = by (emptyCell c)
-  where
-    by : (b : Bool) → length {A = Numbered} (if b then [] else record { at = o; cell = c } ∷ []) ≤ 1
-    by true = omega arith
-    by false = omega arith
+front-one : (b : Bool) (d : Numbered) → length (if b then [] else d ∷ []) ≤ 1
+front-one true d = omega arith
+front-one false d = omega arith
 
-pub gone-next : (t r : Exact) (all left later : List Numbered) (i : ℕ) (c : Cell) → Gone t all left i → i < mostCells
+pub gone-next : {t r : Exact} {all left : List Numbered} {i : ℕ} (c : Cell) (later : List Numbered) → Gone t all left i → i < mostCells
     → left ≡ inFront c (i + 1) later → ExactNext t c r → Gone r all later (i + 1)
-gone-next t r all left later i c v h e x =
+gone-next {i = i} c later v h e x =
     record {
       gone = v .gone ++ inFront c (i + 1) [];
       sums = x (v .gone) (i + 1) (v .sums) (omega (arith, v .few));
-      whole =
-          append-assoc (v .gone) (inFront c (i + 1) []) later
-          ∙ ap (λ (l : List Numbered). v .gone ++ l) (front-append c (i + 1) later ∙ sym e) ∙ v .whole;
-      few = omega (arith, length-append (v .gone) (inFront c (i + 1) []), v .few, front-one c (i + 1));
+      whole = rw (append-assoc, front-append (emptyCell c) _ later, ← e) (v .whole);
+      few = simp length-append (omega (arith, v .few, front-one (emptyCell c) (record { at = i + 1; cell = c })));
     }
 
-pub gone-end : (t : Exact) (all left : List Numbered) (i : ℕ) → Gone t all left i → left ≡ [] → Sums t all
-gone-end t all left i v e =
-    subst (Sums t) (sym (append-nil (v .gone)) ∙ ap (λ (l : List Numbered). v .gone ++ l) (sym e) ∙ v .whole) (v .sums)
+pub gone-end : {t : Exact} {all left : List Numbered} {i : ℕ} → Gone t all left i → left ≡ [] → Sums t all
+gone-end v e = rw (← v .whole, e, append-nil) (v .sums)
 
 -- an empty cell adds nothing; a filled one its number
 pub exact-empty : (t : Exact) → ExactNext t Empty t
-exact-empty t cs o s h = subst (Sums t) (sym (append-nil cs)) s
+exact-empty t cs o s h = rw append-nil s
 
-abbrev ExactWith : Exact → ℤ → Exact → Type 0
-ExactWith t z r = (cs : List Numbered) (d : Numbered) → Sums t cs → int (d .cell) ≡ z → length cs < mostCells → Sums r (cs ++ (d ∷ []))
-
-pub exact-int : (t r : Exact) (z : ℤ) → ExactWith t z r → ExactNext t (Int z) r
-unfolding int
-exact-int t r z f cs o s h = f cs (record { at = o; cell = Int z }) s refl h
-
-pub exact-float : (t r : Exact) (x : Ieee.Float) → ExactWith t (pos 0) r → ExactNext t (Float x) r
-unfolding int
-exact-float t r x f cs o s h = f cs (record { at = o; cell = Float x }) s refl h
-
-pub exact-truth : (t r : Exact) (b : Bool) → ExactWith t (pos 0) r → ExactNext t (Truth b) r
-unfolding int
-exact-truth t r b f cs o s h = f cs (record { at = o; cell = Truth b }) s refl h
+pub exact-filled : {t r : Exact} (c : Cell) → emptyCell c ≡ false
+    → ((cs : List Numbered) (d : Numbered) → Sums t cs → int (d .cell) ≡ int c → length cs < mostCells → Sums r (cs ++ (d ∷ [])))
+    → ExactNext t c r
+exact-filled c e f cs o s h = rw e (f cs (record { at = o; cell = c }) s refl h)
 
 -- ---- the mean
 
@@ -101,22 +80,10 @@ pub mean-empty : (m : Mean) → MeanNext m Empty (On m)
 unfolding after
 mean-empty m = record { goes = λ made k o cs h. refl; few = omega arith }
 
-abbrev MeanWith : Mean → Ieee.Float → Added → Type 0
-MeanWith m x r =
-    ((made : Running → Ieee.Float) (k : ℕ) (d : Numbered) (cs : List Numbered) → float
-    (d .cell) ≡ x → m .count < mostCells → onward made k m (d ∷ cs) ≡ after made k (d .at) r cs) × (counted r ≤ m .count + 1)
-
-pub mean-float : (m : Mean) (r : Added) (x : Ieee.Float) → MeanWith m x r → MeanNext m (Float x) r
-unfolding float
-mean-float m r x f = record { goes = λ made k o cs h. f .0 made k (record { at = o; cell = Float x }) cs refl h; few = f .1 }
-
-pub mean-int : (m : Mean) (r : Added) (z : ℤ) (x : Ieee.Float) → x ≡ Ieee.nan → MeanWith m x r → MeanNext m (Int z) r
-unfolding float
-mean-int m r z x e f = record { goes = λ made k o cs h. f .0 made k (record { at = o; cell = Int z }) cs (sym e) h; few = f .1 }
-
-pub mean-truth : (m : Mean) (r : Added) (b : Bool) (x : Ieee.Float) → x ≡ Ieee.nan → MeanWith m x r → MeanNext m (Truth b) r
-unfolding float
-mean-truth m r b x e f = record { goes = λ made k o cs h. f .0 made k (record { at = o; cell = Truth b }) cs (sym e) h; few = f .1 }
+pub mean-filled : {m : Mean} {c : Cell} {r : Added} → emptyCell c ≡ false → {x : Ieee.Float} → float c ≡ x
+    → ((made : Running → Ieee.Float) (k : ℕ) (d : Numbered) (cs : List Numbered) → float (d .cell) ≡ x → m .count < mostCells
+    → onward made k m (d ∷ cs) ≡ after made k (d .at) r cs) × (counted r ≤ m .count + 1) → MeanNext m c r
+mean-filled {c = c} e q f = record { goes = λ made k o cs h. rw e (f .0 made k (record { at = o; cell = c }) cs q h); few = f .1 }
 
 -- what is left to do with the cells left is what is to be done with all
 pub record Going (m : Mean) (all left : List Numbered) (i : ℕ) : Type 0 where
@@ -131,22 +98,18 @@ pub record Summed (bs : List ℕ) (at t n : ℕ) (r : Ran) : Type 0 where
       → refused (refusal noFit12 k (r .bad)) ≡ floatSum made k (filledFrom 1 (cellsAt bs at t n))
   pub few : r .bad ≤ n
 
-module _ (m : Mean) (all left later : List Numbered) (i : ℕ) (c : Cell) (r : Added) (v : Going m all left i) (h : i < mostCells)
-    (e : left ≡ inFront c (i + 1) later) (x : MeanNext m c r) where
+module _ {m : Mean} {all left : List Numbered} (later : List Numbered) {i : ℕ} {c : Cell} {r : Added} (v : Going m all left i)
+    (h : i < mostCells) (e : left ≡ inFront c (i + 1) later) (x : MeanNext m c r) where
   after-all : (made : Running → Ieee.Float) (k : ℕ) → after made k (i + 1) r later ≡ floatSum made k all
-  after-all made k = sym (ap (onward made k m) e ∙ x .goes made k (i + 1) later (omega (arith, v .few))) ∙ v .same made k
+  after-all made k = sym (x .goes made k (i + 1) later (omega (arith, v .few))) ∙ (rw e at (v .same made k))
 
-  pub going-next : (w : Mean) → r ≡ On w → Going w all later (i + 1)
+  pub going-next : {w : Mean} → r ≡ On w → Going w all later (i + 1)
   unfolding after
-  going-next w q =
-      record {
-        same = λ made k. sym (ap (λ (a : Added). after made k (i + 1) a later) q) ∙ after-all made k;
-        few = omega (arith, v .few, x .few, ap counted q);
-      }
+  going-next q = record { same = λ made k. rw q at (after-all made k); few = omega (arith, v .few, x .few, ap counted q) }
 
   pub going-fails : r ≡ NoFit → (made : Running → Ieee.Float) (k : ℕ) → refused (refusal noFit12 k (i + 1)) ≡ floatSum made k all
   unfolding after
-  going-fails q made k = sym (ap (λ (a : Added). after made k (i + 1) a later) q) ∙ after-all made k
+  going-fails q made k = rw q at (after-all made k)
 
 -- ---- the answers
 

@@ -1,6 +1,6 @@
 -- A total of an array of a bundle, by the ways its judging can end.
 use Prim.Native.Nat.{ℕ}
-use mathlib.Core.Path.{_≡_, refl, ap, _∙_}
+use mathlib.Core.Path.{_≡_}
 use mathlib.Core.Bool.{true, false}
 use mathlib.Core.List.{List}
 use native.Mathlib.Omega.{arith}
@@ -16,13 +16,13 @@ module _ {bs : List ℕ} {k : ℕ} {c : Chosen} (v : ChosenHead bs k c) (which :
   -- the array's own refusal
   pub total-refused : (c .refusal .number ≡ 0 → ⊥) → refused (c .refusal) ≡ totals bs k which
   unfolding totals
-  total-refused n = rw (← its-refusal v n) refl
+  total-refused n = rw (← its-refusal v n)
 
   module _ (y : c .refusal .number ≡ 0) where
     -- a total that its type has not
     pub total-unfit : totals? which (c .head .form .kind) ≡ false → refused (refusal unfit7 k 0) ≡ totals bs k which
     unfolding totals arrayAt
-    total-unfit e = rw (← its-array v y, e) refl
+    total-unfit e = rw (← its-array v y, e)
 
     -- its cells, as many as its extent has
     pub lying : Lying (c .head .at) (c .head .cells) bs
@@ -31,6 +31,4 @@ module _ {bs : List ℕ} {k : ℕ} {c : Chosen} (v : ChosenHead bs k c) (which :
     pub total-is : totals? which (c .head .form .kind) ≡ true
         → totalOf which k (c .head .form .kind) (cellsAt bs (c .head .at) (c .head .form .kind) (c .head .cells)) ≡ totals bs k which
     unfolding totals arrayAt
-    total-is e =
-        ap (λ (n : ℕ). totalOf which k (c .head .form .kind) (cellsAt bs (c .head .at) (c .head .form .kind) n)) (v .fit y .counted)
-        ∙ rw (← its-array v y, e) refl
+    total-is e = rw (v .fit y .counted, ← its-array v y, e)

@@ -16,7 +16,7 @@ use Rattle.paper.specs.declared.Operation.the-variants.{Moves, Works}
 use Rattle.paper.specs.declared.Refusal.{Refusal}
 use Rattle.paper.specs.Limits.{cellBytes, wordBytes, detailBytes, scalarAt, mostCells}
 use Rattle.paper.specs.Refusals.{refused, refusal}
-use Rattle.paper.specs.Numbers.{leOf, leBytes, part, over}
+use Rattle.paper.specs.Numbers.{leOf, leBytes, part}
 use Rattle.paper.specs.Axes.{cells, atOffset, Array}
 use Rattle.paper.specs.Cells.{encode}
 use Rattle.paper.specs.Recipe.{Step, Planned, scalarOf}

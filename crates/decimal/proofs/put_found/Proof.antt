@@ -1,9 +1,17 @@
 -- `decimal::put_found` meets its contract: the word, the number, the end of the line.
 use borrow.Author.Needs.{needs}
+use Prim.Native.Nat.{ℕ}
+use mathlib.Core.Path.{ap}
+use mathlib.Core.List.{List, _++_, append-nil}
 use native.Mathlib.Omega.{arith}
 use lib.IntN.{pos}
+use lib.ListN.{length, length-append}
 use denote.Ref.{now}
-use Rattle.decimal.specs.Lines.{number-end, found-wrote}
+use Rattle.paper.specs.Numbers.{text, concat}
+use Rattle.paper.specs.Rests.{spaced}
+use Rattle.decimal.specs.Wrote.{wrote-three}
+use Rattle.decimal.specs.Digits.{decimal-most}
+use Rattle.decimal.specs.Lines.{number}
 use Rattle.decimal.proofs.put_found.Statement.{statement}
 use Rattle.decimal.proofs.put_found.Tie as tie
 
@@ -18,14 +26,19 @@ module _ (c : tie.After-put-number) where
 put-byte-requires : tie.Need-put-byte-requires
 put-byte-requires c κs =
     let w = c .before .before .before in
-    omega (arith, word w .put-text .ensures .0, number-end _ _ (pos (start w .args .rows)) _ _ (w .put-number .ensures))
+    omega (arith, word w .put-text .ensures .0, decimal-most (pos (start w .args .rows)), w .put-number .ensures .0)
 
 returns : tie.Need-returns
+unfolding spaced concat
 returns c =
     let e = c .before .before in
     let w = e .before .before .before .before in
     let s = start w in
-    found-wrote (s .args .rows) (now (s .args .out)) (s .args .at) _ _ _ _ _ _ (s .pre) (word w .put-text .ensures) (w .put-number .ensures)
+    let x = number (pos (s .args .rows)) in
+    let t = ap (λ (l : List ℕ). text "found" ++ (l ++ text "\n")) (append-nil x) in
+    let l = length-append x (text "\n") in
+    wrote-three (now (s .args .out)) (s .args .at) (text "found") x (text "\n") _ t
+    (omega (arith, ap length t, l, decimal-most (pos (s .args .rows)), s .pre)) (word w .put-text .ensures) (w .put-number .ensures)
     (e .put-byte .ensures)
 
 pub put-found-spec : {M : Type 1} → statement M

@@ -39,9 +39,7 @@ returns c =
     let w = c .before .before in
     let m = w .before in
     let s = start m in
-    signed-wrote (z m) (m .magnitude .result) (m .before .sign-length .result) (size m) (signed m) (now (s .args .out)) (s .args .at) _ _
-    (s .pre)
-    (w .put-decimal .ensures)
+    signed-wrote (z m) (size m) (signed m) (now (s .args .out)) (s .args .at) (s .pre) (w .put-decimal .ensures)
 
 pub put-int-spec : {M : Type 1} → statement M
 put-int-spec =

@@ -10,22 +10,17 @@ use Rattle.decimal.specs.Digits.{digits-most}
 use Rattle.decimal.proofs.put_number.Statement.{statement}
 use Rattle.decimal.proofs.put_number.Tie as tie
 
--- the space is written
-module _ (c : tie.After-put-byte) where
-  abbrev start : tie.Start
-  start = c .before .before .before
-
 put-decimal-requires : tie.Need-put-decimal-requires
 put-decimal-requires c κs =
     let b = c .before .before .before in
-    omega (arith, digits-most 19 (start b .args .n), b .put-byte .ensures .0)
+    omega (arith, digits-most 19 (b .before .before .before .args .n), b .put-byte .ensures .0)
 
 returns : tie.Need-returns
 unfolding decimal
 returns c =
     let w = c .before .before in
     let b = w .before .before .before .before in
-    let s = start b .args in
+    let s = b .before .before .before .args in
     wrote-then (now (s .out)) (s .at) (text " ") _ _ (decimal (pos (s .n))) _ _ (omega arith) (b .put-byte .ensures)
     (w .put-decimal .ensures)
 

@@ -1,5 +1,5 @@
 -- `decimal::smallest` meets its contract: an arm for each number of digits.
-use Prim.Native.Nat.{ℕ, zero, suc, _≤_}
+use Prim.Native.Nat.{ℕ, zero, suc, _<_}
 use mathlib.Core.Path.{_≡_, sym, ap}
 use native.Mathlib.Omega.{arith}
 use Rattle.decimal.specs.Bits.{smallest}
@@ -14,12 +14,9 @@ abbrev None : ℕ → ℕ → Type 0
 None zero k = Unit
 None (suc n) k = None n k × (k ≡ n → ⊥)
 
-none-from : (n k : ℕ) → None n k → n ≤ k
-none-from zero k v = omega arith
-none-from (suc n) k v = let h = none-from n k (v .0) in omega (arith, v .1)
-
-never : (k : ℕ) → suc k ≤ 20 → None 20 k → ⊥
-never k h v = let g = none-from 20 k v in omega arith
+never : (n k : ℕ) → k < n → None n k → ⊥
+never zero k h v = omega arith
+never (suc n) k h v = never n k (omega (arith, v .1)) (v .0)
 
 pub smallest-spec : {M : Type 1} → statement M
 smallest-spec =
@@ -32,4 +29,4 @@ smallest-spec =
     (λ c. arm (c .match .keys13)) (λ c. arm (c .match .keys14)) (λ c. arm (c .match .keys15))
     (λ c. arm (c .match .keys16)) (λ c. arm (c .match .keys17)) (λ c. arm (c .match .keys18))
     (λ c. arm (c .match .keys19)) (λ c. arm (c .match .keys20))
-    (λ c. absurd (never (c .before .args .k) (c .before .pre) (c .match .rest))))
+    (λ c. absurd (never 20 (c .before .args .k) (c .before .pre) (c .match .rest))))

@@ -1,8 +1,7 @@
 -- `json_write::put_axes` meets its contract: the measure is the number of axes left; with one left the cells are drawn, with more the
 -- loop's invariant is `Rowing`.
 use Prim.Native.Nat.{ℕ, _-_, _<_}
-use mathlib.Core.Path.{_≡_, sym, ap, _∙_, subst}
-use mathlib.Core.List.{List, [], _∷_}
+use mathlib.Core.Path.{_≡_, ap, _∙_}
 use native.Mathlib.Omega.{arith}
 use lib.ListN.{length}
 use denote.Ref.{now}
@@ -10,11 +9,10 @@ use borrow.Fn.Kinds.{In}
 use borrow.Fn.PlainCycle.{Measures, is, falls, and}
 use Rattle.paper.specs.Axes.{width}
 use Rattle.paper.specs.Answers.{axesOf}
-use Rattle.extent.specs.Tests.{Ranged, sound-axis}
-use Rattle.json_write.specs.Stores.{stored-long}
+use Rattle.extent.specs.Tests.{sound-axis}
 use Rattle.json_write.specs.Texts.{axisLeft, sizeLeft, textLeft}
-use Rattle.json_write.specs.Rows.{Rowing, rowing-begins, row-turn}
-use Rattle.json_write.specs.Whole.{cellBy, one-ready, one-drawn, more-open, next-ready, comma-fits, more-shuts, more-drawn}
+use Rattle.json_write.specs.Rows.{Rowing, rowing-begins, row-at, row-end, row-turn}
+use Rattle.json_write.specs.Whole.{cellBy, one-ready, one-drawn, more-fits, next-ready, more-drawn}
 use Rattle.json_write.proofs.put_axes.Reads as put-axes
 use Rattle.json_write.proofs.put_axes.Kinds as put-axes-kinds
 use Rattle.json_write.proofs.+put_axes.Lts-put_axes as tie
@@ -69,24 +67,16 @@ module _ (t : ℕ) where
     wide : c .width-of .result ≡ width (axisLeft (axesOf (start .args .extent)) (start .args .left))
     wide = c .width-of .ensures .0 ∙ ap width (c .before .axis-left .ensures)
 
-  -- more axes are left, and the bracket is open
-  module _ (c : tie.After-put (claims t) (given t) put-axes.Post Inv-loop μ-loop) where
-    abbrev more : tie.Else1 (claims t) (given t) put-axes.Post Inv-loop μ-loop
-    more = c .before .before
-
-    abbrev w : tie.After-width-of (claims t) (given t) put-axes.Post Inv-loop μ-loop
-    w = more .before
-
-    abbrev out : List ℕ
-    out = now (start w .args .out)
-
-  -- at the loop's head the buffer is as long as it was
+  -- at the loop's head more axes are left, the bracket is open, and the buffer is as long as it was
   module _ (c : tie.At-loop (claims t) (given t) put-axes.Post Inv-loop μ-loop) where
     abbrev o : tie.After-put (claims t) (given t) put-axes.Post Inv-loop μ-loop
     o = c .before .before .before
 
-    long : length (c .loop .out) ≡ length (out o)
-    long = c .loop .inv .long ∙ stored-long (out o) (start (w o) .args .pen .at) (91 ∷ []) _ _ (o .put .ensures)
+    abbrev w : tie.After-width-of (claims t) (given t) put-axes.Post Inv-loop μ-loop
+    w = o .before .before .before
+
+    long : length (c .loop .out) ≡ length (now (start w .args .out))
+    long = c .loop .inv .long ∙ o .put .kept .0
 
   -- the axes after the first are written, and the comma
   module _ (c : tie.After-put-comma (claims t) (given t) put-axes.Post Inv-loop μ-loop) where
@@ -96,94 +86,65 @@ module _ (t : ℕ) where
     abbrev turn : tie.In-loop (claims t) (given t) put-axes.Post Inv-loop μ-loop
     turn = wrote .before .before
 
-  -- the bracket is closed
-  module _ (c : tie.After-put2 (claims t) (given t) put-axes.Post Inv-loop μ-loop) where
-    abbrev done : tie.After-loop (claims t) (given t) put-axes.Post Inv-loop μ-loop
-    done = c .before .before
-
-    abbrev last : tie.At-loop (claims t) (given t) put-axes.Post Inv-loop μ-loop
-    last = done .before
-
-  axis-left-requires : tie.Need-axis-left-requires (claims t) (given t) put-axes.Post Inv-loop μ-loop
-  axis-left-requires c κs = c .before .before .pre .1 .rank
-
   width-of-requires : tie.Need-width-of-requires (claims t) (given t) put-axes.Post Inv-loop μ-loop
   width-of-requires c κs =
       let s = c .before .before .before in
       let E = axesOf (s .args .extent) in
-      subst Ranged (sym (c .axis-left .ensures)) (sound-axis E (length E - s .args .left) (s .pre .1 .sound))
+      rw (c .axis-left .ensures) (sound-axis E (length E - s .args .left) (s .pre .1 .sound))
 
   put-cells-requires : tie.Need-put-cells-requires (claims t) (given t) put-axes.Post Inv-loop μ-loop
   put-cells-requires c κs = let q = c .before .before in one-ready (start q .pre .1) (wide q) (c .before .if1 .taken)
-
-  same-length : tie.Need-same-length (claims t) (given t) put-axes.Post Inv-loop μ-loop
-  same-length c = c .before .before .put-cells .kept .0
 
   returns : tie.Need-returns (claims t) (given t) put-axes.Post Inv-loop μ-loop
   returns c =
       let d = c .before .before in
       let b = d .before .before in
-      one-drawn (start (b .before) .pre .1) (wide (b .before)) (b .if1 .taken) _ _ _ _ (d .put-cells .ensures)
+      one-drawn (start (b .before) .pre .1) (wide (b .before)) (b .if1 .taken) (d .put-cells .ensures)
 
   put-requires : tie.Need-put-requires (claims t) (given t) put-axes.Post Inv-loop μ-loop
-  put-requires c κs = let q = c .before .before in more-open (start q .pre .1) (wide q) (c .before .if1 .left)
-
-  loop-holds : tie.Need-loop-holds (claims t) (given t) put-axes.Post Inv-loop μ-loop
-  loop-holds c = rowing-begins _ _ _ _ _ _
-
-  sub-more : tie.Need-sub-more (claims t) (given t) put-axes.Post Inv-loop μ-loop
-  sub-more c = omega (arith, c .loop-test .taken)
-
-  sub-put-axes : tie.Need-sub-put-axes (claims t) (given t) put-axes.Post Inv-loop μ-loop
-  sub-put-axes c = omega (arith, start (w (o (c .before .before))) .pre .1 .some)
+  put-requires c κs = let q = c .before .before in omega (arith, more-fits (start q .pre .1) (wide q) (c .before .if1 .left))
 
   put-axes-requires : tie.Need-put-axes-requires (claims t) (given t) put-axes.Post Inv-loop μ-loop
   put-axes-requires c κs =
       let l = c .before .before in
       let q = o l in
-      let s = start (w q) in (
-        omega (arith, s .pre .0, s .pre .1 .some),
-        next-ready (s .pre .1) (wide (w q)) (more q .if1 .left) (q .put .ensures .0) (l .loop .inv) (c .before .loop-test .taken) _
-            (long l),
+      let r = start (w l) .pre in
+      let m = q .before .before .if1 .left in (
+        omega (arith, r .0, r .1 .some),
+        next-ready (r .1) (wide (w l)) m (l .loop .inv) (q .put .ensures .0) (c .before .loop-test .taken) _ (long l),
       )
 
   put-comma-requires : tie.Need-put-comma-requires (claims t) (given t) put-axes.Post Inv-loop μ-loop
   put-comma-requires c κs =
       let d = c .before .before .before in
       let i = d .before .before in
-      let l = i .before in
-      let q = o l in
-      let f = comma-fits (start (w q) .pre .1) (wide (w q)) (more q .if1 .left) (q .put .ensures .0) (l .loop .inv) (i .loop-test .taken) in
-      omega (arith, f _ (d .put-axes .ensures .drawn .0), d .put-axes .kept .0, long l)
-
-  loop-less : tie.Need-loop-less (claims t) (given t) put-axes.Post Inv-loop μ-loop
-  loop-less c = omega (arith, turn (c .before .before) .loop-test .taken)
+      let q = o (i .before) in
+      let f = more-fits (start (w (i .before)) .pre .1) (wide (w (i .before))) (q .before .before .if1 .left) in
+      let g = row-at (i .before .loop .inv) _ _ (q .put .ensures .0) f (i .loop-test .taken) in
+      omega (arith, g, d .put-axes .ensures .drawn .0, d .put-axes .kept .0, long (i .before))
 
   loop-again : tie.Need-loop-again (claims t) (given t) put-axes.Post Inv-loop μ-loop
   loop-again c =
       let m = c .before .before in
       let d = wrote m .put-axes .ensures in
-      let i = turn m in
-      row-turn (i .before .loop .inv) _ _ _ _ _ (i .loop-test .taken) (d .drawn .0) (d .drawn .1) (m .put-comma .ensures .0)
-      (m .put-comma .ensures .1) (d .goes)
+      row-turn (turn m .before .loop .inv) (turn m .loop-test .taken) (d .drawn) (m .put-comma .ensures) (d .goes)
 
   put-requires-2 : tie.Need-put-requires-2 (claims t) (given t) put-axes.Post Inv-loop μ-loop
   put-requires-2 c κs =
       let l = c .before .before in
       let q = o l in
-      omega (arith, more-shuts (start (w q) .pre .1) (wide (w q)) (more q .if1 .left) (q .put .ensures .0) (l .loop .inv), long l)
+      let f = more-fits (start (w l) .pre .1) (wide (w l)) (q .before .before .if1 .left) in
+      rw (long l) (row-end (l .loop .inv) _ _ (q .put .ensures .0) f)
 
   same-length-2 : tie.Need-same-length-2 (claims t) (given t) put-axes.Post Inv-loop μ-loop
-  same-length-2 c =
-      let l = last (c .before .before) in
-      stored-long (l .loop .out) (l .loop .at) (93 ∷ []) _ _ (c .before .before .put2 .ensures) ∙ long l
+  same-length-2 c = let e = c .before .before in e .put2 .kept .0 ∙ long (e .before .before .before)
 
   returns-2 : tie.Need-returns-2 (claims t) (given t) put-axes.Post Inv-loop μ-loop
   returns-2 c =
       let e = c .before .before in
-      let l = last e in
+      let l = e .before .before .before in
       let q = o l in
-      more-drawn (start (w q) .pre .1) (wide (w q)) (more q .if1 .left) (q .put .ensures .0) (l .loop .inv) (done e .loop-test .left) _ _ _
+      more-drawn (start (w l) .pre .1) (wide (w l)) (q .before .before .if1 .left) (l .loop .inv) (e .before .before .loop-test .left) _
       (q .put .ensures) (e .put2 .ensures)
 
 pub +put-axes-spec : {M : Type 1} → statement M
@@ -191,6 +152,7 @@ pub +put-axes-spec : {M : Type 1} → statement M
     close μ-put-axes
     (λ t. tie.spec (claims t)
     (given t) put-axes.Post Inv-loop μ-loop
-    (axis-left-requires t) (width-of-requires t) (put-cells-requires t) (same-length t) (returns t) (put-requires t) (loop-holds t)
-    (sub-more t) (sub-put-axes t) (put-axes-requires t) (put-comma-requires t) (loop-less t) (loop-again t) (put-requires-2 t)
-    (same-length-2 t) (returns-2 t))
+    (λ c κs. c .before .before .pre .1 .rank) (width-of-requires t) (put-cells-requires t) (λ c. c .before .before .put-cells .kept .0)
+    (returns t) (put-requires t) (λ c. rowing-begins _ _ _ _ _ _) (λ c. omega (arith, c .loop-test .taken))
+    (λ c. omega (arith, start t (w t (c .before .before)) .pre .1 .some)) (put-axes-requires t) (put-comma-requires t)
+    (λ c. omega (arith, turn t (c .before .before) .loop-test .taken)) (loop-again t) (put-requires-2 t) (same-length-2 t) (returns-2 t))

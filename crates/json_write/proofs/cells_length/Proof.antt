@@ -1,7 +1,7 @@
 -- `json_write::cells_length` meets its contract: what is counted and what is left are the bytes of all.
 use Prim.Native.Nat.{ℕ, _+_, _-_, _*_, _≤_}
 use mathlib.Core.Path.{_≡_, ap, _∙_}
-use native.Mathlib.Nat.{mul-le-mul-right}
+use native.Mathlib.Nat.{zero-add, sub-zero, mul-le-mul-right}
 use native.Mathlib.Omega.{arith}
 use lib.ListN.{length}
 use denote.Ref.{now}
@@ -10,7 +10,7 @@ use Rattle.paper.specs.declared.Cell.{Cell}
 use Rattle.paper.specs.Limits.{mostCells}
 use Rattle.paper.specs.Json.{cellText}
 use Rattle.decimal.specs.Digits.{mostSigned}
-use Rattle.json_write.specs.Lengths.{cellsLong, long-more, long-end, long-most, cell-most}
+use Rattle.json_write.specs.Lengths.{cellsLong, long-more, long-end, cells-most}
 use Rattle.json_write.specs.Whole.{cellBy}
 use Rattle.json_write.proofs.cells_length.Statement.{statement}
 use Rattle.json_write.proofs.cells_length.Tie as tie
@@ -48,25 +48,7 @@ module _ (c : tie.After-cell-length Inv-loop μ-loop) where
   more = long-more (f s) i (n s) (c .before .before .loop-test .taken)
 
   few : cellsLong (f s) 0 (n s) ≤ mostCells * mostSigned
-  few = omega (arith, long-most (f s) mostSigned (λ k. cell-most (f s k)) (n s) 0, mul-le-mul-right mostSigned (s .pre .1))
-
-loop-holds : tie.Need-loop-holds Inv-loop μ-loop
-loop-holds c =
-    let s = c .before in
-    let e : n s - 0 ≡ n s = omega arith in
-    (omega arith, omega (arith, ap (cellsLong (f s) 0) e))
-
-held-cell-requires : tie.Need-held-cell-requires Inv-loop μ-loop
-held-cell-requires c κs = omega (arith, c .before .before .before .pre .0)
-
-add-long : tie.Need-add-long Inv-loop μ-loop
-add-long c = omega (arith, l c .loop .inv .1, counted c, more c, few c)
-
-add-i : tie.Need-add-i Inv-loop μ-loop
-add-i c = omega (arith, s c .pre .1)
-
-loop-again : tie.Need-loop-again Inv-loop μ-loop
-loop-again c = (omega arith, omega (arith, l c .loop .inv .1, counted c, more c))
+  few = omega (arith, cells-most (f s) (n s) 0, mul-le-mul-right mostSigned (s .pre .1))
 
 returns : tie.Need-returns Inv-loop μ-loop
 returns c =
@@ -78,5 +60,6 @@ pub cells-length-spec : {M : Type 1} → statement M
 cells-length-spec =
     tie.close
     (tie.spec
-    Inv-loop μ-loop loop-holds held-cell-requires (λ c κs. search needs) add-long add-i (λ c. omega arith) loop-again
-    returns)
+    Inv-loop μ-loop (λ c. (omega arith, simp (zero-add, sub-zero))) (λ c κs. omega (arith, c .before .before .before .pre .0))
+    (λ c κs. search needs) (λ c. omega (arith, l c .loop .inv .1, counted c, more c, few c)) (λ c. omega (arith, s c .pre .1))
+    (λ c. omega arith) (λ c. (omega arith, omega (arith, l c .loop .inv .1, counted c, more c))) returns)

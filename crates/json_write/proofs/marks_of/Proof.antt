@@ -1,16 +1,16 @@
 -- `json_write::marks_of` meets its contract: from the last axis to the first, n is the marks of the axes done.
 use Prim.Native.Nat.{ℕ, _+_, _-_, _*_, _≤_}
 use mathlib.Core.List.{List}
-use mathlib.Core.Path.{_≡_, ap, ap₂, subst, sym, _∙_}
+use mathlib.Core.Path.{_≡_, ap, ap₂, _∙_}
 use native.Mathlib.Omega.{arith}
 use borrow.Author.Needs.{needs}
-use lib.ListN.{drop, take}
+use lib.ListN.{drop, take, length-drop, length-take}
 use Rattle.paper.specs.declared.Axis.{Axis}
-use Rattle.laws.specs.Limits.{Sound}
-use Rattle.laws.specs.Loops.{drop-none, sound-first}
+use Rattle.laws.specs.Limits.{Sound, cells-drop, sound-drop}
+use Rattle.laws.specs.Loops.{drop-first, drop-down, drop-none, sound-first}
 use Rattle.paper.specs.Axes.{cells, noAxis}
 use Rattle.paper.specs.Limits.{mostAxes, mostCells}
-use Rattle.json_write.specs.Lengths.{marks, marks-end, marks-down, marks-bound}
+use Rattle.json_write.specs.Lengths.{marks, marks-few}
 use Rattle.json_write.proofs.marks_of.Statement.{statement}
 use Rattle.json_write.proofs.marks_of.Tie as tie
 
@@ -29,7 +29,7 @@ module _ (c : tie.After-rank-of Inv-loop μ-loop) where
   rank = c .rank-of .result
 
   sound : Sound (take rank axes)
-  sound = subst Sound (sym (c .rank-of .ensures .first)) (c .before .pre .0)
+  sound = rw (c .rank-of .ensures .first) (c .before .pre .0)
 
 -- one axis more
 module _ (c : tie.After-width-of Inv-loop μ-loop) where
@@ -43,34 +43,27 @@ module _ (c : tie.After-width-of Inv-loop μ-loop) where
   w = c .width-of .result
 
   turn : 1 + w + w * l .loop .n ≡ marks (drop (l .loop .i - 1) (take (rank s) (axes s)))
+  unfolding marks
   turn =
       ap₂ (λ (w n : ℕ). 1 + w + w * n) (c .width-of .ensures .0) (l .loop .inv .1)
-      ∙ sym (marks-down (axes s) (rank s) (s .rank-of .ensures .room) (l .loop .i) noAxis (omega arith) (omega arith))
+      ∙ rw (drop-down (axes s) (rank s) (s .rank-of .ensures .room) (l .loop .i) noAxis (omega arith) (omega arith))
 
   few : marks (drop (l .loop .i - 1) (take (rank s) (axes s))) ≤ 2 * (mostAxes * mostCells)
   few =
       let r = s .rank-of .ensures in
-      marks-bound (axes s) (rank s) (r .room) (l .loop .i - 1) (sound s) (r .few) (omega (arith, ap cells (r .first), s .before .pre .1))
+      let E = take (rank s) (axes s) in
+      marks-few (drop (l .loop .i - 1) E) (sound-drop E (l .loop .i - 1) (sound s))
+      (simp (length-drop, length-take) (omega (arith, r .few)))
+      (omega (arith, cells-drop E (l .loop .i - 1) (sound s), ap cells (r .first), s .before .pre .1))
 
 loop-holds : tie.Need-loop-holds Inv-loop μ-loop
-loop-holds c = (omega arith, marks-end (axes c) (rank c) (c .rank-of .ensures .room))
+unfolding marks
+loop-holds c = (omega arith, rw (drop-first (axes c) (rank c) (c .rank-of .ensures .room)))
 
 width-of-requires : tie.Need-width-of-requires Inv-loop μ-loop
 width-of-requires c κs =
     let s = c .before .before .before in
     sound-first (axes s) (rank s) (s .rank-of .ensures .room) (c .before .before .loop .i - 1) noAxis (sound s) (omega arith)
-
-add-n : tie.Need-add-n Inv-loop μ-loop
-add-n c = omega (arith, turn c, few c)
-
-mul-n : tie.Need-mul-n Inv-loop μ-loop
-mul-n c = omega (arith, turn c, few c)
-
-add-n-2 : tie.Need-add-n-2 Inv-loop μ-loop
-add-n-2 c = omega (arith, turn c, few c)
-
-loop-again : tie.Need-loop-again Inv-loop μ-loop
-loop-again c = (omega arith, turn c)
 
 returns : tie.Need-returns Inv-loop μ-loop
 returns c =
@@ -83,4 +76,5 @@ marks-of-spec =
     tie.close
     (tie.spec
     Inv-loop μ-loop (λ c κs. search needs) loop-holds (λ c. search needs) (λ c. search needs) (λ c. search needs)
-    width-of-requires add-n mul-n add-n-2 (λ c. omega arith) loop-again returns)
+    width-of-requires (λ c. omega (arith, turn c, few c)) (λ c. omega (arith, turn c, few c)) (λ c. omega (arith, turn c, few c))
+    (λ c. omega arith) (λ c. (omega arith, turn c)) returns)

@@ -1,14 +1,16 @@
 -- `json_write::put_json` meets its contract: the object's beginning, the brackets, the closing brace.
-use Prim.Native.Nat.{ℕ, _≤_}
-use mathlib.Core.List.{List}
-use mathlib.Core.Path.{_≡_, _∙_}
+use Prim.Native.Nat.{ℕ, _+_, _≤_}
+use mathlib.Core.Path.{_∙_}
 use native.Mathlib.Omega.{arith}
 use lib.ListN.{length}
 use denote.Ref.{now}
 use borrow.Author.Needs.{needs}
+use Rattle.paper.specs.declared.Cell.{Cell}
 use Rattle.paper.specs.Numbers.{text}
-use Rattle.json_write.specs.Stores.{Stored, stored-long, wrote-stored}
-use Rattle.json_write.specs.Whole.{name-fits, whole-ready, end-fits, whole-drawn}
+use Rattle.paper.specs.Answers.{axesOf}
+use Rattle.json_write.specs.Stores.{Stored, wrote-stored}
+use Rattle.json_write.specs.Texts.{textLeft}
+use Rattle.json_write.specs.Whole.{cellBy, whole-fits, whole-ready, whole-drawn}
 use Rattle.json_write.proofs.put_json.Statement.{statement}
 use Rattle.json_write.proofs.put_json.Tie as tie
 
@@ -17,22 +19,19 @@ module _ (c : tie.After-rank-of) where
   abbrev start : tie.Start
   start = c .before .before .before
 
-  abbrev out : List ℕ
-  out = now (start .args .out)
+  abbrev cell : ℕ → Cell
+  cell = cellBy (now (start .args .s)) (start .args .from) (start .args .kind)
 
-  named : 8 ≤ length out
-  named = name-fits (start .args .kind) (start .pre .0) (length out) (start .pre .1) (c .rank-of .ensures .number)
+  fits : 9 + length (textLeft cell (axesOf (start .args .extent)) (c .rank-of .result) 0) ≤ length (now (start .args .out))
+  fits = whole-fits (start .pre .0) (start .args .kind) (start .pre .1) (c .rank-of .ensures .number)
 
 -- the object is begun
 module _ (c : tie.After-put-text) where
   abbrev p : tie.After-rank-of
   p = c .before .before .before
 
-  begun : Stored (out p) 0 (text "{\"data\":") (c .put-text .result) (c .put-text .last .0)
-  begun = wrote-stored (out p) 0 (text "{\"data\":") _ _ (omega (arith, named p)) (c .put-text .ensures)
-
-  long : length (c .put-text .last .0) ≡ length (out p)
-  long = stored-long (out p) 0 (text "{\"data\":") _ _ begun
+  begun : Stored (now (start p .args .out)) 0 (text "{\"data\":") (c .put-text .result) (c .put-text .last .0)
+  begun = wrote-stored (now (start p .args .out)) 0 (text "{\"data\":") (omega (arith, fits p)) (c .put-text .ensures)
 
 -- the brackets are written
 module _ (c : tie.After-put-axes) where
@@ -40,25 +39,19 @@ module _ (c : tie.After-put-axes) where
   o = c .before .before .before .before
 
 put-text-requires : tie.Need-put-text-requires
-put-text-requires c κs = omega (arith, named (c .before .before))
+put-text-requires c κs = omega (arith, fits (c .before .before))
 
 put-axes-requires : tie.Need-put-axes-requires
 put-axes-requires c κs =
     let w = c .before .before .before in
-    let q = p w in
-    let s = start q in
-    whole-ready (s .args .kind) (s .pre .0) (length (w .put-text .last .0)) (omega (arith, s .pre .1, long w)) (q .rank-of .ensures .number)
-    (w .put-text .result) (omega (arith, begun w .0))
+    let s = start (p w) in
+    whole-ready (s .pre .0) (s .args .kind) (omega (arith, s .pre .1, w .put-text .kept .0)) (p w .rank-of .ensures .number) _
+    (omega (arith, begun w .0))
 
 put-requires : tie.Need-put-requires
 put-requires c κs =
     let a = c .before .before .before in
-    let q = p (o a) in
-    let s = start q in
-    let e =
-    end-fits (s .args .kind) (s .pre .0) (length (out q)) (s .pre .1) (q .rank-of .ensures .number) (out q) _ _ (begun (o a)) _ _ _
-    (a .put-axes .ensures) in
-    omega (arith, e, a .put-axes .kept .0, long (o a))
+    omega (arith, fits (p (o a)), begun (o a) .0, a .put-axes .ensures .drawn .0, a .put-axes .kept .0, o a .put-text .kept .0)
 
 -- the object is closed
 module _ (c : tie.After-put) where
@@ -66,7 +59,9 @@ module _ (c : tie.After-put) where
   brackets = c .before .before .before .before
 
 same-length : tie.Need-same-length
-same-length c = let w = c .before .before in w .put .kept .0 ∙ brackets w .put-axes .kept .0 ∙ long (o (brackets w))
+same-length c =
+    let w = c .before .before in
+    w .put .kept .0 ∙ brackets w .put-axes .kept .0 ∙ o (brackets w) .put-text .kept .0
 
 returns : tie.Need-returns
 returns c =
@@ -74,8 +69,8 @@ returns c =
     let a = brackets w in
     let q = p (o a) in
     let s = start q in
-    whole-drawn (s .args .kind) (s .pre .0) (length (out q)) (s .pre .1) (q .rank-of .ensures .number) (out q) _ _ (begun (o a)) _ _ _
-    (a .put-axes .ensures) _ _ (w .put .ensures)
+    whole-drawn (s .pre .0) (s .args .kind) (s .pre .1) (q .rank-of .ensures .number) (now (s .args .out)) (begun (o a))
+    (a .put-axes .ensures) (w .put .ensures)
 
 pub put-json-spec : {M : Type 1} → statement M
 put-json-spec =

@@ -1,46 +1,35 @@
 -- `json_write::write` meets its contract: judged, measured, then written.
-use Prim.Native.Nat.{ℕ, _≤_}
+use Prim.Native.Nat.{ℕ}
 use mathlib.Core.List.{List}
-use mathlib.Core.Path.{sym, ap, _∙_}
 use native.Mathlib.Omega.{arith}
-use lib.ListN.{length}
 use denote.Ref.{now}
 use borrow.Author.Needs.{needs}
 use Rattle.laws.specs.Numbers.{Bytes}
-use Rattle.paper.specs.Refusals.{refused}
 use Rattle.paper.specs.Answers.{axesOf}
-use Rattle.json_write.specs.Whole.{Whole, refused-both, got-both, own-refusal, float-refused, small-refused, text-got, its-whole, itsText}
+use Rattle.json_write.specs.Whole.{Whole, own-refusal, float-refused, small-refused, text-got, its-whole}
 use Rattle.json_write.proofs.write.Statement.{statement}
 use Rattle.json_write.proofs.write.Tie as tie
 
--- an array was chosen
-module _ (c : tie.After-choose) where
-  abbrev start : tie.Start
-  start = c .before .before .before
+-- an array was chosen, and not refused
+module _ (c : tie.Else1) where
+  abbrev h : tie.After-choose
+  h = c .before .before .before
 
   abbrev bs : List ℕ
-  bs = now (start .args .s)
+  bs = now (h .before .before .before .args .s)
 
   abbrev out : List ℕ
-  out = now (start .args .out)
-
--- and not refused
-module _ (c : tie.Else1) where
-  abbrev had : tie.After-choose
-  had = c .before .before .before
+  out = now (h .before .before .before .args .out)
 
 -- and its cells are no FLOAT numbers: it is whole
 module _ (c : tie.After-extent) where
   abbrev kept : tie.Else1
   kept = c .before .before .before .before
 
-  abbrev h : tie.After-choose
-  h = had kept
-
-  whole : Whole (bs h) (h .choose .result .head .at) (axesOf (h .choose .result .head .form .extent))
+  whole : Whole (bs kept) (h kept .choose .result .head .at) (axesOf (h kept .choose .result .head .form .extent))
   whole =
-      let bytes : Bytes (bs h) = λ i. omega (arith, h .before .before .shared-slice-known .given i) in
-      its-whole (h .choose .ensures) 0 (kept .if1 .left) bytes
+      let bytes : Bytes (bs kept) = λ i. omega (arith, h kept .before .before .shared-slice-known .given i) in
+      its-whole (h kept .choose .ensures) (out kept) (kept .if1 .left) bytes
 
 -- the text is written
 module _ (c : tie.After-put-json) where
@@ -51,31 +40,24 @@ module _ (c : tie.After-put-json) where
   long = fits .before
 
 returns : tie.Need-returns
-returns c =
-    let h = c .before .before .before in
-    refused-both (bs h) (start h .args .k) (out h) _ (own-refusal (h .choose .ensures) (length (out h)) (c .if1 .taken))
+returns c = own-refusal (c .before .before .before .choose .ensures) _ (c .if1 .taken)
 
 returns-2 : tie.Need-returns-2
 returns-2 c =
     let f = c .before in
     let q = f .before .before .before in
-    let h = had q in
-    refused-both (bs h) (start h .args .k) (out h) _
-    (float-refused (h .choose .ensures) (length (out h)) (q .if1 .left) (f .if2 .taken) ∙ ap refused (sym (c .refuse .ensures)))
+    float-refused (h q .choose .ensures) (out q) (q .if1 .left) (f .if2 .taken) (c .refuse .ensures)
 
 json-length-requires : tie.Need-json-length-requires
-json-length-requires c κs = (whole c, h c .choose .ensures .fit (kept c .if1 .left) .counted)
+json-length-requires c κs = (whole c, h (kept c) .choose .ensures .fit (kept c .if1 .left) .counted)
 
 returns-3 : tie.Need-returns-3
 returns-3 c =
-    let s = c .before in
-    let j = s .before in
+    let j = c .before .before in
     let e = j .before in
-    let l = length (out (h e)) in
-    refused-both (bs (h e)) (start (h e) .args .k) (out (h e)) _
-    (small-refused (h e .choose .ensures) l (kept e .if1 .left) (e .before .if2 .left)
-    (omega (arith, j .json-length .ensures .0, s .if3 .taken))
-    ∙ ap refused (sym (c .refuse2 .ensures)))
+    let q = kept e in
+    small-refused (h q .choose .ensures) (out q) (q .if1 .left) (e .before .if2 .left)
+    (omega (arith, j .json-length .ensures .0, c .before .if3 .taken)) (c .refuse2 .ensures)
 
 put-json-requires : tie.Need-put-json-requires
 put-json-requires c κs = let j = c .before .before in (whole (j .before), omega (arith, j .json-length .ensures .0, c .before .if3 .left))
@@ -83,23 +65,18 @@ put-json-requires c κs = let j = c .before .before in (whole (j .before), omega
 cast : tie.Need-cast-t19
 cast c = record { fits = long (c .before .before) .json-length .ensures .1 }
 
-same-length : tie.Need-same-length
-same-length c = c .before .before .put-json .kept .0
-
 returns-4 : tie.Need-returns-4
 returns-4 c =
     let w = c .before .before in
-    let j = long w .json-length .ensures in
+    let j = long w .json-length .ensures .0 in
     let e = long w .before in
-    let v = h e .choose .ensures in
-    let y = kept e .if1 .left in
-    let l : length (itsText v (length (out (h e))) y) ≤ length (out (h e)) = omega (arith, j .0, fits w .if3 .left) in
-    got-both (bs (h e)) (start (h e) .args .k) (out (h e)) _ _ _ _
-    (text-got v (length (out (h e))) y (e .before .if2 .left) l) l (j .0) (w .put-json .ensures)
+    let q = kept e in
+    text-got (h q .choose .ensures) (out q) (q .if1 .left) (e .before .if2 .left) (omega (arith, j, fits w .if3 .left)) j
+    (w .put-json .ensures)
 
 pub write-spec : {M : Type 1} → statement M
 write-spec =
     tie.close
     (tie.spec
     (λ c κs. search needs) returns (λ c κs. search needs) returns-2 json-length-requires (λ c κs. search needs) returns-3
-    put-json-requires cast same-length returns-4)
+    put-json-requires cast (λ c. c .before .before .put-json .kept .0) returns-4)

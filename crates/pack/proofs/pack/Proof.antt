@@ -40,21 +40,12 @@ module _ (c : tie.After-put-mark) where
   abbrev good : tie.Else1
   good = fits .before
 
-returns : tie.Need-returns
-returns c = let q = c .before .before .before in pack-refused _ _ (out q) _ (q .judged .ensures .no (c .if1 .taken) (length (out q)))
-
 returns-2 : tie.Need-returns-2
 returns-2 c =
     let w = c .before in
     let g = w .before in
     let q = p g in
-    pack-small (q .judged .ensures) (g .if1 .left) (full q) (bytes q) (out q) (w .if2 .taken) _ (c .refuse .ensures)
-
-cast-put-mark : tie.Need-cast-put-mark
-cast-put-mark c = let g = c .before .before in omega (arith, count-least (p g .judged .ensures) (g .if1 .left))
-
-put-mark-requires : tie.Need-put-mark-requires
-put-mark-requires c κs = let g = c .before .before in omega (arith, p g .judged .ensures .long (g .if1 .left))
+    rw (c .refuse .ensures) (pack-small (q .judged .ensures) (g .if1 .left) (full q) (bytes q) (out q) (w .if2 .taken))
 
 put-arrays-requires : tie.Need-put-arrays-requires
 put-arrays-requires c κs =
@@ -74,5 +65,9 @@ pub pack-spec : {M : Type 1} → statement M
 pack-spec =
     tie.close
     (tie.spec
-    (λ c κs. search needs) returns (λ c κs. search needs) returns-2 cast-put-mark put-mark-requires put-arrays-requires
+    (λ c κs. search needs)
+    (λ c. let q = c .before .before .before in pack-refused _ _ (out q) _ (q .judged .ensures .no (c .if1 .taken) (length (out q))))
+    (λ c κs. search needs) returns-2
+    (λ c. let g = c .before .before in omega (arith, count-least (p g .judged .ensures) (g .if1 .left)))
+    (λ c κs. let g = c .before .before in omega (arith, p g .judged .ensures .long (g .if1 .left))) put-arrays-requires
     (λ c. search needs) (λ c. search needs) returns-3)

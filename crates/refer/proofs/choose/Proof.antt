@@ -17,8 +17,12 @@ module _ (c : tie.After-refuse) where
   abbrev had : tie.After-read
   had = kept .before .before .before
 
-returns : tie.Need-returns
-returns c = bundle-refuses (c .before .before .before .before .read .ensures) (c .before .if1 .taken) (c .none-chosen .ensures)
+-- there is such an array
+array-copy-out-head : tie.Need-array-copy-out-head
+array-copy-out-head c =
+    let o = had (c .before .before) .read in
+    let l : length (o .result .heads) ≡ mostArrays = search (needs, length-mapped) in
+    omega (arith, o .ensures .room)
 
 returns-2 : tie.Need-returns-2
 returns-2 c =
@@ -32,21 +36,12 @@ returns-3 c =
     unknown-past (had q .read .ensures) (kept q .if1 .left) (c .before .if3 .taken)
     (c .none-chosen3 .ensures ∙ ap noneChosen (q .refuse .ensures))
 
--- there is such an array
-array-copy-out-head : tie.Need-array-copy-out-head
-array-copy-out-head c =
-    let o = had (c .before .before) .read in
-    let l : length (o .result .heads) ≡ mostArrays = search (needs, length-mapped) in
-    omega (arith, o .ensures .room)
-
-returns-4 : tie.Need-returns-4
-returns-4 c =
-    let q = c .before .before .before in
-    known (had q .read .ensures) (kept q .if1 .left) (omega arith) (omega arith) refl
-
 pub choose-spec : {M : Type 1} → statement M
 choose-spec =
     tie.close
     (tie.spec
-    (λ c κs. search needs) (λ c κs. search needs) returns (λ c κs. search needs) (λ c κs. search needs) returns-2
-    (λ c κs. search needs) returns-3 (λ c. search needs) (λ c. search needs) array-copy-out-head returns-4)
+    (λ c κs. search needs) (λ c κs. search needs)
+    (λ c. bundle-refuses (c .before .before .before .before .read .ensures) (c .before .if1 .taken) (c .none-chosen .ensures))
+    (λ c κs. search needs) (λ c κs. search needs) returns-2 (λ c κs. search needs) returns-3 (λ c. search needs) (λ c. search needs)
+    array-copy-out-head
+    (λ c. let q = c .before .before .before in known (had q .read .ensures) (kept q .if1 .left) (omega arith) (omega arith) refl))

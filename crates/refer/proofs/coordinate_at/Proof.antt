@@ -5,7 +5,7 @@ use Rattle.paper.specs.Numbers.{distance}
 use denote.Ref.{now}
 use lib.ListN.{length, take, getD, length-set}
 use mathlib.Core.List.{map}
-use mathlib.Core.Path.{_≡_, refl, ap, _∙_}
+use mathlib.Core.Path.{_≡_, refl}
 use native.Mathlib.Omega.{arith}
 use borrow.Author.Needs.{needs, sfits-of}
 use mir.Syntax.{w32}
@@ -22,28 +22,20 @@ Inv-loop zs at₀ i₀ at i = (i ≤ length zs) × (length at ≡ mostAxes) × (
 abbrev μ-loop : tie.MeasureT-loop
 μ-loop zs at₀ i₀ at i = length zs - i
 
-loop-holds : tie.Need-loop-holds Inv-loop μ-loop
-loop-holds c = (omega arith, refl, refl)
-
 loop-again : tie.Need-loop-again Inv-loop μ-loop
 loop-again c =
     let l = c .before .before .before .loop in
     let zs = now (c .before .before .before .before .args .zs) in
-    let f : SFits w32 (getD zs (l .i) (pos 0)) = sfits-of (search needs) in (
-      omega arith,
-      simp length-set (l .inv .1),
-      coordinate-more (now (c .before .before .before .before .args .zs)) (l .at) (l .i) _ (c .before .before .loop-test .taken)
-          (omega arith) (c .distance-to .ensures ∙ ap distance (toZ-ofZ w32 (getD zs (l .i) (pos 0)) f)) (l .inv .2),
-    )
-
-returns : tie.Need-returns Inv-loop μ-loop
-returns c =
-    coordinate-end (now (c .before .before .args .zs)) (c .before .loop .at) (c .before .loop .i) (omega arith) (omega arith)
-    (c .before .loop .inv .2)
+    let f : SFits w32 (getD zs (l .i) (pos 0)) = sfits-of (search needs) in
+    let d = rw (toZ-ofZ w32 (getD zs (l .i) (pos 0)) f) at (c .distance-to .ensures) in
+    let m = coordinate-more zs (l .at) (l .i) _ (c .before .before .loop-test .taken) (omega arith) d (l .inv .2) in
+    (omega arith, simp length-set (l .inv .1), m)
 
 pub coordinate-at-spec : {M : Type 1} → statement M
 coordinate-at-spec =
     tie.close
     (tie.spec
-    Inv-loop μ-loop loop-holds (λ c. omega arith) (λ c. omega arith) (λ c κs. search needs) (λ c. omega arith)
-    (λ c. omega arith) (λ c. omega arith) (λ c. omega arith) loop-again returns)
+    Inv-loop μ-loop (λ c. (omega arith, refl, refl)) (λ c. omega arith) (λ c. omega arith) (λ c κs. search needs) (λ c. omega arith)
+    (λ c. omega arith) (λ c. omega arith) (λ c. omega arith) loop-again
+    (λ c. let l = c .before .loop in
+    coordinate-end (now (c .before .before .args .zs)) (l .at) (l .i) (omega arith) (omega arith) (l .inv .2)))

@@ -2,19 +2,18 @@
 use Prim.Native.Nat.{ℕ, _≤_}
 use mathlib.Core.List.{List, [], _∷_, map}
 use mathlib.Core.Logic.{⊎-elim}
-use mathlib.Core.Path.{_≡_, refl, sym, ap, _∙_}
+use mathlib.Core.Path.{_≡_, refl, sym, _∙_}
 use native.Mathlib.Omega.{arith}
 use borrow.Author.Needs.{needs}
 use denote.Ref.{now}
 use denote.Enum.Declared.{tagOf}
 use types.Run.{OneOf}
 use lib.IntN.{ℤ}
-use lib.ListN.{length, take}
+use lib.ListN.{length}
 use Rattle.paper.specs.declared.Form.{Form}
 use Rattle.paper.specs.declared.Place.{Place}
 use Rattle.paper.specs.declared.Place.the-variants.{At, InMaximum, Beyond}
 use Rattle.paper.proofs.Place as Place′
-use Rattle.paper.specs.Refusals.{got, refused}
 use Rattle.paper.specs.Axes.{Array, cells, placeOf, goodExtent}
 use Rattle.paper.specs.Numbers.{distance}
 use Rattle.paper.specs.Reference.{referred}
@@ -22,7 +21,7 @@ use Rattle.paper.specs.Answers.{shapeOf, axesOf}
 use Rattle.laws.specs.Tests.{and-left}
 use Rattle.extent.specs.Judged.{good-small}
 use Rattle.bundle.specs.Read.{arrayAt, Fit}
-use Rattle.refer.specs.Places.{elsewhereOf, refer-refused, refer-count, refer-inside, refer-elsewhere, place-bounds}
+use Rattle.refer.specs.Places.{elsewhereOf, refer-refused, refer-count, by-place, refer-inside, place-bounds}
 use Rattle.refer.proofs.refer.Statement.{statement}
 use Rattle.refer.proofs.refer.Tie as tie
 
@@ -61,10 +60,7 @@ module _ (c : tie.After-found) where
   counted = c .before .before
 
   spot : c .found .result ≡ placeOf (shapeOf (form (kept counted))) (map distance (zs (kept counted)))
-  spot =
-      let p = c .before .coordinate-at in
-      c .found .ensures (form (kept counted) .kind)
-      ∙ ap (placeOf (shapeOf (form (kept counted)))) (ap (λ (n : ℕ). take n (p .result .at)) (sym (count counted)) ∙ p .ensures)
+  spot = rw (← c .before .coordinate-at .ensures, count counted) (c .found .ensures (form (kept counted) .kind))
 
 -- an ordinality that was found is one of the array's
 module _ (c : tie.After-place) where
@@ -77,23 +73,12 @@ module _ (c : tie.After-place) where
   bounds : (1 ≤ c .place .given .0 .0 .0) × (c .place .given .0 .0 .0 ≤ cells (axesOf (form its .extent)))
   bounds = place-bounds (shapeOf (form its)) (map distance (zs its)) _ (sym (c .place .given .1) ∙ spot there)
 
-returns : tie.Need-returns
-returns c =
-    let h = c .before .before .before in
-    refer-refused (now (h .before .before .args .coordinates)) (h .choose .ensures) (c .if1 .taken)
-
 returns-2 : tie.Need-returns-2
 returns-2 c =
     let r = c .before .before in
     let q = r .before .before .before .before .before in
-    ap refused (c .refuse .ensures)
-    ∙ refer-count (zs q) (had q .choose .ensures) (q .if1 .left) (λ e. c .before .if2 .taken (e ∙ sym (r .rank-of .ensures .number)))
-
-coordinate-at-requires : tie.Need-coordinate-at-requires
-coordinate-at-requires c κs = omega (arith, c .before .rank-of .ensures .few)
-
-found-requires : tie.Need-found-requires
-found-requires c κs = good-small _ (and-left (goodExtent _) _ (fit (kept (c .before)) .good))
+    rw (c .refuse .ensures)
+    (refer-count (zs q) (had q .choose .ensures) (q .if1 .left) (λ e. c .before .if2 .taken (e ∙ sym (r .rank-of .ensures .number))))
 
 returns-3 : tie.Need-returns-3
 returns-3 c =
@@ -102,14 +87,8 @@ returns-3 c =
     let h = had q in
     let a = h .before .before .args in
     c .elsewhere .ensures
-    ∙ refer-elsewhere (zs q) (h .choose .ensures) (q .if1 .left) (count (counted f)) _ (spot f)
-    (not-inside (a .k) (arrayAt (now (a .s)) (h .choose .result .head)) (f .found .result) (c .before .match .keys2))
-
-sub-i : tie.Need-sub-i
-sub-i c = let b = bounds (c .before .before) in omega arith
-
-held-cell-requires : tie.Need-held-cell-requires
-held-cell-requires c κs = let a = c .before .before in let b = bounds a in omega (arith, fit (its a) .fits)
+    ∙ not-inside (a .k) (arrayAt (now (a .s)) (h .choose .result .head)) (f .found .result) (c .before .match .keys2)
+    ∙ by-place (zs q) (h .choose .ensures) (q .if1 .left) (count (counted f)) _ (spot f)
 
 returns-4 : tie.Need-returns-4
 returns-4 c =
@@ -117,13 +96,17 @@ returns-4 c =
     let f = there a in
     let q = its a in
     let b = bounds a in
-    ap got (c .held-cell .ensures)
-    ∙ refer-inside (zs q) (had q .choose .ensures) (q .if1 .left) (count (counted f)) _ (spot f) _ _ (a .place .given .1) refl (omega arith)
+    rw (c .held-cell .ensures)
+    (refer-inside (zs q) (had q .choose .ensures) (q .if1 .left) (count (counted f)) _ (spot f) _ (a .place .given .1) (omega arith))
 
 pub refer-spec : {M : Type 1} → statement M
 refer-spec =
     tie.close
     (tie.spec
-    (λ c κs. search needs) returns (λ c κs. search needs) (λ c κs. search needs) returns-2 coordinate-at-requires
-    found-requires (λ c. search needs) (λ c κs. search needs) returns-3 (λ c. search needs) sub-i held-cell-requires
-    returns-4)
+    (λ c κs. search needs)
+    (λ c. let h = c .before .before .before in
+    refer-refused (now (h .before .before .args .coordinates)) (h .choose .ensures) (c .if1 .taken))
+    (λ c κs. search needs) (λ c κs. search needs) returns-2 (λ c κs. omega (arith, c .before .rank-of .ensures .few))
+    (λ c κs. good-small _ (and-left (goodExtent _) _ (fit (kept (c .before)) .good))) (λ c. search needs) (λ c κs. search needs)
+    returns-3 (λ c. search needs) (λ c. let b = bounds (c .before .before) in omega arith)
+    (λ c κs. let a = c .before .before in let b = bounds a in omega (arith, fit (its a) .fits)) returns-4)

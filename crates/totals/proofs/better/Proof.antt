@@ -1,39 +1,29 @@
 -- `totals::better` meets its contract.
-use mathlib.Core.Path.{refl, sym, _∙_}
+use mathlib.Core.Path.{_≡_, sym, _∙_}
+use mathlib.Core.Bool.{false}
 use borrow.Author.Needs.{needs}
+use Rattle.paper.specs.Operators.{emptyCell}
 use Rattle.totals.proofs.better.Statement.{statement}
 use Rattle.totals.proofs.better.Tie as tie
 
-returns : tie.Need-returns
-returns c = rw (sym (c .before .is-empty .ensures) ∙ c .if1 .taken) refl
+-- c is filled
+module _ (c : tie.Else1) where
+  filled : emptyCell (c .before .before .args .c) ≡ false
+  filled = sym (c .before .is-empty .ensures) ∙ c .if1 .left
 
-returns-2 : tie.Need-returns-2
-returns-2 c =
-    rw (
-      sym (c .before .before .before .is-empty .ensures) ∙ c .before .before .if1 .left,
-      sym (c .before .is-empty2 .ensures)
-          ∙ c .if2 .taken,
-    ) refl
+-- and b
+module _ (c : tie.Else2) where
+  abbrev one : tie.Else1
+  one = c .before .before
 
-returns-3 : tie.Need-returns-3
-returns-3 c =
-    rw (
-      sym (c .before .before .before .before .before .is-empty .ensures) ∙ c .before .before .before .before .if1 .left,
-      sym (c .before .before .before .is-empty2 .ensures) ∙ c .before .before .if2 .left,
-      sym (c .before .beats .ensures)
-          ∙ c .if3 .taken,
-    ) refl
-
-returns-4 : tie.Need-returns-4
-returns-4 c =
-    rw (
-      sym (c .before .before .before .before .before .is-empty .ensures) ∙ c .before .before .before .before .if1 .left,
-      sym (c .before .before .before .is-empty2 .ensures) ∙ c .before .before .if2 .left,
-      sym (c .before .beats .ensures) ∙ c .if3 .left,
-    ) refl
+  both : emptyCell (one .before .before .args .b) ≡ false
+  both = sym (c .before .is-empty2 .ensures) ∙ c .if2 .left
 
 pub better-spec : {M : Type 1} → statement M
 better-spec =
     tie.close
     (tie.spec
-    (λ c κs. search needs) returns (λ c κs. search needs) returns-2 (λ c κs. search needs) returns-3 returns-4)
+    (λ c κs. search needs) (λ c. rw (sym (c .before .is-empty .ensures) ∙ c .if1 .taken)) (λ c κs. search needs)
+    (λ c. rw (filled (c .before .before), sym (c .before .is-empty2 .ensures) ∙ c .if2 .taken)) (λ c κs. search needs)
+    (λ c. let e = c .before .before in rw (filled (one e), both e, sym (c .before .beats .ensures) ∙ c .if3 .taken))
+    (λ c. let e = c .before .before in rw (filled (one e), both e, sym (c .before .beats .ensures) ∙ c .if3 .left)))

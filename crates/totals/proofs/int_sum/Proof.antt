@@ -1,13 +1,11 @@
 -- `totals::int_sum` meets its contract.
-use mathlib.Core.Path.{subst}
 use native.Mathlib.Omega.{arith}
 use denote.Ref.{now}
 use borrow.Author.Needs.{needs}
 use Prim.Native.Nat.{_-_, _≤_}
-use Rattle.paper.specs.declared.Cell.{Cell}
 use Rattle.paper.specs.Totals.{filledFrom}
 use Rattle.totals.specs.Cells.{cellsAt, oneAt, filledLeft, filled-next, filled-none}
-use Rattle.totals.specs.Sums.{Gone, ExactNext, gone-start, gone-next, gone-end}
+use Rattle.totals.specs.Sums.{Gone, gone-start, gone-next, gone-end}
 use Rattle.totals.proofs.int_sum.Statement.{statement}
 use Rattle.totals.proofs.int_sum.Tie as tie
 
@@ -22,38 +20,26 @@ module _ (c : tie.In-loop Inv-loop μ-loop) where
   abbrev start : tie.Start Inv-loop μ-loop
   start = c .before .before .before .before
 
-loop-holds : tie.Need-loop-holds Inv-loop μ-loop
-loop-holds c = (omega arith, gone-start _ _ (c .exact-none .ensures))
-
-held-cell-requires : tie.Need-held-cell-requires Inv-loop μ-loop
-held-cell-requires c κs = omega (arith, start c .pre .room, start c .pre .few)
-
-add-i : tie.Need-add-i Inv-loop μ-loop
-add-i c = omega (arith, start (c .before .before) .pre .few)
-
 loop-again : tie.Need-loop-again Inv-loop μ-loop
 loop-again c =
     let t = c .before .before in
     let a = start t .args in
     let l = t .before .loop in
-    let x = c .exact-next in (
-      omega arith,
-      gone-next (l .t) (x .result) _ _ _ (l .i) (oneAt (now (a .s)) (a .at) (a .kind) (l .i)) (l .inv .1)
-          (omega (arith, start t .pre .few)) (filled-next (now (a .s)) (a .at) (a .kind) (a .n) (l .i) (t .loop-test .taken))
-          (subst (λ (y : Cell). ExactNext (l .t) y (x .result)) (c .before .held-cell .ensures) (x .ensures)),
-    )
+    let e = filled-next (now (a .s)) (a .at) (a .kind) (a .n) (l .i) (t .loop-test .taken) in
+    let x = rw (c .before .held-cell .ensures) at (c .exact-next .ensures) in
+    (omega arith, gone-next (oneAt (now (a .s)) (a .at) (a .kind) (l .i)) _ (l .inv .1) (omega (arith, start t .pre .few)) e x)
 
 returns : tie.Need-returns Inv-loop μ-loop
 returns c =
     let l = c .before .before in
     let a = l .before .before .before .args in
-    let v = l .loop in
-    λ k. c .exact-answer .ensures k _
-    (gone-end (v .t) _ _ (v .i) (v .inv .1) (filled-none (now (a .s)) (a .at) (a .kind) (a .n) (v .i) (omega arith)))
+    let e = filled-none (now (a .s)) (a .at) (a .kind) (a .n) (l .loop .i) (omega arith) in
+    λ k. c .exact-answer .ensures k _ (gone-end (l .loop .inv .1) e)
 
 pub int-sum-spec : {M : Type 1} → statement M
 int-sum-spec =
     tie.close
     (tie.spec
-    Inv-loop μ-loop (λ c κs. search needs) loop-holds held-cell-requires (λ c κs. search needs) add-i
-    (λ c. omega arith) loop-again (λ c κs. search needs) returns)
+    Inv-loop μ-loop (λ c κs. search needs) (λ c. (omega arith, gone-start _ _ (c .exact-none .ensures)))
+    (λ c κs. omega (arith, start c .pre .room, start c .pre .few)) (λ c κs. search needs)
+    (λ c. omega (arith, start (c .before .before) .pre .few)) (λ c. omega arith) loop-again (λ c κs. search needs) returns)

@@ -1,9 +1,8 @@
 -- `totals::total` meets its contract: each way out by the law of its test.
-use mathlib.Core.Path.{sym, ap, _∙_}
+use mathlib.Core.Path.{sym, _∙_}
 use borrow.Author.Needs.{needs}
 use borrow.Author.Tests.{not-false, not-true}
 use Rattle.paper.specs.declared.Total.{Total}
-use Rattle.paper.specs.Refusals.{refused}
 use Rattle.totals.specs.Whole.{total-refused, total-unfit, lying, total-is}
 use Rattle.totals.proofs.total.Statement.{statement}
 use Rattle.totals.proofs.total.Tie as tie
@@ -19,18 +18,12 @@ module _ (c : tie.After-has-total) where
   abbrev which : Total
   which = had .before .before .args .which
 
-returns : tie.Need-returns
-returns c = let h = c .before .before .before in total-refused (h .choose .ensures) (h .before .before .args .which) (c .if1 .taken)
-
 returns-2 : tie.Need-returns-2
 returns-2 c =
     let t = c .before in
     let h = t .before in
-    ap refused (c .refuse .ensures)
-    ∙ total-unfit (had h .choose .ensures) (which h) (kept h .if1 .left) (sym (h .has-total .ensures) ∙ not-true _ (t .if2 .taken))
-
-total-of-requires : tie.Need-total-of-requires
-total-of-requires c κs = let h = c .before in lying (had h .choose .ensures) (which h) (kept h .if1 .left)
+    let n = sym (h .has-total .ensures) ∙ not-true _ (t .if2 .taken) in
+    rw (c .refuse .ensures) (total-unfit (had h .choose .ensures) (which h) (kept h .if1 .left) n)
 
 returns-3 : tie.Need-returns-3
 returns-3 c =
@@ -42,4 +35,7 @@ pub total-spec : {M : Type 1} → statement M
 total-spec =
     tie.close
     (tie.spec
-    (λ c κs. search needs) returns (λ c κs. search needs) (λ c κs. search needs) returns-2 total-of-requires returns-3)
+    (λ c κs. search needs)
+    (λ c. let h = c .before .before .before in total-refused (h .choose .ensures) (h .before .before .args .which) (c .if1 .taken))
+    (λ c κs. search needs) (λ c κs. search needs) returns-2
+    (λ c κs. let h = c .before in lying (had h .choose .ensures) (which h) (kept h .if1 .left)) returns-3)

@@ -1,5 +1,5 @@
 -- `pack::judge::form_judged` meets its contract: a law for each way out.
-use mathlib.Core.Path.{_≡_, refl, sym, ap, _∙_}
+use mathlib.Core.Path.{_≡_, sym, _∙_}
 use mathlib.Core.Bool.{true}
 use native.Mathlib.Omega.{arith}
 use borrow.Author.Needs.{needs}
@@ -7,7 +7,7 @@ use borrow.Author.Tests.{not-true, not-false}
 use Rattle.paper.specs.Limits.{mostAxes}
 use Rattle.paper.specs.Refusals.{between}
 use Rattle.paper.specs.Cells.{isType}
-use Rattle.pack.specs.Judging.{stopped, form-type, form-count, form-bad, form-got}
+use Rattle.pack.specs.Judging.{form-type, form-count, form-bad, form-got}
 use Rattle.pack.proofs.judge.form_judged.Statement.{statement}
 use Rattle.pack.proofs.judge.form_judged.Tie as tie
 
@@ -33,38 +33,28 @@ module _ (c : tie.Else2) where
 returns : tie.Need-returns
 returns c =
     let q = c .before .before in
-    form-type (sym (q .before .in-range .ensures) ∙ not-true _ (q .if1 .taken))
-    (c .form-refused .ensures ∙ ap stopped (c .before .refuse .ensures))
+    rw (c .form-refused .ensures, c .before .refuse .ensures)
+    (form-type (sym (q .before .in-range .ensures) ∙ not-true _ (q .if1 .taken)))
 
 returns-2 : tie.Need-returns-2
 returns-2 c =
     let q = c .before .before in
     let t = q .before .before in
-    form-count (typed t) (counted t .rank-of .ensures) (sym (q .before .in-range2 .ensures) ∙ not-true _ (q .if2 .taken))
-    (c .form-refused2 .ensures ∙ ap stopped (c .before .refuse2 .ensures))
+    rw (c .form-refused2 .ensures, c .before .refuse2 .ensures)
+    (form-count (typed t) (counted t .rank-of .ensures) (sym (q .before .in-range2 .ensures) ∙ not-true _ (q .if2 .taken)))
 
 returns-3 : tie.Need-returns-3
 returns-3 c =
     let o = c .before .before .before .before in
     let t = kind (o .before) in
-    form-bad (typed t) (counted t .rank-of .ensures) (ranked (o .before)) (o .array-of .ensures) (c .before .if3 .taken)
-    (c .form-refused3 .ensures)
-
--- the array is one
-module _ (c : tie.Else3) where
-  abbrev had : tie.After-array-of
-  had = c .before .before .before
-
-  abbrev its : tie.Else1
-  its = kind (had .before)
-
-sub-t17 : tie.Need-sub-t17
-sub-t17 c = omega (arith, had c .array-of .ensures .past (c .if3 .left))
+    rw (c .form-refused3 .ensures)
+    (form-bad (typed t) (counted t .rank-of .ensures) (ranked (o .before)) (o .array-of .ensures) (c .before .if3 .taken))
 
 returns-4 : tie.Need-returns-4
 returns-4 c =
-    let t = its c in
-    form-got (typed t) (counted t .rank-of .ensures) (ranked (had c .before)) (had c .array-of .ensures) (start t .pre) (c .if3 .left) refl
+    let o = c .before .before .before in
+    let t = kind (o .before) in
+    form-got (typed t) (counted t .rank-of .ensures) (ranked (o .before)) (o .array-of .ensures) (start t .pre) (c .if3 .left)
 
 pub form-judged-spec : {M : Type 1} → statement M
 form-judged-spec =
@@ -72,4 +62,5 @@ form-judged-spec =
     (tie.spec
     (λ c κs. search needs) (λ c. search needs) (λ c κs. search needs) (λ c κs. search needs) (λ c κs. search needs)
     returns (λ c κs. search needs) (λ c κs. search needs) (λ c κs. search needs) returns-2 (λ c κs. search needs)
-    (λ c κs. search needs) returns-3 (λ c. search needs) (λ c. search needs) sub-t17 (λ c. search needs) returns-4)
+    (λ c κs. search needs) returns-3 (λ c. search needs) (λ c. search needs)
+    (λ c. omega (arith, c .before .before .before .array-of .ensures .past (c .if3 .left))) (λ c. search needs) returns-4)

@@ -1,6 +1,6 @@
 -- `pack::judge::judged` meets its contract: the loop keeps what is known of the forms left equal to what is known of all.
 use Prim.Native.Nat.{ℕ, _+_, _-_, _≤_}
-use mathlib.Core.Path.{_≡_, sym, ap, _∙_}
+use mathlib.Core.Path.{_≡_, sym, _∙_}
 use mathlib.Core.List.{List, _∷_}
 use native.Mathlib.Omega.{arith}
 use borrow.Author.Needs.{needs}
@@ -10,7 +10,7 @@ use Rattle.paper.specs.declared.Form.{Form}
 use Rattle.paper.specs.Limits.{mostArrays}
 use Rattle.laws.specs.Loops.{length-mapped}
 use Rattle.laws.specs.Tests.{between-true}
-use Rattle.pack.specs.Judging.{Judging, judging-start, judging-more, over, Counted, count-first, next-form, all-count, all-bad, all-left, all-got}
+use Rattle.pack.specs.Judging.{Judging, judging-start, judging-more, Counted, count-first, next-form, all-count, all-bad, all-left, all-got}
 use Rattle.pack.proofs.judge.judged.Statement.{statement}
 use Rattle.pack.proofs.judge.judged.Tie as tie
 
@@ -56,30 +56,15 @@ module _ (c : tie.After-struct-known Inv-loop μ-loop) where
 returns : tie.Need-returns Inv-loop μ-loop
 returns c =
     let q = c .before .before in
-    all-count (sym (q .before .in-range .ensures) ∙ not-true _ (q .if1 .taken))
-    (c .all-refused .ensures ∙ ap over (c .before .refuse .ensures))
-
-loop-holds : tie.Need-loop-holds Inv-loop μ-loop
-loop-holds c = judging-start _ _
-
-mul-form : tie.Need-mul-form Inv-loop μ-loop
-mul-form c = omega (arith, few (p c))
-
-array-copy-out-form : tie.Need-array-copy-out-form Inv-loop μ-loop
-array-copy-out-form c = omega (arith, few (p c))
-
-cast-form-judged : tie.Need-cast-form-judged Inv-loop μ-loop
-cast-form-judged c = omega (arith, few (p (c .before)))
-
-form-judged-requires : tie.Need-form-judged-requires Inv-loop μ-loop
-form-judged-requires c κs = c .before .before .loop .inv .room
+    rw (c .all-refused .ensures, c .before .refuse .ensures)
+    (all-count (sym (q .before .in-range .ensures) ∙ not-true _ (q .if1 .taken)))
 
 returns-2 : tie.Need-returns-2 Inv-loop μ-loop
 returns-2 c =
     let o = c .before .before in
     let t = turn o in
-    all-bad (counted (p t)) (t .before .loop .inv) (next t _) (one o .form-judged .ensures) (c .before .if2 .taken)
-    (c .all-refused2 .ensures)
+    rw (c .all-refused2 .ensures)
+    (all-bad (counted (p t)) (t .before .loop .inv) (next t _) (one o .form-judged .ensures) (c .before .if2 .taken))
 
 add-long : tie.Need-add-long Inv-loop μ-loop
 add-long c =
@@ -97,20 +82,19 @@ returns-3 : tie.Need-returns-3 Inv-loop μ-loop
 returns-3 c =
     let e = c .before .before in
     let w = e .before in
-    all-left (counted (w .before .before)) (w .before .loop .inv) (w .loop-test .left) (e .if3 .taken)
-    (c .all-refused3 .ensures ∙ ap over (c .before .refuse2 .ensures))
+    rw (c .all-refused3 .ensures, c .before .refuse2 .ensures)
+    (all-left (counted (w .before .before)) (w .before .loop .inv) (w .loop-test .left) (e .if3 .taken))
 
 returns-4 : tie.Need-returns-4 Inv-loop μ-loop
 returns-4 c =
     let w = c .before .before in
-    all-got (counted (w .before .before)) (w .before .loop .inv) (w .loop-test .left) (c .before .if3 .left)
-    (λ j. record { refusal = (c .none .ensures) j; long = w .before .loop .long })
+    rw (c .none .ensures) (all-got (counted (w .before .before)) (w .before .loop .inv) (w .loop-test .left) (c .before .if3 .left))
 
 pub judged-spec : {M : Type 1} → statement M
 judged-spec =
     tie.close
     (tie.spec
-    Inv-loop μ-loop (λ c κs. search needs) (λ c κs. search needs) (λ c κs. search needs) returns loop-holds mul-form
-    array-copy-out-form (λ c. omega arith) cast-form-judged form-judged-requires (λ c κs. search needs) returns-2 add-long
-    (λ c. omega arith) (λ c. omega arith) loop-again (λ c κs. search needs) (λ c κs. search needs) returns-3
-    (λ c κs. search needs) returns-4)
+    Inv-loop μ-loop (λ c κs. search needs) (λ c κs. search needs) (λ c κs. search needs) returns (λ c. judging-start _ _)
+    (λ c. omega (arith, few (p c))) (λ c. omega (arith, few (p c))) (λ c. omega arith) (λ c. omega (arith, few (p (c .before))))
+    (λ c κs. c .before .before .loop .inv .room) (λ c κs. search needs) returns-2 add-long (λ c. omega arith) (λ c. omega arith)
+    loop-again (λ c κs. search needs) (λ c κs. search needs) returns-3 (λ c κs. search needs) returns-4)

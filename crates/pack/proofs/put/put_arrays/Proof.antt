@@ -20,12 +20,12 @@ Inv-loop count cells d₀ forms from₀ at₀ i₀ d from at i = Laying (take co
 abbrev μ-loop : tie.MeasureT-loop
 μ-loop count cells d₀ forms from₀ at₀ i₀ d from at i = count - i
 
-full : (c : tie.Start Inv-loop μ-loop) → length (c .args .t2) ≡ mostArrays
-full c = search (needs, length-mapped)
-
 module _ (c : tie.Start Inv-loop μ-loop) where
+  full : length (c .args .t2) ≡ mostArrays
+  full = search (needs, length-mapped)
+
   room : c .args .count ≤ length (c .args .t2)
-  room = omega (arith, full c, c .pre .few)
+  room = omega (arith, full, c .pre .few)
 
   first : length (take (c .args .count) (c .args .t2)) ≡ c .args .count
   first = length-first (c .args .t2) (c .args .count) room
@@ -45,39 +45,22 @@ module _ (c : tie.In-loop Inv-loop μ-loop) where
 loop-holds : tie.Need-loop-holds Inv-loop μ-loop
 loop-holds c = let q = c .before .before in laying-start _ (now (q .args .cells)) (now (q .args .d)) (q .pre .ready) (q .pre .room)
 
-mul-form : tie.Need-mul-form Inv-loop μ-loop
-mul-form c = omega (arith, s c .pre .few)
-
-array-copy-out-form : tie.Need-array-copy-out-form Inv-loop μ-loop
-array-copy-out-form c = omega (arith, s c .pre .few)
-
-put-array-requires : tie.Need-put-array-requires Inv-loop μ-loop
-put-array-requires c κs = let t = c .before .before in laying-room (t .before .loop .inv) (next t _)
-
 -- an array is written
 module _ (c : tie.After-put-array Inv-loop μ-loop) where
   abbrev turn : tie.In-loop Inv-loop μ-loop
   turn = c .before .before .before
 
-add-i : tie.Need-add-i Inv-loop μ-loop
-add-i c = omega (arith, s (turn (c .before .before)) .pre .few)
-
 loop-again : tie.Need-loop-again Inv-loop μ-loop
 loop-again c =
     let w = c .before .before in
     let t = turn w in
-    laying-more (t .before .loop .inv) (next t _) (omega (arith, first (s t))) (w .put-array .result) (w .put-array .last .1 .1 .1 .0)
-    (w .put-array .ensures)
-
-same-length : tie.Need-same-length Inv-loop μ-loop
-same-length c = c .before .loop .inv .long
-
-returns : tie.Need-returns Inv-loop μ-loop
-returns c = laying-end (c .before .loop .inv) (omega (arith, first (c .before .before .before .before)))
+    laying-more (t .before .loop .inv) (next t _) (omega (arith, first (s t))) (w .put-array .ensures)
 
 pub put-arrays-spec : {M : Type 1} → statement M
 put-arrays-spec =
     tie.close
     (tie.spec
-    Inv-loop μ-loop loop-holds mul-form array-copy-out-form put-array-requires add-i (λ c. omega arith) loop-again
-    same-length returns)
+    Inv-loop μ-loop loop-holds (λ c. omega (arith, s c .pre .few)) (λ c. omega (arith, s c .pre .few))
+    (λ c κs. let t = c .before .before in laying-room (t .before .loop .inv) (next t _))
+    (λ c. omega (arith, s (turn (c .before .before)) .pre .few)) (λ c. omega arith) loop-again (λ c. c .before .loop .inv .long)
+    (λ c. laying-end (c .before .loop .inv) (omega (arith, first (c .before .before .before .before)))))

@@ -18,35 +18,20 @@ abbrev μ-loop : tie.MeasureT-loop
 μ-loop d₀ at e m rank i₀ d i = rank - i
 
 -- the maximum has as many axes as the extent
-full : (c : tie.Start Inv-loop μ-loop) → length (c .args .t4 .axes) ≡ mostAxes
-full c = search (needs, length-mapped)
-
 module _ (c : tie.After-rank-of Inv-loop μ-loop) where
   abbrev start : tie.Start Inv-loop μ-loop
   start = c .before .before
 
+  full : length (start .args .t4 .axes) ≡ mostAxes
+  full = search (needs, length-mapped)
+
   other : Rank (start .args .t4) (c .rank-of .result)
-  other = ranked (start .args .t4) (c .rank-of .result) (full start) (c .rank-of .ensures .number ∙ sym (start .pre .alike))
+  other = ranked (start .args .t4) (c .rank-of .result) full (c .rank-of .ensures .number ∙ sym (start .pre .alike))
 
 -- in the loop
 module _ (c : tie.In-loop Inv-loop μ-loop) where
   abbrev p : tie.After-rank-of Inv-loop μ-loop
   p = c .before .before
-
-loop-holds : tie.Need-loop-holds Inv-loop μ-loop
-loop-holds c = axes-start
-
-element-copy-out-a : tie.Need-element-copy-out-a Inv-loop μ-loop
-element-copy-out-a c = omega (arith, p c .rank-of .ensures .few)
-
-element-copy-out-b : tie.Need-element-copy-out-b Inv-loop μ-loop
-element-copy-out-b c = omega (arith, p (c .before) .rank-of .ensures .few)
-
-mul-put-axis : tie.Need-mul-put-axis Inv-loop μ-loop
-mul-put-axis c = omega (arith, p (c .before .before .before) .rank-of .ensures .few)
-
-add-put-axis : tie.Need-add-put-axis Inv-loop μ-loop
-add-put-axis c = let q = p (c .before .before .before) in omega (arith, start q .pre .room, q .rank-of .ensures .number)
 
 put-axis-requires : tie.Need-put-axis-requires Inv-loop μ-loop
 put-axis-requires c κs =
@@ -58,19 +43,13 @@ module _ (c : tie.After-put-axis Inv-loop μ-loop) where
   abbrev turn : tie.In-loop Inv-loop μ-loop
   turn = c .before .before .before .before
 
-add-i : tie.Need-add-i Inv-loop μ-loop
-add-i c = omega (arith, p (turn (c .before .before)) .rank-of .ensures .few)
-
 loop-again : tie.Need-loop-again Inv-loop μ-loop
 loop-again c =
     let w = c .before .before in
     let t = turn w in
-    let l = t .before .loop in
     let q = p t in
-    axes-more (q .rank-of .ensures) (other q) (start q .pre) (l .inv) (t .loop-test .taken) (w .put-axis .last .0) (w .put-axis .ensures)
-
-same-length : tie.Need-same-length Inv-loop μ-loop
-same-length c = c .before .loop .inv .long
+    axes-more (q .rank-of .ensures) (other q) (start q .pre) (t .before .loop .inv) (t .loop-test .taken) (w .put-axis .last .0)
+    (w .put-axis .ensures)
 
 returns : tie.Need-returns Inv-loop μ-loop
 returns c =
@@ -81,6 +60,9 @@ pub put-axes-spec : {M : Type 1} → statement M
 put-axes-spec =
     tie.close
     (tie.spec
-    Inv-loop μ-loop (λ c κs. search needs) loop-holds (λ c. search needs) element-copy-out-a (λ c. search needs)
-    element-copy-out-b mul-put-axis add-put-axis put-axis-requires add-i (λ c. omega arith) loop-again same-length
-    returns)
+    Inv-loop μ-loop (λ c κs. search needs) (λ c. axes-start) (λ c. search needs) (λ c. omega (arith, p c .rank-of .ensures .few))
+    (λ c. search needs) (λ c. omega (arith, p (c .before) .rank-of .ensures .few))
+    (λ c. omega (arith, p (c .before .before .before) .rank-of .ensures .few))
+    (λ c. let q = p (c .before .before .before) in omega (arith, start q .pre .room, q .rank-of .ensures .number)) put-axis-requires
+    (λ c. omega (arith, p (turn (c .before .before)) .rank-of .ensures .few)) (λ c. omega arith) loop-again
+    (λ c. c .before .loop .inv .long) returns)

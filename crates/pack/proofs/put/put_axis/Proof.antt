@@ -14,12 +14,9 @@ returns c =
     let o₀ = o₁ .before .before .before .before .before in
     let s = o₀ .before .before .before in
     axis-put (now (s .args .d)) (o₀ .put-name .last .0) (o₁ .put4 .last .0) (o₂ .put42 .last .0) (o₃ .put43 .last .0) (o₄ .put44 .last .0)
-    (s .args .at) (s .args .a) (s .args .m) (s .pre)
-    (o₀ .put-name .ensures)
-    (record { bits = o₁ .before .bits-of .result; its = o₁ .before .bits-of .ensures; four = o₁ .put4 .ensures })
-    (record { bits = o₂ .before .bits-of2 .result; its = o₂ .before .bits-of2 .ensures; four = o₂ .put42 .ensures })
-    (record { bits = o₃ .before .bits-of3 .result; its = o₃ .before .bits-of3 .ensures; four = o₃ .put43 .ensures })
-    (record { bits = o₄ .before .bits-of4 .result; its = o₄ .before .bits-of4 .ensures; four = o₄ .put44 .ensures })
+    (s .args .at) (s .args .a) (s .args .m) (s .pre) (o₀ .put-name .ensures)
+    (rw (o₁ .before .bits-of .ensures) at (o₁ .put4 .ensures)) (rw (o₂ .before .bits-of2 .ensures) at (o₂ .put42 .ensures))
+    (rw (o₃ .before .bits-of3 .ensures) at (o₃ .put43 .ensures)) (rw (o₄ .before .bits-of4 .ensures) at (o₄ .put44 .ensures))
 
 pub put-axis-spec : {M : Type 1} → statement M
 put-axis-spec =

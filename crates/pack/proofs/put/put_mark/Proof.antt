@@ -9,24 +9,10 @@ use lib.ListN.{length-set}
 use Rattle.cell.proofs.Runs.{stores-at}
 use Rattle.paper.specs.Bundle.{mark}
 
-slice-write-d-2 : tie.Need-slice-write-d-2
-slice-write-d-2 c = simp length-set (omega arith)
-
-slice-write-d-3 : tie.Need-slice-write-d-3
-slice-write-d-3 c = simp length-set (omega arith)
-
-slice-write-d-4 : tie.Need-slice-write-d-4
-slice-write-d-4 c = simp length-set (omega arith)
-
-slice-write-d-5 : tie.Need-slice-write-d-5
-slice-write-d-5 c = simp length-set (omega arith)
-
-returns : tie.Need-returns
-returns c = stores-at (mark ++ (c .args .count ∷ [])) (now (c .args .d)) 0 (c .pre)
-
 pub put-mark-spec : {M : Type 1} → statement M
 put-mark-spec =
     tie.close
     (tie.spec
-    (λ c. search needs) slice-write-d-2 slice-write-d-3 slice-write-d-4 slice-write-d-5 (λ c. search needs)
-    (λ c. search needs) returns)
+    (λ c. search needs) (λ c. simp length-set (omega arith)) (λ c. simp length-set (omega arith)) (λ c. simp length-set (omega arith))
+    (λ c. simp length-set (omega arith)) (λ c. search needs) (λ c. search needs)
+    (λ c. stores-at (mark ++ (c .args .count ∷ [])) (now (c .args .d)) 0 (c .pre)))
