@@ -68,7 +68,7 @@ pub record RowDrawn (bs : List ℕ) (at t w begin cell : ℕ) (out : List ℕ) (
 -- ---- the axes that are left
 
 -- so many are left, one at least; their cells lie in the bytes, and there is room for their text
-pub record Ready (bs : List ℕ) (at t : ℕ) (E : List Axis) (left begin cell room : ℕ) : Type 0 where
+pub record TextFits (bs : List ℕ) (at t : ℕ) (E : List Axis) (left begin cell room : ℕ) : Type 0 where
   pub sound : Sound E
   pub some : 0 < left
   pub rank : left ≤ length E
@@ -80,7 +80,7 @@ pub record Drawn (bs : List ℕ) (at t : ℕ) (E : List Axis) (left begin cell :
   pub drawn : Stored out begin (textLeft (cellBy bs at t) E left cell) end last
   pub goes : next ≡ cell + sizeLeft E left
 
-module _ {bs : List ℕ} {at t : ℕ} {E : List Axis} {left begin cell₀ room : ℕ} (r : Ready bs at t E left begin cell₀ room) {w : ℕ}
+module _ {bs : List ℕ} {at t : ℕ} {E : List Axis} {left begin cell₀ room : ℕ} (r : TextFits bs at t E left begin cell₀ room) {w : ℕ}
     (e : w ≡ width (axisLeft E left)) where
   -- one axis is left: its cells
   module _ (one : left ≡ 1) where
@@ -113,7 +113,7 @@ module _ {bs : List ℕ} {at t : ℕ} {E : List Axis} {left begin cell₀ room :
 
     module _ {out₀ out : List ℕ} {at₀ cell now n : ℕ}
         (x : Rowing out₀ (textLeft (cellBy bs at t) E (left - 1)) (sizeLeft E (left - 1)) w at₀ cell₀ out cell now n) where
-      pub next-ready : at₀ ≡ begin + 1 → 0 < n → (m : ℕ) → m ≡ room → Ready bs at t E (left - 1) now cell m
+      pub next-ready : at₀ ≡ begin + 1 → 0 < n → (m : ℕ) → m ≡ room → TextFits bs at t E (left - 1) now cell m
       next-ready a h m q =
           let l : at + (cell + sizeLeft E (left - 1)) * cellBytes ≤ length bs = omega (arith, r .lies, more-size, row-cell x h) in
           let f = row-at x begin room a more-fits h in
@@ -154,7 +154,7 @@ module _ {bs : List ℕ} {at : ℕ} {E : List Axis} (v : Whole bs at E) where
       pub whole-fits : 9 + length (textLeft (cellBy bs at t) E rank 0) ≤ room
       whole-fits = rw whole-text (omega (arith, simp (cells-are, length-append) at h))
 
-      pub whole-ready : (first : ℕ) → first ≡ 8 → Ready bs at t E rank first 0 room
+      pub whole-ready : (first : ℕ) → first ≡ 8 → TextFits bs at t E rank first 0 room
       whole-ready first q =
           let s : sizeLeft E rank ≡ cells E = rw (n, all-left) in
           let f : first + length (textLeft (cellBy bs at t) E rank 0) ≤ room = omega (arith, whole-fits) in

@@ -12,7 +12,7 @@ ghost use Rattle.laws.specs.Limits.{Sound};
 ghost use Rattle.json_write.specs.Stores.{Stored};
 ghost use Rattle.json_write.specs.Texts.{comma, axisLeft};
 ghost use Rattle.json_write.specs.Lengths.{marks, cellsLong};
-ghost use Rattle.json_write.specs.Whole.{cellBy, jsonAt, RowReady, RowDrawn, Ready, Drawn, Whole};
+ghost use Rattle.json_write.specs.Whole.{cellBy, jsonAt, RowReady, RowDrawn, TextFits, Drawn, Whole};
 use decimal::int_length;
 use decimal::put_int;
 use decimal::put_text;
@@ -169,7 +169,7 @@ fn put_axes(
     extent: Extent,
     left: usize,
 ) -> Pen
-    requires { ⌜ Ready (now s) from kind (axesOf extent) left (pen .at) (pen .cell) (length (now out)) ⌝ }
+    requires { ⌜ TextFits (now s) from kind (axesOf extent) left (pen .at) (pen .cell) (length (now out)) ⌝ }
     ensures { λ r. ⌜ Drawn (now (s .entry)) from kind (axesOf extent) left (pen .at) (pen .cell) (now (out .entry))
         (r .at) (r .cell) (now (out .exit)) ⌝ }
 {

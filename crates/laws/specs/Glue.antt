@@ -19,7 +19,7 @@ use Rattle.paper.specs.declared.Operation.the-variants.{Moves}
 use Rattle.paper.specs.Refusals.{if_then_else_}
 use Rattle.paper.specs.Axes.{width, cells, sameName, limited, offset, atOffset, axisAt, without, putIn, Array, at}
 use Rattle.paper.specs.Recipe.{agree, glued}
-use Rattle.paper.specs.Values.{fromA, fromB, inSecond, gluedFrom, taken}
+use Rattle.paper.specs.Values.{Whence, fromA, fromB, inFirst, inSecond, taken}
 use Rattle.laws.specs.Tests.{and-left, and-right}
 use Rattle.laws.specs.Places.{Inside, right-pos, offset-atOffset, atOffset-inside, inside-length}
 use Rattle.laws.specs.Limits.{Sound, sound-drop, sound-at, cells-pos}
@@ -297,6 +297,10 @@ module _ (k : ℕ) (E F : List Axis) (g : Gluable k E F) where
         ∙ c
 
 -- ---- the paper's glued cell
+
+-- where it comes from
+abbrev pub gluedFrom : ℕ → List Axis → List Axis → List ℕ → Whence
+gluedFrom k E F p = if inFirst k E p then fromA p else fromB (inSecond k E F p)
 
 abbrev pub gluedCell : ℕ → Array → Array → List ℕ → Cell
 gluedCell k A B p = taken A B (gluedFrom k (A .shape .axes) (B .shape .axes) p)

@@ -3,16 +3,16 @@ use Prim.Native.Nat.{ℕ, zero, suc, _+_, _/_, _%_, _≤_, _<_}
 use mathlib.Core.Path.{_≡_, refl, sym, ap, subst}
 use mathlib.Core.Bool.{true, _&&_}
 use mathlib.Core.List.{List, [], _∷_, _++_, map, append-assoc, append-nil}
-use mathlib.Core.Option.{some}
+use mathlib.Core.Option.{Option, some}
 use native.Mathlib.Omega.{arith}
 use borrow.Author.Tests.{leb-true}
 use lib.Dec.{eqb, leb}
 use lib.ListN.{length, getD, take, drop}
 use Rattle.paper.specs.declared.Operation.{Operation}
 use Rattle.paper.specs.Limits.{headBytes, stepBytes, mostSteps}
-use Rattle.paper.specs.Refusals.{Res, got, _>>_, refusal, present, between, unknown4, badAxis5, outside6, unfit7, differ8, badResult9}
+use Rattle.paper.specs.Refusals.{Res, got, _>>_, if_then_else_, refusal, present, between, unknown4, badAxis5, outside6, unfit7, differ8, badResult9}
 use Rattle.paper.specs.Axes.{Shape}
-use Rattle.paper.specs.Recipe.{Step, Planned, operation, stepOf, operand, operandB, uses, unusedZero, axisIn, typesFit, agree, fitsIn, resultOf, goodResult, stepTests, stepResult, stepOver, planStep, planSteps, planRecipe}
+use Rattle.paper.specs.Recipe.{Step, Planned, operation, stepOf, operand, noShape, uses, unusedZero, axisIn, typesFit, agree, fitsIn, resultOf, goodResult, stepTests, stepResult, stepOver, planStep, planSteps, planRecipe}
 use Rattle.laws.specs.Tests.{got-one, bind-got, ensure-got, ensured, present-got, and-left, and-right}
 
 -- what a step's tests say of it and its operands
@@ -35,6 +35,10 @@ tests-passed k s A B m c e =
     let g = ensure-got (agree op (s .axis) (A .axes) (B .axes)) differ8 k _ tt (t .1) in
     let f = ensured (fitsIn op s A B) outside6 k (g .1) in
     (record { unused = u .0; axis = x .0; types = t .0; agrees = g .0; fits = f }, h .2)
+
+-- operand B, where a step uses one
+abbrev pub operandB : List Shape → List Shape → Step → Option Shape
+operandB arrays earlier s = if uses (s .operation) .b then operand arrays earlier (s .b) else some noShape
 
 -- a step with its operands
 pub record Passed (arrays earlier : List Shape) (p : Planned) : Type 0 where

@@ -14,10 +14,10 @@ use Rattle.paper.specs.Limits.{reach, mostCells}
 use Rattle.paper.specs.Refusals.{if_then_else_}
 use Rattle.paper.specs.Axes.{cells, offset, atOffset, axisAt, without, putIn}
 use Rattle.paper.specs.Recipe.{glued}
-use Rattle.paper.specs.Values.{fromA, fromB, inSecond, gluedFrom}
+use Rattle.paper.specs.Values.{fromA, fromB, inSecond}
 use Rattle.laws.specs.Places.{Inside, offset-lt, offset-atOffset, atOffset-offset, atOffset-inside}
 use Rattle.laws.specs.Joins.{inside-without}
-use Rattle.laws.specs.Glue.{turn, inTurn, blockCells, Gluable, glued-side, glued-left, glued-right}
+use Rattle.laws.specs.Glue.{gluedFrom, turn, inTurn, blockCells, Gluable, glued-side, glued-left, glued-right}
 use Rattle.extent.specs.Tests.{sound-axis}
 use Rattle.origin.specs.declared.Origin.{Origin}
 use Rattle.origin.specs.declared.Origin.the-variants.{FromA, FromB}

@@ -24,7 +24,7 @@ use Rattle.bundle.specs.declared.ArrayRead.{ArrayRead}
 use Rattle.bundle.specs.Read.{JudgedArray}
 use Rattle.pack.specs.declared.judge.FormJudged.{FormJudged}
 use Rattle.pack.specs.declared.judge.Verdict.{Verdict}
-use Rattle.pack.specs.Laid.{shapesOf, shapes-length, shapes-few, cellRoom, formBytes, mostBytes, Ready, ready-packed, ready-small, ready-long, AllReady, laidBytes, restOf, packed-left}
+use Rattle.pack.specs.Laid.{shapesOf, shapes-length, shapes-few, cellRoom, formBytes, mostBytes, FormPassed, ready-packed, ready-small, ready-long, AllReady, laidBytes, restOf, packed-left}
 
 -- ---- one form
 
@@ -37,7 +37,7 @@ over x = record { refusal = x; long = 0 }
 
 pub record JudgedForm (bs : List ℕ) (from k : ℕ) (form : Form) (r : FormJudged) : Type 0 where
   pub no : (r .refusal .number ≡ 0 → ⊥) → packArray k (shapeOf form) (drop from bs) ≡ refused (r .refusal)
-  pub ready : r .refusal .number ≡ 0 → Ready form (drop from bs)
+  pub ready : r .refusal .number ≡ 0 → FormPassed form (drop from bs)
   pub end : r .refusal .number ≡ 0 → r .end ≡ from + cellRoom form
   pub long : r .refusal .number ≡ 0 → r .long ≡ length (formBytes form (drop from bs))
   pub few : r .long ≤ mostBytes
@@ -70,7 +70,7 @@ module _ {bs : List ℕ} {from k : ℕ} {form : Form} where
       form-got w z =
           let f = rw (j .held z) at (j .fit z) in
           let l : cellRoom form ≤ length (drop from bs) = omega (arith, length-drop from bs, f .fits) in
-          let v : Ready form (drop from bs) = record { type = t; rank = rw (← r .number) b; good = f .good; fits = l; clean = f .clean } in
+          let v : FormPassed form (drop from bs) = record { type = t; rank = rw (← r .number) b; good = f .good; fits = l; clean = f .clean } in
           let p = j .past z in
           record {
             no = λ f. absurd (f z);

@@ -59,7 +59,7 @@ abbrev pub mostBytes : ℕ
 mostBytes = typeBytes + mostAxes * axisBytes + mostCells * cellBytes
 
 -- every test of it passed
-pub record Ready (f : Form) (bs : List ℕ) : Type 0 where
+pub record FormPassed (f : Form) (bs : List ℕ) : Type 0 where
   pub type : isType (f .kind) ≡ true
   pub rank : between 1 mostAxes (length (axesOf (f .extent))) ≡ true
   pub good : (goodExtent (axesOf (f .extent)) && within (axesOf (f .extent)) (axesOf (f .maximum))) ≡ true
@@ -90,7 +90,7 @@ cells-written (suc n) t o bs p l h e =
 unfoldable pub arrayIn : Form → List ℕ → Array
 arrayIn f bs = record { shape = shapeOf f; cells = cellsFrom (f .kind) (cellsIn f) bs }
 
-module _ {f : Form} {bs : List ℕ} (v : Ready f bs) where
+module _ {f : Form} {bs : List ℕ} (v : FormPassed f bs) where
   abbrev E : List Axis
   E = axesOf (f .extent)
 
@@ -121,7 +121,7 @@ module _ {f : Form} {bs : List ℕ} (v : Ready f bs) where
 
 abbrev pub AllReady : List Form → List ℕ → Type 0
 AllReady [] bs = Unit {0}
-AllReady (f ∷ fs) bs = Ready f bs × AllReady fs (drop (cellRoom f) bs)
+AllReady (f ∷ fs) bs = FormPassed f bs × AllReady fs (drop (cellRoom f) bs)
 
 -- their bytes in the bundle
 unfoldable pub laidBytes : List Form → List ℕ → List ℕ

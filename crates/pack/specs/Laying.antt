@@ -27,7 +27,7 @@ use Rattle.pack.specs.declared.put.Ends.{Ends}
 use Rattle.laws.specs.Put.{put, put-none, length-put, after}
 use Rattle.cell.proofs.Runs.{stores-at}
 use Rattle.pack.specs.Put.{axes-length}
-use Rattle.pack.specs.Laid.{shapesOf, cellRoom, formBytes, Ready, ready-small, ready-alike, ready-long, AllReady, laidBytes, bundleOf, packed-ready}
+use Rattle.pack.specs.Laid.{shapesOf, cellRoom, formBytes, FormPassed, ready-small, ready-alike, ready-long, AllReady, laidBytes, bundleOf, packed-ready}
 use Rattle.pack.specs.Judging.{JudgedAll}
 
 -- ---- an array
@@ -35,7 +35,7 @@ use Rattle.pack.specs.Judging.{JudgedAll}
 -- a form that was judged, and room for its bytes
 pub record ArrayRoom (form : Form) (bs : List ℕ) (from : ℕ) (d : List ℕ) (at : ℕ) : Type 0 where
   pub start : from ≤ length bs
-  pub ready : Ready form (drop from bs)
+  pub ready : FormPassed form (drop from bs)
   pub room : at + length (formBytes form (drop from bs)) ≤ length d
 
 -- its bytes are put, and its cells and its bytes end there
@@ -119,7 +119,7 @@ module _ {fs : List Form} {bs d₀ d : List ℕ} {from at i : ℕ} (v : Laying f
     unfolding laidBytes
     its-room = rw (e, drop-drop (cellRoom f) from bs, length-append (formBytes f (drop from bs))) at (v .room)
 
-    its-ready : Ready f (drop from bs) × AllReady (drop (i + 1) fs) (drop (from + cellRoom f) bs)
+    its-ready : FormPassed f (drop from bs) × AllReady (drop (i + 1) fs) (drop (from + cellRoom f) bs)
     its-ready = rw (e, drop-drop (cellRoom f) from bs) at (v .ready)
 
     pub laying-room : ArrayRoom f bs from d at

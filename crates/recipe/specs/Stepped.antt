@@ -19,11 +19,11 @@ use Rattle.paper.specs.Limits.{headBytes, detailBytes, stepBytes}
 use Rattle.paper.specs.Refusals.{Res, got, refused, if_then_else_, refusal, unknown4, badResult9}
 use Rattle.paper.specs.Numbers.{part, none?}
 use Rattle.paper.specs.Axes.{cells, Shape, result}
-use Rattle.paper.specs.Recipe.{Step, Planned, operation, stepOf, operand, operandB, noShape, uses, axisIn, resultAxes, resultOf, goodResult, stepTests, stepResult, stepOver, planStep}
+use Rattle.paper.specs.Recipe.{Step, Planned, operation, stepOf, operand, noShape, uses, axisIn, resultAxes, resultOf, goodResult, stepTests, stepResult, stepOver, planStep}
 use Rattle.paper.specs.Answers.{axesOf, shapeOf, unless}
 use Rattle.laws.specs.Answers.{noHead, unless-refused, unless-got}
 use Rattle.laws.specs.Tests.{and-none}
-use Rattle.laws.specs.Passed.{tests-passed}
+use Rattle.laws.specs.Passed.{operandB, tests-passed}
 use Rattle.positions.specs.Runs.{Holds, part-part}
 use Rattle.extent.specs.Judged.{Small, goodCells, good-zero, good-some, good-small}
 use Rattle.step.specs.declared.StepHead.{StepHead}

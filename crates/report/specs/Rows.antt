@@ -68,22 +68,22 @@ row-room i n s l h b =
     omega arith
 
 -- of n rows of k positions, i are written, up to byte `end`
-pub record Filling (bs : List ℕ) (k n : ℕ) (d₀ : List ℕ) (at : ℕ) (d : List ℕ) (end i : ℕ) : Type 0 where
+pub record LinesPut (bs : List ℕ) (k n : ℕ) (d₀ : List ℕ) (at : ℕ) (d : List ℕ) (end i : ℕ) : Type 0 where
   pub turns : i ≤ n
   pub long : length d ≡ length d₀
   pub room : end + (n - i) * mostRow mostAxes ≤ length d
   pub left : (r : ℕ) (y : List ℕ) → Wrote d end (linesAt bs (i * sizeOf k) k (n - i)) r y → Wrote d₀ at (linesAt bs 0 k n) r y
 
 module _ (bs : List ℕ) (k n : ℕ) (d₀ : List ℕ) (at : ℕ) where
-  pub lines-begin : at + n * mostRow mostAxes ≤ length d₀ → Filling bs k n d₀ at d₀ at 0
+  pub lines-begin : at + n * mostRow mostAxes ≤ length d₀ → LinesPut bs k n d₀ at d₀ at 0
   lines-begin h =
       let e : 0 * sizeOf k ≡ 0 = omega arith in
       let f : n - 0 ≡ n = omega arith in
       record { turns = omega arith; long = refl; room = omega arith; left = λ r y w. (rw (e, f) at w) }
 
-  module _ (d : List ℕ) (end i : ℕ) (v : Filling bs k n d₀ at d end i) where
+  module _ (d : List ℕ) (end i : ℕ) (v : LinesPut bs k n d₀ at d end i) where
     pub lines-more : k ≤ mostAxes → i < n → (m : ℕ) (y : List ℕ) → Wrote d end (lineAt bs (i * sizeOf k) k) m y
-        → Filling bs k n d₀ at y m (i + 1)
+        → LinesPut bs k n d₀ at y m (i + 1)
     unfolding linesAt
     lines-more b h m y w =
         let x : List ℕ = lineAt bs (i * sizeOf k) k in

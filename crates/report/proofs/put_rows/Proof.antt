@@ -4,12 +4,12 @@ use borrow.Author.Needs.{needs}
 use native.Mathlib.Omega.{arith}
 use denote.Ref.{now}
 use lib.ListN.{length}
-use Rattle.report.specs.Rows.{sizeOf, Filling, row-room, lines-begin, lines-more, lines-end}
+use Rattle.report.specs.Rows.{sizeOf, LinesPut, row-room, lines-begin, lines-more, lines-end}
 use Rattle.report.proofs.put_rows.Statement.{statement}
 use Rattle.report.proofs.put_rows.Tie as tie
 
 abbrev Inv-loop : tie.InvT-loop
-Inv-loop rows n rank out₀ at size end₀ i₀ out end i = Filling rows rank n out₀ end₀ out end i
+Inv-loop rows n rank out₀ at size end₀ i₀ out end i = LinesPut rows rank n out₀ end₀ out end i
 
 abbrev μ-loop : tie.MeasureT-loop
 μ-loop rows n rank out₀ at size end₀ i₀ out end i = n - i
