@@ -6,7 +6,8 @@
 //!
 //! The engine is the static library `librma.a`, proved in Rattle. This crate adds types and iterators, and judges nothing itself: what
 //! a type here can say and the engine's bytes can't (a name of nine letters, a FLOAT among INTs, a fifth pair) is handed on as bytes
-//! that the engine refuses, at the place where it stands. [`raw`] has the ten functions as they are.
+//! that the engine refuses, at the place where it stands. [`raw`] has the ten functions as they are; the repository's `docs/FORMAT.md`
+//! has every byte that they take and give.
 //!
 //! # Eleven hours
 //!
