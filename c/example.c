@@ -53,17 +53,20 @@ static uint32_t list(int print, unsigned *found)
     return refused;
 }
 
-/* Prints the listing. The number of rows stands first, so the pages are gone through twice. The length of a row, 8 to 20, is that of
- * the shortest row buffer that isn't refused with 11: ordinality 1 is always a good start. */
+/* Prints the listing, or the refusal, with its words on standard error. The plan tells how long a row is: four bytes and four for each
+ * axis of the last result. The number of rows stands first, so the pages are gone through twice. */
 static void print_listing(void)
 {
     unsigned found;
-    resize(&work, MOST);
-    for (resize(&row, 8); row.len < 20 && page(1) == 11;)
-        resize(&row, row.len + 4);
-    uint32_t refused = list(0, &found);
+    uint32_t refused = rma_plan(roster.at, roster.len, recipe.at, recipe.len, said, sizeof said);
+    if (refused == 0) {
+        resize(&work, MOST);
+        resize(&row, 4 + 4 * rma_u32(said + 8));
+        refused = list(0, &found);
+    }
     if (refused) {
         printf("refused %u %u %u\n", refused, rma_u32(said), rma_u32(said + 4));
+        fprintf(stderr, "place %u: %s\n", rma_u32(said), rma_words(refused));
     } else {
         printf("found %u\n", found);
         list(1, &found);

@@ -1,10 +1,10 @@
-/* The C face of Rovgrint, a proved engine for small multi-dimensional arrays: ten functions of librma.a (x86-64 Linux).
+/* The C face of Rovgrint, a proved engine for small multi-dimensional arrays: twelve functions of librma.a (x86-64 Linux).
  * `rt staticlib rma` at the repository's root proves and writes target/staticlib/librma.a. An example is c/example.c. docs/FORMAT.md
  * has bundles, recipes, rows, heads and answers byte by byte.
  *
  * Rules of every call:
  * - A byte slice is two arguments, a pointer and its length. The pointer is never NULL, also for length 0.
- * - A buffer that a call writes to (out, work, rows, place, said) overlaps no other argument. Nothing else is written to.
+ * - A buffer that a call writes to (out, work, rows, place, extent, said) overlaps no other argument. Nothing else is written to.
  * - Numbers in bytes are little-endian. Arrays, axis indexes, steps and ordinalities are counted from 1.
  * - No call keeps a pointer, allocates or prints. None has a condition to meet: bytes of any length and content get an answer.
  * - A call returns the number of its refusal, 0 for none. Refused, `said` begins with the place and the ordinality (two u32);
@@ -20,8 +20,8 @@
  * Refusals: 1 mark, version, count, type, axis count or length bad. 2 extent bad: names, limits, maximum, over 4,096 cells.
  * 3 not a cell. 4 recipe length, operation, operand, operator, unused byte, or no such array. 5 no such axis, or wrong number of
  * coordinates. 6 outside. 7 types unfit. 8 axis count, names or limits differ. 9 the result's extent is bad. 10 work area under 9T
- * bytes. 11 no room for a row, or start outside. 12 a value doesn't fit. 13 division by zero. 14 no room for the bundle or
- * the text. */
+ * bytes. 11 no room for a row, or start outside. 12 a value doesn't fit. 13 division by zero. 14 no room for the bundle,
+ * the text or the head. rma_words has them as sentences. */
 #ifndef RMA_H
 #define RMA_H
 
@@ -77,6 +77,17 @@ uint32_t rma_total(const uint8_t *bundle, size_t bundle_len, uint32_t array, uin
 uint32_t rma_write_json(const uint8_t *bundle, size_t bundle_len, uint32_t array, uint8_t *out, size_t out_len, uint8_t *said,
                         size_t said_len);
 
+/* Plans a recipe over a bundle: nothing is lent, and nothing is run. `said`: T, the number of cells of all results together, then of the
+ * last result the type, the axis count and the number of cells (four u32). So a work area of 9T bytes is enough, and a row has 4 and 4
+ * times the axis count. Refused as rma_read, 4 with place 0 (recipe length), with the step as place 4, 5, 7, 8, 6, 9. */
+uint32_t rma_plan(const uint8_t *bundle, size_t bundle_len, const uint8_t *recipe, size_t recipe_len, uint8_t *said, size_t said_len);
+
+/* Tells the extent of a recipe's last result. `said`: the head's length, RMA_HEAD (u32). `extent`: a whole head, as rma_pack takes it:
+ * maxima -1,000,000 and 1,000,000, slots past the last axis zeros; then what was there; untouched by a refusal. Refused as rma_plan, then
+ * with place 0 14 (`extent` is shorter than RMA_HEAD). */
+uint32_t rma_extent(const uint8_t *bundle, size_t bundle_len, const uint8_t *recipe, size_t recipe_len, uint8_t *extent,
+                    size_t extent_len, uint8_t *said, size_t said_len);
+
 /* Runs a recipe of 1 to 16 steps, 36 bytes each, over a bundle. `said`: T, the number of cells of all results together (u32).
  * `work`: these cells in step order, 9T bytes, then what was there. Refused as rma_read, 4 with place 0 (recipe length), with the
  * step as place 4, 5, 7, 8, 6, 9, then 10: `work` is untouched. Then 12 or 13, with step and ordinality: the first 9T bytes of `work`
@@ -100,6 +111,29 @@ uint32_t rma_page(const uint8_t *bundle, size_t bundle_len, const uint8_t *recip
 uint32_t rma_stretch(const uint8_t *left_head, size_t left_head_len, const uint8_t *left_cells, size_t left_cells_len,
                      const uint8_t *right_head, size_t right_head_len, const uint8_t *right_cells, size_t right_cells_len,
                      uint32_t axis, uint32_t ordinality, uint8_t *said, size_t said_len);
+
+/* A refusal's number in words, for a person; "done" for 0. Place and ordinality say where: an array, a step or a side, and a cell. */
+static inline const char *rma_words(uint32_t number)
+{
+    static const char *const words[] = {
+        "done",
+        "the mark, version, count, type, axis count or number of bytes is bad",
+        "the extent is bad: a name, a limit, the declared maximum, or over 4,096 cells",
+        "not a cell of the array's type",
+        "no such array; or the recipe's length, an operation, an operand or an operator is unknown, or an unused byte is not zero",
+        "no such axis, or not one number for each axis",
+        "outside the array or beyond its declared maximum",
+        "the types do not fit, or what is listed is not BOOLEAN",
+        "the two arrays do not agree in axes, names or limits",
+        "the result's extent is bad: no axis, a name, a limit, or over 4,096 cells",
+        "the work area is under nine bytes for each cell of all results",
+        "the row buffer has no room for one row, or the start is outside the listing",
+        "the value does not fit",
+        "division by zero",
+        "the output buffer is too short",
+    };
+    return number < sizeof words / sizeof *words ? words[number] : "no such refusal";
+}
 
 /* The number in four bytes of an answer, a row or a head. A coordinate is (int32_t)rma_u32(..). */
 static inline uint32_t rma_u32(const uint8_t *at)

@@ -11,16 +11,45 @@ use crate::refusal::Refusal;
 #[derive(Clone, Debug, PartialEq, Eq)]
 pub struct Bundle<'a> {
     pub(crate) bytes: &'a [u8],
-    /// The arrays' types, to tell cells that the engine answers, and how many axes each has.
-    pub(crate) arrays: Vec<(Kind, usize)>,
+    arrays: Vec<Lies>,
 }
 
+/// Where an array lies in a bundle that was accepted.
+#[derive(Clone, Copy, Debug, PartialEq, Eq)]
+struct Lies {
+    kind: Kind,
+    /// The bytes at which its axes and its cells begin, and at which its cells end.
+    axes: usize,
+    cells: usize,
+    end: usize,
+}
+
+impl Lies {
+    /// The array that begins at byte `from` of an accepted bundle: type, axis count, axes, cells.
+    fn at(bytes: &[u8], from: usize) -> Lies {
+        let axes = from + 2;
+        let cells = axes + AXIS * usize::from(bytes[from + 1]);
+        let head = Head { kind: Kind::of(u32::from(bytes[from])), axes: axes_in(&bytes[axes..cells]) };
+        Lies { kind: head.kind, axes, cells, end: cells + CELL * head.cells() }
+    }
+}
+
+/// The axes in bytes of a bundle that was accepted.
+fn axes_in(bytes: &[u8]) -> Vec<Axis> {
+    bytes.chunks_exact(AXIS).map(Axis::judged).collect()
+}
+
+/// The bytes before a bundle's first array: mark, version, count.
+const OPENING: usize = 6;
+
 impl<'a> Bundle<'a> {
-    /// Reads a bundle. Refused 1, 2, 3.
+    /// Reads a bundle: the engine judges it, once; where its arrays lie then stands in the accepted bytes. Refused 1, 2, 3.
     pub fn read(bytes: &'a [u8]) -> Result<Bundle<'a>, Refusal> {
         let count = call::read(bytes)?.number(0);
-        let told = |k| call::array(bytes, k).map(|said| (Kind::of(said.number(0)), said.number(1) as usize));
-        let arrays = (1..=count).map(told).collect::<Result<_, _>>()?;
+        let mut arrays: Vec<Lies> = Vec::new();
+        for _ in 0..count {
+            arrays.push(Lies::at(bytes, arrays.last().map_or(OPENING, |before| before.end)));
+        }
         Ok(Bundle { bytes, arrays })
     }
 
@@ -36,12 +65,17 @@ impl<'a> Bundle<'a> {
 
     /// Array k: its type, its axes, its cells. Refused 4.
     pub fn array(&self, k: u32) -> Result<Array<'a>, Refusal> {
-        let said = call::array(self.bytes, k)?;
-        let [axes, cells, begin] = [1, 2, 3].map(|n| said.number(n) as usize);
-        let axis_bytes = &self.bytes[begin - axes * AXIS..begin];
-        let axes = axis_bytes.chunks_exact(AXIS).map(Axis::judged).collect();
-        let head = Head { kind: Kind::of(said.number(0)), axes };
-        Ok(Array { head, bytes: &self.bytes[begin..begin + cells * CELL], bundle: self.bytes, number: k })
+        let lies = self.lies(k)?;
+        let head = Head { kind: lies.kind, axes: axes_in(&self.bytes[lies.axes..lies.cells]) };
+        Ok(Array { head, bytes: &self.bytes[lies.cells..lies.end], bundle: self.bytes, number: k })
+    }
+
+    /// Where array k lies, or the engine's refusal.
+    fn lies(&self, k: u32) -> Result<Lies, Refusal> {
+        match k.checked_sub(1).and_then(|at| self.arrays.get(at as usize)) {
+            Some(lies) => Ok(*lies),
+            None => Err(call::array(self.bytes, k).err().expect("an array that isn't there is refused")),
+        }
     }
 
     /// The cell of array k at a coordinate: empty where that lies inside the declared maximum but not in the array. Refused 4, then 5
@@ -62,11 +96,10 @@ impl<'a> Bundle<'a> {
         Ok(seen.then(|| self.told(k, &said.bytes()[1..=CELL])))
     }
 
-    /// All cells of array k in row-major order, one walk. Refused 4.
-    pub fn walk(&self, k: u32) -> Result<Walk<'_>, Refusal> {
-        let mut tried = 1;
-        self.walk_on(k, &mut tried)?;
-        Ok(Walk { bundle: self, array: k, place: 1 })
+    /// All cells of array k in row-major order, as a walk from 1 on sees them, with no further judging of the bundle. Refused 4.
+    pub fn walk(&self, k: u32) -> Result<Walk<'a>, Refusal> {
+        let lies = self.lies(k)?;
+        Ok(Walk { kind: lies.kind, left: &self.bytes[lies.cells..lies.end] })
     }
 
     /// A total of array k, its empty cells skipped; a count is a [`Cell::Int`]. Refused 4, then 7 for a type that it isn't for, then 12
@@ -82,7 +115,7 @@ impl<'a> Bundle<'a> {
 
     /// A cell that the engine answered of array k; there is such an array, or it had refused.
     fn told(&self, k: u32, bytes: &[u8]) -> Cell {
-        Cell::judged(self.arrays[k as usize - 1].0, bytes)
+        Cell::judged(self.arrays[k as usize - 1].kind, bytes)
     }
 }
 
@@ -172,19 +205,26 @@ impl<'a> Array<'a> {
 
 /// A walk over an array's cells, begun at ordinality 1; see [`Bundle::walk`].
 #[derive(Clone, Debug)]
-pub struct Walk<'b> {
-    bundle: &'b Bundle<'b>,
-    array: u32,
-    place: u32,
+pub struct Walk<'a> {
+    kind: Kind,
+    /// The bytes of the cells that were not seen yet.
+    left: &'a [u8],
 }
 
 impl Iterator for Walk<'_> {
     type Item = Cell;
 
     fn next(&mut self) -> Option<Cell> {
-        let seen = self.bundle.walk_on(self.array, &mut self.place);
-        seen.expect("a walk from 1 stays inside the array")
+        let (cell, left) = self.left.split_at_checked(CELL)?;
+        self.left = left;
+        Some(Cell::judged(self.kind, cell))
+    }
+
+    fn size_hint(&self) -> (usize, Option<usize>) {
+        (self.left.len() / CELL, Some(self.left.len() / CELL))
     }
 }
+
+impl ExactSizeIterator for Walk<'_> {}
 
 impl FusedIterator for Walk<'_> {}

@@ -1,8 +1,8 @@
-//! The ten functions over slices: all of the crate's unsafe code. A slice's pointer is never null and points to its length's bytes; a
+//! The twelve functions over slices: all of the crate's unsafe code. A slice's pointer is never null and points to its length's bytes; a
 //! `&mut` slice overlaps no other argument, by the borrow rules; the engine keeps none. That is all that the functions ask for.
 
 use crate::raw;
-use crate::refusal::Refusal;
+use crate::refusal::{Counts, Refusal};
 
 /// What a call said: its answer, then zeros.
 pub(crate) struct Said([u8; raw::SAID]);
@@ -22,31 +22,37 @@ impl Said {
 /// An answer, or a refusal with its place and ordinality.
 pub(crate) type Answer = Result<Said, Refusal>;
 
-/// Lends `said` to a call, and takes what it answers apart.
-fn answer(call: impl FnOnce(&mut [u8]) -> u32) -> Answer {
+/// Lends `said` to a call, and takes what it answers apart. The bundle is judged first, by array; a call of another kind then counts as told.
+fn answer(counts: Counts, call: impl FnOnce(&mut [u8]) -> u32) -> Answer {
     let mut said = Said([0; raw::SAID]);
     match call(&mut said.0) {
         0 => Ok(said),
-        number => Err(Refusal { number, place: said.number(0), ordinality: said.number(1) }),
+        number => {
+            let counts = if counts == Counts::Steps && number <= LAST_OF_BUNDLE { Counts::Arrays } else { counts };
+            Err(Refusal { number, place: said.number(0), ordinality: said.number(1), counts })
+        }
     }
 }
 
+/// The last refusal that a bundle is refused with.
+const LAST_OF_BUNDLE: u32 = 3;
+
 pub(crate) fn read(bundle: &[u8]) -> Answer {
-    answer(|said| {
+    answer(Counts::Arrays, |said| {
         // SAFETY: each pointer and length are one slice's; `said`, which is written to, is borrowed alone.
         unsafe { raw::rma_read(bundle.as_ptr(), bundle.len(), said.as_mut_ptr(), said.len()) }
     })
 }
 
 pub(crate) fn array(bundle: &[u8], array: u32) -> Answer {
-    answer(|said| {
+    answer(Counts::Arrays, |said| {
         // SAFETY: each pointer and length are one slice's; `said`, which is written to, is borrowed alone.
         unsafe { raw::rma_array(bundle.as_ptr(), bundle.len(), array, said.as_mut_ptr(), said.len()) }
     })
 }
 
 pub(crate) fn pack(heads: &[u8], cells: &[u8], out: &mut [u8]) -> Answer {
-    answer(|said| {
+    answer(Counts::Arrays, |said| {
         // SAFETY: each pointer and length are one slice's; `out` and `said`, which are written to, are borrowed alone.
         unsafe {
             raw::rma_pack(
@@ -65,14 +71,14 @@ pub(crate) fn pack(heads: &[u8], cells: &[u8], out: &mut [u8]) -> Answer {
 
 pub(crate) fn refer(bundle: &[u8], array: u32, coordinate: &[u8]) -> Answer {
     let (at, len) = (coordinate.as_ptr(), coordinate.len());
-    answer(|said| {
+    answer(Counts::Arrays, |said| {
         // SAFETY: each pointer and length are one slice's; `said`, which is written to, is borrowed alone.
         unsafe { raw::rma_refer(bundle.as_ptr(), bundle.len(), array, at, len, said.as_mut_ptr(), said.len()) }
     })
 }
 
 pub(crate) fn walk(bundle: &[u8], array: u32, place: &mut [u8]) -> Answer {
-    answer(|said| {
+    answer(Counts::Arrays, |said| {
         let (at, len) = (place.as_mut_ptr(), place.len());
         // SAFETY: each pointer and length are one slice's; `place` and `said`, which are written to, are borrowed alone.
         unsafe { raw::rma_walk(bundle.as_ptr(), bundle.len(), array, at, len, said.as_mut_ptr(), said.len()) }
@@ -80,22 +86,47 @@ pub(crate) fn walk(bundle: &[u8], array: u32, place: &mut [u8]) -> Answer {
 }
 
 pub(crate) fn total(bundle: &[u8], array: u32, which: u32) -> Answer {
-    answer(|said| {
+    answer(Counts::Arrays, |said| {
         // SAFETY: each pointer and length are one slice's; `said`, which is written to, is borrowed alone.
         unsafe { raw::rma_total(bundle.as_ptr(), bundle.len(), array, which, said.as_mut_ptr(), said.len()) }
     })
 }
 
 pub(crate) fn write_json(bundle: &[u8], array: u32, out: &mut [u8]) -> Answer {
-    answer(|said| {
+    answer(Counts::Arrays, |said| {
         let (at, len) = (out.as_mut_ptr(), out.len());
         // SAFETY: each pointer and length are one slice's; `out` and `said`, which are written to, are borrowed alone.
         unsafe { raw::rma_write_json(bundle.as_ptr(), bundle.len(), array, at, len, said.as_mut_ptr(), said.len()) }
     })
 }
 
+pub(crate) fn plan(bundle: &[u8], recipe: &[u8]) -> Answer {
+    answer(Counts::Steps, |said| {
+        // SAFETY: each pointer and length are one slice's; `said`, which is written to, is borrowed alone.
+        unsafe { raw::rma_plan(bundle.as_ptr(), bundle.len(), recipe.as_ptr(), recipe.len(), said.as_mut_ptr(), said.len()) }
+    })
+}
+
+pub(crate) fn extent(bundle: &[u8], recipe: &[u8], extent: &mut [u8]) -> Answer {
+    answer(Counts::Steps, |said| {
+        // SAFETY: each pointer and length are one slice's; `extent` and `said`, which are written to, are borrowed alone.
+        unsafe {
+            raw::rma_extent(
+                bundle.as_ptr(),
+                bundle.len(),
+                recipe.as_ptr(),
+                recipe.len(),
+                extent.as_mut_ptr(),
+                extent.len(),
+                said.as_mut_ptr(),
+                said.len(),
+            )
+        }
+    })
+}
+
 pub(crate) fn run(bundle: &[u8], recipe: &[u8], work: &mut [u8]) -> Answer {
-    answer(|said| {
+    answer(Counts::Steps, |said| {
         // SAFETY: each pointer and length are one slice's; `work` and `said`, which are written to, are borrowed alone.
         unsafe {
             raw::rma_run(
@@ -113,7 +144,7 @@ pub(crate) fn run(bundle: &[u8], recipe: &[u8], work: &mut [u8]) -> Answer {
 }
 
 pub(crate) fn page(bundle: &[u8], recipe: &[u8], work: &mut [u8], start: u32, rows: &mut [u8]) -> Answer {
-    answer(|said| {
+    answer(Counts::Steps, |said| {
         // SAFETY: each pointer and length are one slice's; `work`, `rows` and `said`, which are written to, are borrowed alone.
         unsafe {
             raw::rma_page(
@@ -137,7 +168,7 @@ pub(crate) fn page(bundle: &[u8], recipe: &[u8], work: &mut [u8], start: u32, ro
 type Side<'a> = (&'a [u8], &'a [u8]);
 
 pub(crate) fn stretch(left: Side<'_>, right: Side<'_>, axis: u32, ordinality: u32) -> Answer {
-    answer(|said| {
+    answer(Counts::Sides, |said| {
         // SAFETY: each pointer and length are one slice's; `said`, which is written to, is borrowed alone.
         unsafe {
             raw::rma_stretch(

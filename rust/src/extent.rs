@@ -89,6 +89,12 @@ impl Head {
         self.axes.iter().fold(1, |cells: usize, axis| cells.saturating_mul(axis.width()))
     }
 
+    /// The head in bytes that the engine has written.
+    pub(crate) fn judged(bytes: &[u8; HEAD]) -> Head {
+        let axes = bytes[2..].chunks_exact(AXIS).take(usize::from(bytes[1]));
+        Head { kind: Kind::of(u32::from(bytes[0])), axes: axes.map(Axis::judged).collect() }
+    }
+
     /// The head's bytes, as the engine takes them. More than four axes are told by their number alone, which is refused.
     pub(crate) fn to_bytes(&self) -> [u8; HEAD] {
         let mut bytes = [0; HEAD];

@@ -6,7 +6,7 @@
 //!
 //! The engine is the static library `librma.a`, proved in Rattle. This crate adds types and iterators, and judges nothing itself: what
 //! a type here can say and the engine's bytes can't (a name of nine letters, a FLOAT among INTs, a fifth pair) is handed on as bytes
-//! that the engine refuses, at the place where it stands. [`raw`] has the ten functions as they are; the repository's `docs/FORMAT.md`
+//! that the engine refuses, at the place where it stands. [`raw`] has the twelve functions as they are; the repository's `docs/FORMAT.md`
 //! has every byte that they take and give.
 //!
 //! # Eleven hours
@@ -31,8 +31,7 @@
 //!     .pair(step(2), step(3), Operator::Minus) // step 4: the rests
 //!     .right_scalar(step(4), Operator::Less, Cell::Int(660)); // step 5: those below eleven hours
 //!
-//! let (mut work, mut page) = ([0; 180], [0; 24]);
-//! let rows: Vec<Row> = roster.rows(recipe.bytes(), &mut work, &mut page)?.collect();
+//! let rows: Vec<Row> = roster.listing(&recipe)?.collect();
 //! assert_eq!(rows, [Row { ordinality: 3, coordinate: vec![2, 1] }]); // person 2, turn 1
 //!
 //! let no_shift = Recipe::new()
@@ -40,8 +39,9 @@
 //!     .trim(2, &[(1, 2), (1, 2)])
 //!     .pair(step(1), step(2), Operator::Minus) // the turns 2:3 and 1:2 don't meet
 //!     .right_scalar(step(3), Operator::Less, Cell::Int(660));
-//! let refusal = roster.rows(no_shift.bytes(), &mut work, &mut page).unwrap_err();
+//! let refusal = roster.listing(&no_shift).unwrap_err();
 //! assert_eq!(refusal.to_string(), "refused 8 3 0");
+//! assert_eq!(refusal.words(), "step 3: the two arrays do not agree in axes, names or limits");
 //! # Ok::<(), rovgrint::Refusal>(())
 //! ```
 
@@ -64,8 +64,8 @@ mod stretch;
 pub use bundle::{Array, Bundle, Total, Walk};
 pub use cell::{Cell, Kind, CELL};
 pub use extent::{Axis, Head, STAR};
-pub use listing::{Page, Row, Rows, MOST_WORK};
+pub use listing::{Page, Plan, Row, Rows, MOST_WORK};
 pub use pack::pack;
 pub use recipe::{step, Operator, Recipe, Single};
-pub use refusal::Refusal;
+pub use refusal::{Counts, Refusal};
 pub use stretch::stretch;

@@ -1,7 +1,7 @@
-//! The engine's ten functions as the static library has them. `include/rma.h` tells the same in C.
+//! The engine's twelve functions as the static library has them. `include/rma.h` tells the same in C.
 //!
 //! Each byte slice is two arguments, a pointer and its length. Pointers are never null, also for length 0, and point to as many bytes.
-//! A buffer that a call writes to (`out`, `work`, `rows`, `place`, `said`) overlaps no other argument. Numbers in bytes are
+//! A buffer that a call writes to (`out`, `work`, `rows`, `place`, `extent`, `said`) overlaps no other argument. Numbers in bytes are
 //! little-endian. No call keeps a pointer, allocates or prints, and none has another condition to meet: bytes of any length and
 //! content get an answer.
 //!
@@ -77,6 +77,23 @@ extern "C" {
         array: u32,
         out: *mut u8,
         out_len: usize,
+        said: *mut u8,
+        said_len: usize,
+    ) -> u32;
+
+    /// Plans a recipe: lends nothing, runs nothing. `said`: T, the cells of all results, and the type, axis count and number of cells of the
+    /// last one. Refused as [`rma_read`], then 4 to 9 by step.
+    pub fn rma_plan(bundle: *const u8, bundle_len: usize, recipe: *const u8, recipe_len: usize, said: *mut u8, said_len: usize) -> u32;
+
+    /// Tells the last result's extent. `said`: the head's length. `extent`: a whole head, the maxima -1,000,000 and 1,000,000, slots past
+    /// the last axis zeros, then what was there; untouched by a refusal. Refused as [`rma_plan`], then 14 (`extent` is shorter than a head).
+    pub fn rma_extent(
+        bundle: *const u8,
+        bundle_len: usize,
+        recipe: *const u8,
+        recipe_len: usize,
+        extent: *mut u8,
+        extent_len: usize,
         said: *mut u8,
         said_len: usize,
     ) -> u32;

@@ -4,13 +4,13 @@ use crate::cell::Cell;
 use crate::extent::name_bytes;
 
 /// The bytes of a step.
-pub(crate) const STEP: usize = 36;
+const STEP: usize = 36;
 
 /// The operation that removes an axis.
-pub(crate) const SLICE: u8 = 2;
+const SLICE: u8 = 2;
 
 /// The result of step k is operand k and this.
-pub(crate) const STEPS_FROM: usize = 16;
+const STEPS_FROM: usize = 16;
 
 /// The operand that is the result of step k, 1 to 16, of the recipe. (Operands 1 to 4 are the bundle's arrays.)
 pub const fn step(k: u8) -> u8 {
@@ -104,6 +104,12 @@ pub enum Single {
 #[derive(Clone, Debug, Default, PartialEq, Eq, Hash)]
 pub struct Recipe {
     bytes: Vec<u8>,
+}
+
+impl AsRef<[u8]> for Recipe {
+    fn as_ref(&self) -> &[u8] {
+        self.bytes()
+    }
 }
 
 impl Recipe {

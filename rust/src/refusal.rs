@@ -1,7 +1,8 @@
-//! A refusal: why the engine gave no answer, and where.
+//! A refusal: why the engine gave no answer, and where; in figures and in words.
 
 use std::error::Error;
 use std::fmt;
+use std::hash::{Hash, Hasher};
 
 /// A refusal of the engine. It prints as `refused 8 3 0`: number, place, ordinality.
 ///
@@ -20,15 +21,120 @@ use std::fmt;
 /// | 11 | no room for one row; start 0 or over cells + 1 |
 /// | 12 | an INT result doesn't fit or a FLOAT result isn't finite, 13 aside |
 /// | 13 | a filled cell or a scalar is divided by zero (either sign), or MOD zero |
-/// | 14 | the output buffer is shorter than the bundle packed or the JSON text |
-#[derive(Clone, Copy, Debug, PartialEq, Eq, PartialOrd, Ord, Hash)]
+/// | 14 | the output buffer is shorter than the bundle packed, the JSON text or the head |
+///
+/// Two refusals are equal if these three figures are.
+#[derive(Clone, Copy, Debug)]
 pub struct Refusal {
     /// 1 to 14, as in the table above.
     pub number: u32,
-    /// The array or the step, counted from 1; 0 for what belongs to none.
+    /// The array, the step or the side, counted from 1; 0 for what belongs to none.
     pub place: u32,
     /// The cell, with 3, 12 and 13; else 0.
     pub ordinality: u32,
+    /// What the place counts.
+    pub counts: Counts,
+}
+
+/// What a refusal's place counts.
+#[derive(Clone, Copy, Debug, PartialEq, Eq, PartialOrd, Ord, Hash)]
+pub enum Counts {
+    /// The arrays of a bundle.
+    Arrays,
+    /// The steps of a recipe.
+    Steps,
+    /// The sides of a stretch: 1 is the left one, 2 the right one.
+    Sides,
+}
+
+impl Refusal {
+    /// Number, place, ordinality.
+    pub fn figures(&self) -> [u32; 3] {
+        [self.number, self.place, self.ordinality]
+    }
+
+    /// The refusal as one plain sentence, with its place and its cell.
+    ///
+    /// ```
+    /// use rovgrint::{Counts, Refusal};
+    ///
+    /// let refusal = Refusal { number: 8, place: 3, ordinality: 0, counts: Counts::Steps };
+    /// assert_eq!(refusal.words(), "step 3: the two arrays do not agree in axes, names or limits");
+    /// assert_eq!(refusal.to_string(), "refused 8 3 0");
+    /// ```
+    pub fn words(&self) -> String {
+        let place = match (self.counts, self.place) {
+            (_, 0) => String::new(),
+            (Counts::Arrays, k) => format!("array {k}"),
+            (Counts::Steps, k) => format!("step {k}"),
+            (Counts::Sides, 1) => "the left side".to_string(),
+            (Counts::Sides, _) => "the right side".to_string(),
+        };
+        let cell = if self.ordinality == 0 { String::new() } else { format!("cell {}", self.ordinality) };
+        let places: Vec<String> = [place, cell].into_iter().filter(|text| !text.is_empty()).collect();
+        let reason = self.reason();
+        if places.is_empty() {
+            reason.to_string()
+        } else {
+            format!("{}: {reason}", places.join(", "))
+        }
+    }
+
+    /// What its number says of an array, a step or a side.
+    fn reason(&self) -> &'static str {
+        match (self.number, self.counts, self.place) {
+            (1, Counts::Arrays, 0) => "the bundle's mark, version, number of arrays or length is bad",
+            (1, _, _) => "its type, axis count or number of bytes is bad",
+            (2, _, _) => "its extent is bad: a name, a limit, the declared maximum, or over 4,096 cells",
+            (3, _, _) => "this is no cell of the array's type",
+            (4, Counts::Arrays, _) => "there is no such array",
+            (4, _, 0) => "a recipe is one to sixteen steps of 36 bytes",
+            (4, _, _) => "the operation, an operand or the operator is unknown, or a byte that is not used is not zero",
+            (5, Counts::Arrays, _) => "a coordinate has one number for each axis",
+            (5, _, _) => "there is no such axis",
+            (6, Counts::Arrays, _) => "the coordinate lies beyond the declared maximum, or the walking place outside the array",
+            (6, Counts::Steps, _) => "the limits, the position or the patch lie outside the array",
+            (6, Counts::Sides, _) => "the ordinality lies outside the glued array",
+            (7, Counts::Arrays, _) => "this cannot be asked of an array of that type",
+            (7, Counts::Steps, _) => "the types do not fit, or a listing's last result is not BOOLEAN",
+            (7, Counts::Sides, _) => "the two arrays have different types",
+            (8, _, _) => "the two arrays do not agree in axes, names or limits",
+            (9, _, _) => "the result's extent is bad: no axis, a name, a limit, or over 4,096 cells",
+            (10, _, _) => "the work area is under nine bytes for each cell of all results",
+            (11, _, _) => "the row buffer has no room for one row, or the start is outside the listing",
+            (12, Counts::Arrays, _) => "the sum or the average does not fit",
+            (12, _, _) => "the value does not fit",
+            (13, _, _) => "division by zero",
+            (14, _, _) => "the output buffer is too short",
+            _ => "no such refusal",
+        }
+    }
+}
+
+impl PartialEq for Refusal {
+    fn eq(&self, other: &Refusal) -> bool {
+        self.figures() == other.figures()
+    }
+}
+
+impl Eq for Refusal {}
+
+impl Hash for Refusal {
+    fn hash<H: Hasher>(&self, state: &mut H) {
+        self.figures().hash(state);
+    }
+}
+
+impl PartialOrd for Refusal {
+    fn partial_cmp(&self, other: &Refusal) -> Option<std::cmp::Ordering> {
+        Some(self.cmp(other))
+    }
+}
+
+impl Ord for Refusal {
+    fn cmp(&self, other: &Refusal) -> std::cmp::Ordering {
+        self.figures().cmp(&other.figures())
+    }
 }
 
 impl fmt::Display for Refusal {

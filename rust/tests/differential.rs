@@ -28,7 +28,7 @@ struct Tally {
 /// The cases so far: their tallies, what they met, and how many differ.
 struct Report {
     seed: u64,
-    tallies: [Tally; 10],
+    tallies: [Tally; FUNCTIONS.len()],
     met: Met,
     met_json: MetJson,
     cases: u64,
@@ -112,7 +112,7 @@ fn library_and_paper_answer_alike() {
     print(&format!("seed {seed}"));
     let mut dice = Dice::new(seed);
     let (met, met_json) = (Met::new(), MetJson::new());
-    let mut report = Report { seed, tallies: [Tally::default(); 10], met, met_json, cases: 0, differ: 0 };
+    let mut report = Report { seed, tallies: [Tally::default(); FUNCTIONS.len()], met, met_json, cases: 0, differ: 0 };
     while report.cases < wanted {
         for case in cases::of_function(&mut dice, report.next_function()) {
             report.compare(&case);

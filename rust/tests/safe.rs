@@ -1,10 +1,12 @@
 //! The safe layer, tried: the requirements' cases on both sides of each line, iterators against the calls that they stand on, and what
 //! a Rust value can say and a bundle can't, which the engine has to refuse.
 
-use rovgrint::{pack, step, stretch, Axis, Bundle, Cell, Head, Kind, Operator, Page, Recipe, Refusal, Row, Single, Total, CELL, MOST_WORK};
+use rovgrint::{
+    pack, step, stretch, Axis, Bundle, Cell, Counts, Head, Kind, Operator, Page, Recipe, Refusal, Row, Single, Total, CELL, MOST_WORK,
+};
 
 fn refused(number: u32, place: u32, ordinality: u32) -> Refusal {
-    Refusal { number, place, ordinality }
+    Refusal { number, place, ordinality, counts: Counts::Arrays } // equal by its figures
 }
 
 fn ints(numbers: impl IntoIterator<Item = i64>) -> Vec<Cell> {
@@ -557,5 +559,189 @@ mod not_hidden {
         let bytes = roster();
         assert_eq!(Bundle::read(&bytes[..bytes.len() - 1]).map(|_| ()), Err(refused(1, 2, 0)));
         assert_eq!(refused(8, 3, 0).to_string(), "refused 8 3 0");
+    }
+}
+
+/// A plan before a run: what it tells, what it refuses, and listings that lend themselves what the plan says.
+mod plans {
+    use super::*;
+    use rovgrint::{raw, Plan, STAR};
+
+    #[test]
+    fn the_figures_of_eleven_hours() {
+        let bytes = roster();
+        let bundle = Bundle::read(&bytes).unwrap();
+        let plan = bundle.plan(&rests()).unwrap();
+        assert_eq!(plan, Plan { total: 20, kind: Kind::Boolean, axes: 2, cells: 4 });
+        assert_eq!((plan.work(), plan.row(), plan.rows()), (180, 12, 48));
+        let mut work = vec![0; plan.work()];
+        assert_eq!(bundle.run(rests().bytes(), &mut work), Ok(20));
+        assert_eq!(bundle.run(rests().bytes(), &mut work[1..]), Err(refused(10, 0, 0)));
+    }
+
+    #[test]
+    fn the_last_results_head() {
+        let bytes = roster();
+        let head = Bundle::read(&bytes).unwrap().extent(&rests()).unwrap();
+        let axes = vec![Axis::new("who", 1, 2), Axis::new("turn", 1, 2)];
+        assert_eq!((axes[0].max_lower, axes[0].max_upper), STAR);
+        assert_eq!(head, Head { kind: Kind::Boolean, axes });
+    }
+
+    #[test]
+    fn refused_as_a_run_before_its_buffers() {
+        let bytes = roster();
+        let bundle = Bundle::read(&bytes).unwrap();
+        let bad = [
+            (Recipe::new(), refused(4, 0, 0)),
+            (Recipe::new().trim(5, &[(1, 2), (2, 3)]), refused(4, 1, 0)),
+            (Recipe::new().slice(1, 3, 1), refused(5, 1, 0)),
+            (Recipe::new().slice(1, 1, 1).slice(step(1), 1, 9), refused(6, 2, 0)),
+            (Recipe::new().right_scalar(1, Operator::And, Cell::Int(1)), refused(7, 1, 0)),
+            (Recipe::new().trim(1, &[(1, 1), (1, 3)]).pair(1, step(1), Operator::Minus), refused(8, 2, 0)),
+            (Recipe::new().reshape(1, &[(1, 64), (1, 65)]), refused(9, 1, 0)),
+        ];
+        for (recipe, refusal) in bad {
+            assert_eq!(bundle.plan(&recipe), Err(refusal));
+            assert_eq!(bundle.plan(recipe.bytes()), Err(refusal));
+            assert_eq!(bundle.extent(&recipe), Err(refusal));
+            assert_eq!(bundle.run(recipe.bytes(), &mut [0; MOST_WORK]), Err(refusal));
+            assert_eq!(bundle.listing(&recipe).err(), Some(refusal));
+        }
+        let no_truth = Recipe::new().pair(1, 2, Operator::Plus);
+        assert_eq!(bundle.plan(&no_truth).map(|plan| plan.kind), Ok(Kind::Int));
+        assert_eq!(bundle.listing(&no_truth).err(), Some(refused(7, 1, 0)));
+    }
+
+    #[test]
+    fn a_whole_head_or_nothing() {
+        let bytes = roster();
+        let recipe = Recipe::new().slice(1, 1, 2);
+        let (mut said, mut extent) = ([9; 16], [9; 100]);
+        let mut ask = |extent: &mut [u8]| {
+            let (at, len) = (extent.as_mut_ptr(), extent.len());
+            // SAFETY: each pointer and length are one slice's, and none overlaps another.
+            unsafe {
+                let recipe = recipe.bytes();
+                raw::rma_extent(bytes.as_ptr(), bytes.len(), recipe.as_ptr(), recipe.len(), at, len, said.as_mut_ptr(), said.len())
+            }
+        };
+        assert_eq!(ask(&mut extent[..97]), 14);
+        assert_eq!(extent, [9; 100], "no byte of a buffer that is too short");
+        assert_eq!(ask(&mut extent), 0);
+        assert_eq!(extent[..26], [&[1, 1][..], b"turn\0\0\0\0", &[1, 0, 0, 0, 3, 0, 0, 0, 192, 189, 240, 255, 64, 66, 15, 0]].concat());
+        assert_eq!((&extent[26..98], &extent[98..]), (&[0; 72][..], &[9; 2][..]));
+        assert_eq!(said[..4], [98, 0, 0, 0]);
+    }
+
+    #[test]
+    fn a_listing_that_is_lent_nothing() {
+        let bytes = packed(&[int_head(&[("x", -3, 8), ("y", 1, 5)])], &ints(1..=60));
+        let bundle = Bundle::read(&bytes).unwrap();
+        let odd = Recipe::new().right_scalar(1, Operator::Mod, Cell::Int(2)).right_scalar(step(1), Operator::Equal, Cell::Int(1));
+        let none = Recipe::new().right_scalar(1, Operator::Less, Cell::Int(0));
+        let rows: Vec<Row> = bundle.listing(&odd).unwrap().collect();
+        assert_eq!(rows.len(), 30);
+        assert!(rows.iter().all(|row| row.ordinality % 2 == 1));
+        assert_eq!(bundle.listing(&none).unwrap().count(), 0);
+        let plan = bundle.plan(&odd).unwrap();
+        for room in [plan.row(), 2 * plan.row() + 1, plan.rows()] {
+            let (mut work, mut page) = (vec![0; plan.work()], vec![0; room]);
+            let lent: Vec<Row> = bundle.rows(odd.bytes(), &mut work, &mut page).unwrap().collect();
+            assert_eq!(lent, rows);
+        }
+    }
+}
+
+/// A refusal in words.
+mod words {
+    use super::*;
+
+    #[test]
+    fn speak_of_what_the_place_counts() {
+        let bytes = roster();
+        let bundle = Bundle::read(&bytes).unwrap();
+        let said = |refusal: Option<Refusal>| refusal.expect("refused").words();
+        let apart = Recipe::new().trim(1, &[(1, 1), (1, 3)]).pair(1, step(1), Operator::Minus);
+        assert_eq!(said(bundle.plan(&apart).err()), "step 2: the two arrays do not agree in axes, names or limits");
+        assert_eq!(said(bundle.total(2, Total::True).err()), "array 2: this cannot be asked of an array of that type");
+        assert_eq!(said(bundle.array(3).err()), "array 3: there is no such array");
+        assert_eq!(said(bundle.plan(&Recipe::new()).err()), "a recipe is one to sixteen steps of 36 bytes");
+        let by_zero = Recipe::new().right_scalar(1, Operator::Divide, Cell::Int(0));
+        assert_eq!(said(bundle.run(by_zero.bytes(), &mut [0; 54]).err()), "step 1, cell 1: division by zero");
+        let head = int_head(&[("x", 1, 2)]);
+        let crossed = int_head(&[("x", 2, 1)]);
+        let side = stretch(&head, &[0; 18], &crossed, &[0; 0], 1, 1).err();
+        assert!(said(side).starts_with("the right side: its extent is bad"));
+        assert!(said(Bundle::read(&bytes[..7]).err()).starts_with("array 1: its type"));
+        assert!(said(Bundle::read(b"RMB").err()).starts_with("the bundle's mark"));
+    }
+
+    #[test]
+    fn there_are_some_for_every_number_and_for_no_other() {
+        let words = |number, place, counts| Refusal { number, place, ordinality: 0, counts }.words();
+        for counts in [Counts::Arrays, Counts::Steps, Counts::Sides] {
+            let sentences: Vec<String> = (1..=14).map(|number| words(number, 0, counts)).collect();
+            assert!(sentences.iter().all(|sentence| !sentence.contains("no such refusal")));
+            assert!((1..14).all(|n| !sentences[..n].contains(&sentences[n])), "two numbers in the same words");
+            assert_eq!(words(0, 0, counts), "no such refusal");
+            assert_eq!(words(15, 2, counts).split(": ").last(), Some("no such refusal"));
+        }
+    }
+}
+
+/// The words of the C header: one sentence a number, with no place in them.
+#[test]
+fn the_header_has_words_for_every_number() {
+    let header = include_str!("../../include/rma.h");
+    let table = header.split("words[] = {").nth(1).and_then(|rest| rest.split("};").next()).expect("rma_words");
+    let sentences: Vec<&str> = table.lines().filter_map(|line| line.trim().strip_prefix('"')?.strip_suffix("\",")).collect();
+    assert_eq!((sentences.len(), sentences[0]), (15, "done"));
+    for number in 8..=14 {
+        let refusal = Refusal { number, place: 0, ordinality: 0, counts: Counts::Steps };
+        assert_eq!(sentences[number as usize], refusal.words());
+    }
+}
+
+/// A bundle is judged once, and its arrays are found where the engine says that they lie.
+mod judged_once {
+    use super::*;
+    use rovgrint::raw;
+
+    #[test]
+    fn arrays_lie_where_the_engine_says() {
+        let heads = [
+            int_head(&[("a", -5, 5)]),
+            Head { kind: Kind::Boolean, axes: vec![Axis::new("b", 1, 2), Axis::new("c", 0, 0).within(-1, 1)] },
+            Head { kind: Kind::Float, axes: ["d", "e", "f", "g"].map(|name| Axis::new(name, 1, 3)).to_vec() },
+            int_head(&[("h", 7, 7)]),
+        ];
+        let cells: Vec<Cell> = heads.iter().flat_map(|head| vec![Cell::Empty; head.cells()]).collect();
+        let bytes = packed(&heads, &cells);
+        let bundle = Bundle::read(&bytes).unwrap();
+        for (k, head) in (1..).zip(&heads) {
+            let mut said = [0; 16];
+            // SAFETY: each pointer and length are one slice's, and `said` overlaps none.
+            let number = unsafe { raw::rma_array(bytes.as_ptr(), bytes.len(), k, said.as_mut_ptr(), said.len()) };
+            let figure = |at: usize| u32::from_le_bytes(said[at..at + 4].try_into().unwrap()) as usize;
+            let array = bundle.array(k).unwrap();
+            assert_eq!((number, array.head()), (0, head));
+            assert_eq!((array.kind() as usize, array.axes().len(), array.cells().len()), (figure(0), figure(4), figure(8)));
+            assert_eq!(array.bytes().as_ptr(), bytes[figure(12)..].as_ptr());
+            assert_eq!(bundle.walk(k).unwrap().len(), figure(8));
+        }
+        assert_eq!(bundle.walk(0).err(), Some(refused(4, 0, 0)));
+        assert_eq!(bundle.array(5).err(), Some(refused(4, 5, 0)));
+    }
+
+    #[test]
+    fn a_walk_sees_what_the_engine_walks() {
+        let bytes = roster();
+        let bundle = Bundle::read(&bytes).unwrap();
+        let (mut place, mut seen) = (1, vec![]);
+        while let Some(cell) = bundle.walk_on(2, &mut place).unwrap() {
+            seen.push(cell);
+        }
+        assert_eq!(bundle.walk(2).unwrap().collect::<Vec<Cell>>(), seen);
     }
 }

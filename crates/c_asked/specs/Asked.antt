@@ -1,5 +1,5 @@
 -- What is asked by numbers and bytes, as the paper's own questions: heads of arrays, a coordinate, a walking place, a total's number.
-use Prim.Native.Nat.{ℕ, zero, suc, _+_, _*_, _/_, _%_}
+use Prim.Native.Nat.{ℕ, zero, suc, _*_, _/_, _%_}
 use mathlib.Core.Bool.{_&&_}
 use mathlib.Core.List.{List, [], _∷_}
 use mathlib.Core.Option.{none, some}
@@ -9,7 +9,7 @@ use lib.IntN.{ℤ}
 use Rattle.paper.specs.declared.Total.{Total}
 use Rattle.paper.specs.declared.Total.the-variants.{Filled, Trues, Smallest, Largest, Sum, Average}
 use Rattle.paper.specs.declared.Totalled.{Totalled}
-use Rattle.paper.specs.Limits.{mostArrays, mostAxes, limitBytes, axisBytes, typeBytes}
+use Rattle.paper.specs.Limits.{mostArrays, mostAxes, limitBytes, typeBytes}
 use Rattle.paper.specs.Refusals.{Res, got, refused, _>>=_, if_then_else_, refusal, unknown4}
 use Rattle.paper.specs.Numbers.{leOf, leBytes, signedAt, nth, over}
 use Rattle.paper.specs.Axes.{Shape, shaped}
@@ -18,6 +18,7 @@ use Rattle.paper.specs.Stretch.{Side}
 use Rattle.paper.specs.Reference.{chosen}
 use Rattle.paper.specs.Totals.{totals}
 use Rattle.paper.specs.Answers.{axisCount}
+use Rattle.pack.specs.Heads.{headLength}
 
 -- ---- pieces of one size
 
@@ -39,9 +40,6 @@ countOf bundle = do
   got (length As)
 
 -- ---- heads: type, axis count, and room for as many axes as an array may have
-
-abbrev pub headLength : ℕ
-headLength = typeBytes + mostAxes * axisBytes
 
 -- the shape that the first bytes describe
 unfoldable pub shapeIn : List ℕ → Shape

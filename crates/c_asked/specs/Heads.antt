@@ -17,10 +17,11 @@ use Rattle.paper.specs.Bundle.{axisOf, maximumOf, eachAxis}
 use Rattle.paper.specs.Answers.{axisCount, extentOf, shapeOf}
 use Rattle.laws.specs.Answers.{count-few, formOf, form-shape, noHead}
 use Rattle.bundle.specs.Axes.{length-each}
+use Rattle.pack.specs.Heads.{headLength}
 use Rattle.pack.specs.Laid.{shapesOf, shapes-few}
 use Rattle.stretch.specs.Sides.{sided}
 use Rattle.c_asked.specs.declared.Forms.{Forms}
-use Rattle.c_asked.specs.Asked.{headLength, pieces, eachPiece, shapeIn, headsIn, sideShape, sideIn}
+use Rattle.c_asked.specs.Asked.{pieces, eachPiece, shapeIn, headsIn, sideShape, sideIn}
 use Rattle.c_asked.specs.Pieces.{each-length}
 
 -- the form that the first bytes describe

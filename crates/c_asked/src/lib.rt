@@ -7,14 +7,15 @@ ghost use Rattle.paper.specs.Numbers.{signedAt};
 ghost use Rattle.paper.specs.Reference.{reference, walk};
 ghost use Rattle.paper.specs.Answers.{referenceSaid, seenSaid, totalSaid};
 ghost use Rattle.laws.specs.Answers.{formOf};
-ghost use Rattle.c_asked.specs.Asked.{headLength, pieces, sideShape, coordinateIn, placeIn, placeAfter, noTotal, totalAsked};
+ghost use Rattle.pack.specs.Heads.{headLength};
+ghost use Rattle.c_asked.specs.Asked.{pieces, sideShape, coordinateIn, placeIn, placeAfter, noTotal, totalAsked};
 ghost use Rattle.c_asked.specs.Heads.{formIn, HeadsIn};
 use bundle::axes::bounds_at;
 use bundle::no_head;
 use cell::bytes::half;
 use cell::bytes::put4;
 use extent::axis_count;
-use paper::AXIS_BYTES;
+use pack::put::WHOLE_HEAD;
 use paper::Form;
 use paper::LIMIT_BYTES;
 use paper::Ordinality;
@@ -34,9 +35,6 @@ pub struct Forms {
     pub count: usize,
     pub forms: [Form; paper::ARRAYS],
 }
-
-// The bytes of a head.
-const HEAD: usize = TYPE_BYTES + paper::AXES * AXIS_BYTES;
 
 // How many pieces of `size` bytes n bytes are; none where they are no whole pieces or more than `most`.
 fn pieces_of(most: usize, size: usize, n: usize) -> usize
@@ -75,13 +73,13 @@ fn form_at(s: &[u8], at: usize) -> Form
 pub fn forms_in(heads: &[u8]) -> Forms
     ensures { λ r. ⌜ HeadsIn (now (heads .entry)) r ⌝ }
 {
-    let count = pieces_of(paper::ARRAYS, HEAD, heads.len());
+    let count = pieces_of(paper::ARRAYS, WHOLE_HEAD, heads.len());
     let none = no_head();
     let blank = none.form;
     let mut forms = [blank; paper::ARRAYS];
     let mut i: usize = 0;
     while i < count {
-        let form = form_at(heads, i * HEAD);
+        let form = form_at(heads, i * WHOLE_HEAD);
         forms[i] = form;
         i += 1;
     }
@@ -92,7 +90,7 @@ pub fn forms_in(heads: &[u8]) -> Forms
 pub fn side_form(head: &[u8]) -> Form
     ensures { λ r. ⌜ r ≡ formOf (sideShape (now (head .entry))) ⌝ }
 {
-    if head.len() != HEAD {
+    if head.len() != WHOLE_HEAD {
         let none = no_head();
         return none.form;
     }

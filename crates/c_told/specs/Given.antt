@@ -4,6 +4,7 @@ use mathlib.Core.List.{List, [], _∷_}
 use lib.ListN.{length, replicate}
 use lib.IntN.{pos}
 use Rattle.paper.specs.declared.Cell.the-variants.{Int}
+use Rattle.paper.specs.declared.Foreseen.{Foreseen}
 use Rattle.paper.specs.declared.Listed.{Listed}
 use Rattle.paper.specs.declared.Part.{Part}
 use Rattle.paper.specs.declared.Part.the-variants.{Left, Right}
@@ -33,6 +34,10 @@ seenBytes End = replicate (1 + cellBytes) 0
 abbrev pub totalBytes : Totalled → List ℕ
 totalBytes (Count n) = encode (Int (pos n))
 totalBytes (Is c) = encode c
+
+-- a plan: T, and the last result's type, axis count and number of cells
+abbrev pub foreseenBytes : Foreseen → List ℕ
+foreseenBytes f = numbers (f .total ∷ f .kind ∷ f .axes ∷ f .cells ∷ [])
 
 -- a page: rows written, where to go on
 abbrev pub listedBytes : Listed → List ℕ

@@ -5,9 +5,9 @@ ghost use Prim.Native.Nat.{_≤_};
 ghost use lib.ListN.{length};
 ghost use Rattle.paper.specs.Refusals.{got};
 ghost use Rattle.paper.specs.Cells.{encode};
-ghost use Rattle.paper.specs.Answers.{numberSaid, referenceSaid, seenSaid, totalSaid, pageSaid, stretchSaid};
+ghost use Rattle.paper.specs.Answers.{numberSaid, planSaid, referenceSaid, seenSaid, totalSaid, pageSaid, stretchSaid};
 ghost use Rattle.c_told.specs.Said.{answered, refusing};
-ghost use Rattle.c_told.specs.Given.{numberBytes, seenBytes, totalBytes, listedBytes, partBytes};
+ghost use Rattle.c_told.specs.Given.{numberBytes, foreseenBytes, seenBytes, totalBytes, listedBytes, partBytes};
 ghost use Rattle.c_told.specs.Replies.{Tells, given, four};
 use cell::bytes::copy_bytes;
 use cell::bytes::put4;
@@ -18,6 +18,7 @@ use paper::LIMIT_BYTES;
 use paper::NumberAnswer;
 use paper::PageAnswer;
 use paper::Part;
+use paper::PlanAnswer;
 use paper::ReferenceAnswer;
 use paper::Refusal;
 use paper::Seen;
@@ -96,6 +97,23 @@ pub fn of_counted(answer: NumberAnswer) -> Reply
     match answer {
         NumberAnswer::Got(n) => of_number(n),
         NumberAnswer::Refused(refusal) => refused(refusal),
+    }
+}
+
+// T, and the last result's type, axis count and number of cells.
+pub fn of_plan(answer: PlanAnswer) -> Reply
+    ensures { λ r. ⌜ Tells (answered foreseenBytes (planSaid answer)) r ⌝ }
+{
+    match answer {
+        PlanAnswer::Got(plan) => of_numbers(
+            0,
+            MOST,
+            plan.total,
+            plan.kind as u32,
+            plan.axes,
+            plan.cells,
+        ),
+        PlanAnswer::Refused(refusal) => refused(refusal),
     }
 }
 

@@ -6,18 +6,18 @@ use mathlib.Core.List.{List, [], _∷_, _++_}
 use native.Mathlib.Omega.{arith}
 use borrow.Author.Tests.{le-leb, lt-leb}
 use lib.Dec.{leb}
-use lib.ListN.{length, take, drop, set, length-append, length-drop, length-set, drop-of-length-le}
+use lib.ListN.{length, take, drop, length-append, length-drop, drop-of-length-le}
 use lib.Seq.{drop-drop}
 use Rattle.paper.specs.declared.Form.{Form}
 use Rattle.paper.specs.declared.Refusal.{Refusal}
 use Rattle.paper.specs.declared.NumberAnswer.{NumberAnswer}
 use Rattle.paper.specs.declared.NumberAnswer.the-variants.{Got, Refused}
-use Rattle.paper.specs.Limits.{mostArrays, mostCells, axisBytes, typeBytes, cellBytes}
+use Rattle.paper.specs.Limits.{mostArrays, mostCells, cellBytes}
 use Rattle.paper.specs.Refusals.{got, refused, _>>_, refusal, ensure, smallOutput14}
 use Rattle.paper.specs.Numbers.{part}
 use Rattle.paper.specs.Axes.{Shape}
-use Rattle.paper.specs.Bundle.{mark, markBytes, axesBytes, packed, putInto, pack}
-use Rattle.paper.specs.Answers.{axesOf, numberSaid}
+use Rattle.paper.specs.Bundle.{mark, markBytes, packed, putInto, pack}
+use Rattle.paper.specs.Answers.{axesOf, shapeOf, numberSaid}
 use Rattle.laws.specs.Numbers.{Bytes}
 use Rattle.laws.specs.Tests.{between-true}
 use Rattle.extent.specs.Judged.{fewCells}
@@ -25,8 +25,7 @@ use Rattle.bundle.specs.Read.{cellsIn}
 use Rattle.pack.specs.declared.judge.Verdict.{Verdict}
 use Rattle.pack.specs.declared.put.Ends.{Ends}
 use Rattle.laws.specs.Put.{put, put-none, length-put, after}
-use Rattle.cell.proofs.Runs.{stores-at}
-use Rattle.pack.specs.Put.{axes-length}
+use Rattle.pack.specs.Heads.{headOf, HeadRoom, HeadPut, its-long, head-kept}
 use Rattle.pack.specs.Laid.{shapesOf, cellRoom, formBytes, FormPassed, ready-small, ready-alike, ready-long, AllReady, laidBytes, bundleOf, packed-ready}
 use Rattle.pack.specs.Judging.{JudgedAll}
 
@@ -44,48 +43,35 @@ pub record ArrayPut (form : Form) (bs : List ℕ) (from : ℕ) (d : List ℕ) (a
   pub cells : r .from ≡ from + cellRoom form
   pub next : r .at ≡ at + length (formBytes form (drop from bs))
 
-module _ {form : Form} {bs : List ℕ} {from : ℕ} {d : List ℕ} {at : ℕ} (q : ArrayRoom form bs from d at) {n : ℕ}
-    (en : n ≡ length (axesOf (form .extent)))
-    {m : ℕ} (em : m ≡ fewCells (axesOf (form .extent))) where
-  abbrev axes : List ℕ
-  axes = axesBytes (axesOf (form .extent)) (axesOf (form .maximum))
-
-  pub its-cells : m ≡ cellsIn form
+module _ {form : Form} {bs : List ℕ} {from : ℕ} {d : List ℕ} {at : ℕ} (q : ArrayRoom form bs from d at) {m : ℕ}
+    (em : m ≡ fewCells (axesOf (form .extent))) where
+  its-cells : m ≡ cellsIn form
   its-cells = em ∙ rw (le-leb (cellsIn form) mostCells (ready-small (q .ready) .few))
 
-  pub its-long : length (formBytes form (drop from bs)) ≡ typeBytes + n * axisBytes + m * cellBytes
-  its-long = omega (arith, ready-long (q .ready), its-cells)
+  pub head-room : HeadRoom form at d
+  head-room = record { alike = ready-alike (q .ready); room = omega (arith, q .room, ready-long (q .ready)) }
+
+  all-long : length (formBytes form (drop from bs)) ≡ length (headOf (shapeOf form)) + m * cellBytes
+  all-long = omega (arith, ready-long (q .ready), its-cells, its-long head-room)
 
   pub its-fit : from + m * cellBytes ≤ length bs
   its-fit = omega (arith, q .ready .fits, q .start, length-drop from bs, its-cells)
 
-  its-axes : length axes ≡ n * axisBytes
-  its-axes = rw en (axes-length _ _ (ready-alike (q .ready)))
+  module _ {begin : ℕ} {y : List ℕ} (h : HeadPut form at d begin y) where
+    pub cells-room : begin + m * cellBytes ≤ length y
+    cells-room = omega (arith, h .end, q .room, all-long, head-kept head-room h)
 
-  -- the buffer after the axes is as long as before
-  pub axes-kept : (y : List ℕ) → y ≡ put (set (set d at (form .kind)) (at + 1) n) (at + typeBytes) axes → length y ≡ length d
-  axes-kept y p =
-      let b : length (set (set d at (form .kind)) (at + 1) n) ≡ length d = simp length-set in
-      ap length p ∙ length-put (set (set d at (form .kind)) (at + 1) n) (at + typeBytes) axes (omega (arith, its-axes, its-long, q .room))
-      ∙ b
-
-  -- type, axis count, axes, cells, one after the other
-  pub array-put : (y z : List ℕ) → y ≡ put (set (set d at (form .kind)) (at + 1) n) (at + typeBytes) axes
-      → z ≡ put y (at + typeBytes + n * axisBytes) (part from (m * cellBytes) bs)
-      → ArrayPut form bs from d at (record { from = from + m * cellBytes; at = at + typeBytes + n * axisBytes + m * cellBytes }) z
-  array-put y z p w =
-      let l = its-long in
-      let r = q .room in
-      let x = its-axes in
-      let t : List ℕ = form .kind ∷ n ∷ [] in
-      let u = after d at t axes _ y (at + typeBytes) (omega arith) refl (stores-at t d at (omega arith)) p in
-      record {
-        bytes =
-            after d at (t ++ axes) (part from (m * cellBytes) bs) y z (at + typeBytes + n * axisBytes) (omega arith) (omega arith) u w
-            ∙ rw (its-cells, en);
-        cells = rw its-cells;
-        next = omega arith;
-      }
+    -- head and cells, one after the other
+    pub array-put : (z : List ℕ) → z ≡ put y begin (part from (m * cellBytes) bs)
+        → ArrayPut form bs from d at (record { from = from + m * cellBytes; at = begin + m * cellBytes }) z
+    array-put z w = record {
+      bytes =
+          after d at (headOf (shapeOf form)) (part from (m * cellBytes) bs) y z begin (omega (arith, q .room, all-long)) (h .end)
+          (h .bytes) w
+          ∙ rw its-cells;
+      cells = rw its-cells;
+      next = omega (arith, h .end, all-long);
+    }
 
 -- the buffer after an array is as long as before
 pub array-kept : {form : Form} {bs : List ℕ} {from : ℕ} {d : List ℕ} {at : ℕ} {r : Ends} {y : List ℕ} → ArrayRoom form bs from d at

@@ -1,4 +1,5 @@
 pub mod Put
+pub mod Heads
 pub mod Laid
 pub mod Judging
 pub mod Laying

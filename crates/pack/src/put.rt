@@ -9,6 +9,7 @@ ghost use Rattle.paper.specs.Bundle.{mark, markBytes, axesBytes};
 ghost use Rattle.paper.specs.Answers.{axesOf};
 ghost use Rattle.laws.specs.Put.{put};
 ghost use Rattle.pack.specs.Put.{axisPart, AxesRoom};
+ghost use Rattle.pack.specs.Heads.{HeadRoom, HeadPut};
 ghost use Rattle.pack.specs.Laid.{laidBytes};
 ghost use Rattle.pack.specs.Laying.{ArrayRoom, ArrayPut, AllRoom};
 use cell::bytes::copy_bytes;
@@ -28,6 +29,9 @@ use paper::OPENING_BYTES;
 use paper::TYPE_BYTES;
 use paper::UPPER_AT;
 use positions::bits_of;
+
+// The bytes of a whole head: one with room for as many axes as an array may have.
+pub const WHOLE_HEAD: usize = TYPE_BYTES + paper::AXES * AXIS_BYTES;
 
 // What half of a name's bytes can hold.
 const HALF: u64 = 4294967296;
@@ -76,20 +80,26 @@ pub struct Ends {
     pub at: usize,
 }
 
-// An array: its type, its axis count, its axes, and its cells, which stand from the byte `from` on.
+// A head: its type, its axis count, its axes; answers the byte after it.
+pub fn put_head(form: Form, d: &mut [u8], at: usize) -> usize
+    requires { ⌜ HeadRoom form at (now d) ⌝ }
+    ensures { λ r. ⌜ HeadPut form at (now (d .entry)) r (now (d .exit)) ⌝ }
+{
+    let extent = form.extent;
+    let rank = rank_of(extent);
+    d[at] = form.kind;
+    d[at + 1] = rank as u8;
+    put_axes(d, at + TYPE_BYTES, extent, form.maximum);
+    at + TYPE_BYTES + rank * AXIS_BYTES
+}
+
+// An array: its head, and its cells, which stand from the byte `from` on.
 fn put_array(form: Form, cells: &[u8], from: usize, d: &mut [u8], at: usize) -> Ends
     requires { ⌜ ArrayRoom form (now cells) from (now d) at ⌝ }
     ensures { λ r. ⌜ ArrayPut form (now (cells .entry)) from (now (d .entry)) at r (now (d .exit)) ⌝ }
 {
-    let extent = form.extent;
-    let maximum = form.maximum;
-    let rank = rank_of(extent);
-    let n = cells_of(extent);
-    d[at] = form.kind;
-    d[at + 1] = rank as u8;
-    put_axes(d, at + TYPE_BYTES, extent, maximum);
-    let begin = at + TYPE_BYTES + rank * AXIS_BYTES;
-    let long = n * CELL_BYTES;
+    let long = cells_of(form.extent) * CELL_BYTES;
+    let begin = put_head(form, d, at);
     copy_bytes(cells, from, d, begin, long);
     Ends {
         from: from + long,

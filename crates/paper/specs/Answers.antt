@@ -12,6 +12,9 @@ use Rattle.paper.specs.declared.Refusal.{Refusal}
 use Rattle.paper.specs.declared.Reading.{Reading}
 use Rattle.paper.specs.declared.NumberAnswer.{NumberAnswer}
 use Rattle.paper.specs.declared.NumberAnswer.the-variants as Number
+use Rattle.paper.specs.declared.Foreseen.{Foreseen}
+use Rattle.paper.specs.declared.PlanAnswer.{PlanAnswer}
+use Rattle.paper.specs.declared.PlanAnswer.the-variants as Plan
 use Rattle.paper.specs.declared.ReferenceAnswer.{ReferenceAnswer}
 use Rattle.paper.specs.declared.ReferenceAnswer.the-variants as Reference
 use Rattle.paper.specs.declared.Seen.{Seen}
@@ -78,6 +81,10 @@ readSaid r = unless (r .refusal) (map (λ h. (shapeOf (h .form), h .at)) (take (
 abbrev pub numberSaid : NumberAnswer → Res ℕ
 numberSaid (Number.Got n) = got n
 numberSaid (Number.Refused r) = refused r
+
+abbrev pub planSaid : PlanAnswer → Res Foreseen
+planSaid (Plan.Got f) = got f
+planSaid (Plan.Refused r) = refused r
 
 abbrev pub referenceSaid : ReferenceAnswer → Res Cell
 referenceSaid (Reference.Got c) = got c

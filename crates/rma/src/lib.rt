@@ -3,13 +3,14 @@
 ghost use mathlib.Core.Path.{_≡_};
 ghost use Rattle.paper.specs.Cells.{encode};
 ghost use Rattle.paper.specs.Json.{writeJson};
-ghost use Rattle.paper.specs.Listing.{run as paperRun, page as paperPage};
+ghost use Rattle.paper.specs.Listing.{plan as paperPlan, run as paperRun, page as paperPage};
 ghost use Rattle.paper.specs.Reference.{reference, walk as paperWalk};
 ghost use Rattle.paper.specs.Stretch.{stretch as paperStretch};
 ghost use Rattle.c_told.specs.Said.{answered, spoken};
 ghost use Rattle.refer.specs.Chosen.{arrayTold};
+ghost use Rattle.run.specs.Plans.{extent as lastExtent};
 ghost use Rattle.c_asked.specs.Asked.{countOf, packHeads, sideIn, coordinateIn, placeIn, placeAfter, totalAsked};
-ghost use Rattle.c_told.specs.Given.{numberBytes, arrayBytes, seenBytes, totalBytes, listedBytes, partBytes};
+ghost use Rattle.c_told.specs.Given.{numberBytes, arrayBytes, foreseenBytes, seenBytes, totalBytes, listedBytes, partBytes};
 ghost use Rattle.c_told.specs.Replies.{Tells};
 use bundle::read;
 use c_asked::forms_in;
@@ -23,6 +24,7 @@ use c_told::of_counted;
 use c_told::of_number;
 use c_told::of_numbers;
 use c_told::of_page;
+use c_told::of_plan;
 use c_told::of_reference;
 use c_told::of_stretch;
 use c_told::of_total;
@@ -35,6 +37,7 @@ use paper::AxisIndex;
 use paper::Ordinality;
 use refer::choose;
 use run::page;
+use run::plan;
 use run::run;
 use stretch::plan_stretch;
 
@@ -139,6 +142,30 @@ pub extern "C" fn rma_write_json(bundle: &[u8], array: u32, out: &mut [u8], said
 }
 
 // ---- a recipe
+
+// What a run will need and give: the number of cells of all results, and the last one's type, axis count and number of cells.
+#[no_mangle]
+pub extern "C" fn rma_plan(bundle: &[u8], recipe: &[u8], said: &mut [u8]) -> u32
+    ensures { λ r. ⌜ record { number = r; said = now (said .exit) }
+        ≡ spoken foreseenBytes (paperPlan (now (bundle .entry)) (now (recipe .entry))) (now (said .entry)) ⌝ }
+{
+    give(said, of_plan(plan(bundle, recipe)))
+}
+
+// The head of the last result, in `extent`: its length.
+#[no_mangle]
+pub extern "C" fn rma_extent(
+    bundle: &[u8],
+    recipe: &[u8],
+    extent: &mut [u8],
+    said: &mut [u8],
+) -> u32
+    ensures { λ r. ⌜ (record { number = r; said = now (said .exit) }
+        ≡ spoken numberBytes (lastExtent (now (bundle .entry)) (now (recipe .entry)) (now (extent .entry)) .answer) (now (said .entry)))
+        × (now (extent .exit) ≡ lastExtent (now (bundle .entry)) (now (recipe .entry)) (now (extent .entry)) .buffer) ⌝ }
+{
+    give(said, of_counted(run::extent(bundle, recipe, extent)))
+}
 
 // The results of all steps in the work area: the number of their cells.
 #[no_mangle]

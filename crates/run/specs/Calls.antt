@@ -32,7 +32,7 @@ use Rattle.values.specs.Found.{arraysAt, result-at}
 use Rattle.values.specs.Runs.{Running, Results, Valued}
 use Rattle.listing.specs.Lists.{Listable, ListedAs}
 use Rattle.run.specs.declared.PageRows.{PageRows}
-use Rattle.run.specs.Tests.{PlannedFor, PageJudged, lastIn, axesIn, last-is, last-there, last-laid}
+use Rattle.run.specs.Tests.{PlannedFor, planned-no, planned-yes, PageJudged, lastIn, axesIn, last-is, last-there, last-laid}
 use Rattle.run.specs.Tests as Tests
 
 -- ---- the values
@@ -71,24 +71,18 @@ module _ {B bs : List ℕ} {P : Plan} {W : List ℕ} (g : Running B bs P W) wher
 -- ---- a run
 
 module _ {B bs : List ℕ} {P : Plan} (p : PlannedFor B bs P) (W : List ℕ) where
-  planned-no : (P .refusal .number ≡ 0 → ⊥) → planned B bs ≡ refused (P .refusal)
-  planned-no h = sym (p .said) ∙ unless-refused (P .refusal) _ h
-
   pub run-refused : (P .refusal .number ≡ 0 → ⊥) → record { answer = refused (P .refusal); buffer = W } ≡ run B bs W
   unfolding runTests runAfter
-  run-refused h = rw (planned-no h) refl
+  run-refused h = rw (planned-no p h) refl
 
   module _ (z : P .refusal .number ≡ 0) where
-    planned-yes : planned B bs ≡ got (arraysAt B P, stepsOf bs P)
-    planned-yes = sym (p .said) ∙ unless-got (P .refusal) _ z
-
     sized : bytesOfAll (stepsOf bs P) ≡ P .cells * cellBytes
     sized = omega (arith, cells-sum (p .setting z .0 .laid))
 
     pub run-small : length W < P .cells * cellBytes → (r : Refusal) → r ≡ refusal smallWork10 0 0
         → record { answer = refused r; buffer = W } ≡ run B bs W
     unfolding runTests runAfter
-    run-small h r e = rw (planned-yes, sized, lt-leb (P .cells * cellBytes) (length W) h, e) refl
+    run-small h r e = rw (planned-yes p z, sized, lt-leb (P .cells * cellBytes) (length W) h, e) refl
 
     module _ (h : P .cells * cellBytes ≤ length W) where
       pub may-run : Running B bs P W
@@ -97,14 +91,14 @@ module _ {B bs : List ℕ} {P : Plan} (p : PlannedFor B bs P) (W : List ℕ) whe
       module _ {r : Refusal} {after : List ℕ} (s : Settled B bs P W r after) where
         pub run-stopped : (r .number ≡ 0 → ⊥) → record { answer = refused r; buffer = after } ≡ run B bs W
         unfolding runTests runAfter
-        run-stopped n = rw (planned-yes, sized, le-leb (P .cells * cellBytes) (length W) h, s .work, s .no n) refl
+        run-stopped n = rw (planned-yes p z, sized, le-leb (P .cells * cellBytes) (length W) h, s .work, s .no n) refl
 
         pub run-done : r .number ≡ 0 → record { answer = got (P .cells); buffer = after } ≡ run B bs W
         unfolding runTests runAfter
         run-done y =
             let d = s .yes y in
             let e = sym (run-ends (d .steps) (d .all)) in
-            rw (planned-yes, sized, le-leb (P .cells * cellBytes) (length W) h, s .work, e, cells-sum (p .setting z .0 .laid)) refl
+            rw (planned-yes p z, sized, le-leb (P .cells * cellBytes) (length W) h, s .work, e, cells-sum (p .setting z .0 .laid)) refl
 
 -- ---- a page
 
@@ -155,7 +149,7 @@ module _ {B bs : List ℕ} {P : Plan} (p : PlannedFor B bs P) (W : List ℕ) (o 
 
   pub page-refused : (P .refusal .number ≡ 0 → ⊥) → record { answer = refused (P .refusal); work = W; rows = L } ≡ page B bs W o L
   unfolding pageTests pageAfter
-  page-refused h = rw (planned-no p W h) refl
+  page-refused h = rw (planned-no p h) refl
 
   module _ (z : P .refusal .number ≡ 0) {u : Refusal}
       (j : PageJudged (lastIn P) (P .count) (P .cells * cellBytes) (length W) o (length L) u) where
@@ -167,7 +161,7 @@ module _ {B bs : List ℕ} {P : Plan} (p : PlannedFor B bs P) (W : List ℕ) (o 
 
     pub page-unfit : (u .number ≡ 0 → ⊥) → record { answer = refused u; work = W; rows = L } ≡ page B bs W o L
     unfolding pageTests pageAfter
-    page-unfit h = rw (planned-yes p W z, own-tests, unless-refused {A = Unit {0}} u tt h) refl
+    page-unfit h = rw (planned-yes p z, own-tests, unless-refused {A = Unit {0}} u tt h) refl
 
     module _ (y : u .number ≡ 0) where
       own-got : listTests ps (length W) o (length L) ≡ got tt
@@ -178,7 +172,7 @@ module _ {B bs : List ℕ} {P : Plan} (p : PlannedFor B bs P) (W : List ℕ) (o 
 
       tests-got : pageTests B bs W o L ≡ got (As, ps)
       unfolding pageTests
-      tests-got = rw (planned-yes p W z, own-got) refl
+      tests-got = rw (planned-yes p z, own-got) refl
 
       pub page-runs : Running B bs P W
       page-runs = record { setting = p .setting z .0; room = own .work }
@@ -255,5 +249,5 @@ module _ {B bs : List ℕ} {P : Plan} (p : PlannedFor B bs P) (W : List ℕ) (o 
       → RowAxes B bs r
   row-axes z r l q e = record {
     few = omega (arith, e, axes-few (lastIn P .form .extent));
-    same = rw (q, planned-yes p W z, Tests.last-shape (p .setting z .0 .laid) (p .setting z .1)) e;
+    same = rw (q, planned-yes p z, Tests.last-shape (p .setting z .0 .laid) (p .setting z .1)) e;
   }

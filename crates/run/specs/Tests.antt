@@ -48,6 +48,13 @@ pub record PlannedFor (B bs : List ℕ) (P : Plan) : Type 0 where
   pub said : unless (P .refusal) (arraysAt B P, stepsOf bs P) ≡ planned B bs
   pub setting : P .refusal .number ≡ 0 → Setting B bs P × (1 ≤ P .count)
 
+module _ {B bs : List ℕ} {P : Plan} (p : PlannedFor B bs P) where
+  pub planned-no : (P .refusal .number ≡ 0 → ⊥) → planned B bs ≡ refused (P .refusal)
+  planned-no h = sym (p .said) ∙ unless-refused (P .refusal) _ h
+
+  pub planned-yes : P .refusal .number ≡ 0 → planned B bs ≡ got (arraysAt B P, stepsOf bs P)
+  planned-yes z = sym (p .said) ∙ unless-got (P .refusal) _ z
+
 -- every cell of a list is of the type, one by one
 kinds-each : (t : ℕ) (cs : List Cell) → EachOfKind t cs → (i : ℕ) → OfKind t (getD cs i Empty)
 kinds-each t [] h i = nothing t
@@ -140,6 +147,9 @@ module _ {bs : List ℕ} {P : Plan} (v : Laid bs P) (some : 1 ≤ P .count) wher
   pub last-laid : ResultLaid bs (cellsOfAll (take j (stepsOf bs P)) * cellBytes) (getD (P .steps) j noStep) (lastIn P)
   last-laid = rw last-there at (laid-there v j before)
 
+  pub last-step : getD (stepsOf bs P) j noPlanned .shape ≡ shapeIn (lastIn P)
+  last-step = ap (λ (p : Planned). p .shape) (step-there v j before noPlanned) ∙ ap shapeIn last-there
+
   -- its shape
   pub last-shape : lastShape (stepsOf bs P) ≡ shapeIn (lastIn P)
   last-shape =
@@ -148,7 +158,7 @@ module _ {bs : List ℕ} {P : Plan} (v : Laid bs P) (some : 1 ≤ P .count) wher
       last-is noShape noShape (map (λ (p : Planned). p .shape) ps) (omega (arith, n))
       ∙ ap (λ (i : ℕ). getD (map (λ (p : Planned). p .shape) ps) (i - 1) noShape) n
       ∙ getD-mapped (λ (p : Planned). p .shape) ps j noPlanned noShape (omega (arith, steps-count v))
-      ∙ ap (λ (p : Planned). p .shape) (step-there v j before noPlanned) ∙ ap shapeIn last-there
+      ∙ last-step
 
 -- ---- a page's own tests
 

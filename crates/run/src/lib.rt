@@ -1,27 +1,32 @@
-// The run call and the page call: the bundle and the recipe tested, the work area and the row buffer tested, then the values of all
-// steps, then the rows. No row is written before every value is known.
+// The plan, run and page calls: the bundle and the recipe tested, the work area and the row buffer tested, then the values of all steps,
+// then the rows. No row is written before every value is known.
 ghost use mathlib.Core.Path.{_≡_};
 ghost use Prim.Native.Nat.{_≤_};
 ghost use lib.ListN.{length, replicate};
 ghost use Rattle.paper.specs.declared.PageAnswer.the-variants.{Refused};
 ghost use Rattle.paper.specs.Limits.{mostSteps, mostCells};
 ghost use Rattle.paper.specs.Axes.{cells as cellsIn};
-ghost use Rattle.paper.specs.Answers.{axesOf, numberSaid, pageSaid};
-ghost use Rattle.paper.specs.Listing.{run as paperRun, page as paperPage};
+ghost use Rattle.paper.specs.Answers.{axesOf, numberSaid, planSaid, pageSaid};
+ghost use Rattle.paper.specs.Listing.{plan as paperPlan, run as paperRun, page as paperPage};
 ghost use Rattle.paper.specs.Numbers.{over};
 ghost use Rattle.values.specs.Runs.{Running};
 ghost use Rattle.run.specs.Tests.{PlannedFor, PageJudged};
+ghost use Rattle.run.specs.Plans.{extent as lastExtent};
 ghost use Rattle.run.specs.Calls.{Settled, RowAxes};
 use bundle::read;
 use extent::rank_of;
 use listing::list;
+use pack::put::WHOLE_HEAD;
+use pack::put::put_head;
 use paper::BOOLEAN;
 use paper::CELL_BYTES;
+use paper::Foreseen;
 use paper::Head;
 use paper::LIMIT_BYTES;
 use paper::NumberAnswer;
 use paper::Ordinality;
 use paper::PageAnswer;
+use paper::PlanAnswer;
 use paper::RESULTS;
 use paper::Refusal;
 use recipe::Plan;
@@ -114,6 +119,46 @@ fn settle(bundle: &[u8], recipe: &[u8], plan: Plan, work: &mut [u8]) -> Refusal
 }
 
 // ---- the calls
+
+// A plan, before anything is lent: T, and the last result's type, axis count and number of cells.
+pub fn plan(bundle: &[u8], recipe: &[u8]) -> PlanAnswer
+    ensures { λ r. ⌜ planSaid r ≡ paperPlan (now (bundle .entry)) (now (recipe .entry)) ⌝ }
+{
+    let plan = planned(bundle, recipe);
+    let refusal = plan.refusal;
+    if refusal.number != 0 {
+        return PlanAnswer::Refused(refusal);
+    }
+    let operand = plan.operands[RESULTS + plan.count];
+    let result = operand.head;
+    let form = result.form;
+    PlanAnswer::Got(Foreseen {
+        total: plan.cells as u32,
+        kind: form.kind,
+        axes: rank_of(form.extent) as u32,
+        cells: result.cells as u32,
+    })
+}
+
+// The head of the last result, whole, at the beginning of `head`: its length.
+pub fn extent(bundle: &[u8], recipe: &[u8], head: &mut [u8]) -> NumberAnswer
+    ensures { λ r. ⌜ record { answer = numberSaid r; buffer = now (head .exit) }
+        ≡ lastExtent (now (bundle .entry)) (now (recipe .entry)) (now (head .entry)) ⌝ }
+{
+    let plan = planned(bundle, recipe);
+    let refusal = plan.refusal;
+    if refusal.number != 0 {
+        return NumberAnswer::Refused(refusal);
+    }
+    if head.len() < WHOLE_HEAD {
+        return NumberAnswer::Refused(refuse(14, 0));
+    }
+    let operand = plan.operands[RESULTS + plan.count];
+    let result = operand.head;
+    clear(head, WHOLE_HEAD);
+    put_head(result.form, head, 0);
+    NumberAnswer::Got(WHOLE_HEAD as u32)
+}
 
 // A run: the results of all steps in the work area, and how many cells they have.
 pub fn run(bundle: &[u8], recipe: &[u8], work: &mut [u8]) -> NumberAnswer

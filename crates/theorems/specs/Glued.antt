@@ -5,6 +5,7 @@ use mathlib.Core.Path.{_≡_, refl, ap, subst, _∙_}
 use mathlib.Core.Bool.{Bool, true, false, Bool·beq}
 use mathlib.Core.List.{List, [], _∷_}
 use native.Mathlib.Omega.{arith}
+use denote.Ref.{now}
 use lib.ListN.{length, getD, take, drop}
 use lib.Seq.{take-nil, drop-nil, take-append-add, drop-append-add}
 use Rattle.paper.specs.declared.Axis.{Axis}
@@ -25,7 +26,8 @@ use Rattle.laws.specs.Glue.{Gluable, gluedCell}
 use Rattle.laws.specs.Stretch.{onward, stretch-left, stretch-right}
 use Rattle.laws.specs.Results.{cell-bytes}
 use Rattle.stretch.specs.Sides.{judge-passed, glue-passed}
-use Rattle.stretch.specs.Handed.{figures, Handed}
+use Rattle.stretch.specs.Handed.{figures}
+use Rattle.theorems.specs.Made.{StretchCall, Stretches, told, stretches}
 use Rattle.theorems.specs.Early.{stretch-early}
 
 -- ---- cells as bytes
@@ -124,10 +126,8 @@ module _ (A B : Array) (k o : ℕ) where
       subst (λ (w : Part). Stretched (handedOut (sideOf A) (sideOf B) (got w))) (got-one _ q (d .1))
       (handed g (y .0 .sound) (omega (arith, x .1, cell-bytes (A .cells))) (omega (arith, y .1, cell-bytes (B .cells))) (r .0) (r .1))
 
-  -- what `stretch` promises of two arrays lent as sides: where it tells no refusal, it hands out cells of the glued array
-  pub glued-cells : (L R : Side) (out said : List ℕ) → L ≡ sideOf A → R ≡ sideOf B → Handed L R k o out said → getD said 0 0 ≡ 0
-      → Stretched out
-  glued-cells L R out said x y h z =
-      let b : out ≡ handedOut (sideOf A) (sideOf B) (stretch (sideOf A) (sideOf B) k o) = rw (x, y) at (h .bytes) in
-      let f : said ≡ figures (stretch (sideOf A) (sideOf B) k o) = rw (x, y) at (h .refusal) in
-      rw b (answered (stretch (sideOf A) (sideOf B) k o) refl (rw f at z))
+  -- `stretch` called with two arrays lent as sides: where it tells no refusal, it hands out cells of the glued array
+  pub glued-cells : (c : StretchCall) → Stretches (sideOf A) (sideOf B) k o c → getD (told c) 0 0 ≡ 0 → Stretched (now (c .answer))
+  glued-cells c w z =
+      let h = stretches c w in
+      rw (h .bytes) (answered (stretch (sideOf A) (sideOf B) k o) refl (rw (h .refusal) at z))

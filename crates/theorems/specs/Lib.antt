@@ -1,5 +1,6 @@
 -- The engine's promises in the large: demand 3, of the definitions and of the calls; what a call leaves in each buffer; packing and
 -- reading give one another back; a stretch holds the glued array's cells; and promises fix answers.
+pub mod Made
 pub mod Listings
 pub mod Calls
 pub mod Early

@@ -5,6 +5,7 @@ use Prim.Native.Nat.{ℕ, _+_, _-_, _≤_}
 use mathlib.Core.Path.{_≡_, refl, sym, ap, ap₂, _∙_}
 use mathlib.Core.List.{List, [], _∷_, _++_, map}
 use native.Mathlib.Omega.{arith}
+use denote.Ref.{now}
 use lib.ListN.{length, take, drop, replicate, length-map, length-append}
 use lib.Seq.{take-at, take-append-seam}
 use Rattle.paper.specs.declared.Form.{Form}
@@ -17,7 +18,7 @@ use Rattle.paper.specs.Refusals.{got}
 use Rattle.paper.specs.Numbers.{concat, part, over}
 use Rattle.paper.specs.Axes.{Shape, Array}
 use Rattle.paper.specs.Bundle.{markBytes, readBundle, bundleBytes, After, pack}
-use Rattle.paper.specs.Answers.{shapeOf, lyingFrom, reading}
+use Rattle.paper.specs.Answers.{shapeOf, lyingFrom, reading, numberSaid}
 use Rattle.laws.specs.Lists.{map-take}
 use Rattle.laws.specs.Answers.{unless-got, formOf, form-shape, readingOf}
 use Rattle.laws.specs.Numbers.{Bytes}
@@ -25,6 +26,7 @@ use Rattle.laws.specs.Tests.{between-true, got-one}
 use Rattle.roundtrip.specs.Valid.{EachValid, AllValid, shapes, allCells}
 use Rattle.roundtrip.specs.Packing.{AllNamed, bundle-back}
 use Rattle.roundtrip.specs.Lying.{Lying, reading-lies}
+use Rattle.theorems.specs.Made.{ReadCall, reads, PackCall, Packs, packedOut, packs}
 use Rattle.theorems.specs.Packed.{gave, pack-valid, read-pack, accepted-read}
 use Rattle.bundle.specs.Read.{readOf, ReadAll}
 use Rattle.bundle.specs.Whole.{headSaid}
@@ -84,12 +86,13 @@ read-back bs As r v e =
 
 -- `pack` called with a valid list of arrays and room for them gives a bundle, and `read` called with its bytes gives those arrays
 pub packed-then-read : (As : List Array) (out : List ℕ) → AllValid As → length (bundleBytes As) ≤ length out
-    → (a : NumberAnswer) (y : List ℕ) → PackedInto (shapesOf (length As) (formsOf As)) (allCells As) out a y
-    → Gave (bundleBytes As) out a y
-    × ((r : Reading) → ReadAll (take (length (bundleBytes As)) y) r → ReadBack (take (length (bundleBytes As)) y) As r)
-packed-then-read As out v l a y p =
-    let g = gave-by _ (allCells As) (bundleBytes As) out a y p (rw (forms-shapes As (v .each)) (pack-valid As out v l)) in
-    (g, λ r q. read-back _ As r q (rw (g .bytes) (bundle-back As v)))
+    → (p : PackCall) → Packs (length As) (formsOf As) (allCells As) out p
+    → let y : List ℕ = take (length (bundleBytes As)) (packedOut p) in
+    Gave (bundleBytes As) out (p .answer) (packedOut p) × ((r : ReadCall) → now (r .passed .0) ≡ y → ReadBack y As (r .answer))
+packed-then-read As out v l p w =
+    let g = gave-by _ (allCells As) (bundleBytes As) out (p .answer) (packedOut p) (packs p w)
+    (rw (forms-shapes As (v .each)) (pack-valid As out v l)) in
+    (g, λ r q. read-back _ As (r .answer) (reads r q) (rw (g .bytes) (bundle-back As v)))
 
 -- ---- read, then packed
 
@@ -115,24 +118,30 @@ lying-held bs (h ∷ hs) (A ∷ As) v =
     (ap₂ (λ (s : Shape) (l : List Shape). s ∷ l) (v .0) (r .0), ap₂ (λ (x y : List ℕ). x ++ y) (v .2) (r .1))
 
 -- `read` called with bytes that it does not refuse, and `pack` with what the reading holds and room for it: those bytes again
-pub read-then-packed : (bs out : List ℕ) → Bytes bs → length bs ≤ length out → (r : Reading) → ReadAll bs r → r .refusal .number ≡ 0
-    → (a : NumberAnswer) (y : List ℕ) → PackedInto (shapesOf (r .count) (formsIn r)) (cellsHeld bs r) out a y → Gave bs out a y
-read-then-packed bs out h l r v z a y p =
+pub read-then-packed : (bs out : List ℕ) → Bytes bs → length bs ≤ length out → (c : ReadCall) → now (c .passed .0) ≡ bs
+    → let r : Reading = c .answer in
+    r .refusal .number ≡ 0 → (p : PackCall) → Packs (r .count) (formsIn r) (cellsHeld bs r) out p → Gave bs out (p .answer) (packedOut p)
+read-then-packed bs out h l c is z p k =
+    let r = c .answer in
+    let v = reads c is in
     let hs = take (r .count) (r .heads) in
     let w = reading-lies bs (map headSaid hs) h (sym (v .said) ∙ unless-got (r .refusal) _ z) in
     let q = lying-held bs hs (w .0) (w .2) in
     let f = shapes-few (r .count) (formsIn r) (omega (arith, length-map (r .heads) (λ (h : Head). h .form), v .room)) in
     let e : shapesOf (r .count) (formsIn r) ≡ shapes (w .0) = f ∙ (rw (← map-take (λ h. h .form) (r .count) (r .heads)) (q .0)) in
-    gave-by _ _ bs out a y p (rw (e, q .1) (read-pack bs (w .0) out h (w .1) l))
+    gave-by _ _ bs out (p .answer) (packedOut p) (packs p k) (rw (e, q .1) (read-pack bs (w .0) out h (w .1) l))
 
 -- ---- accepted, then read
 
 -- whatever forms and cells `pack` accepts, the maxima having the extents' names, `read` gives back
 pub accepted-then-read : (count : ℕ) (forms : List Form) (cs out : List ℕ) → Bytes cs → AllNamed (shapesOf count forms)
-    → (n : ℕ) (y : List ℕ) → PackedInto (shapesOf count forms) cs out (Got n) y → (r : Reading) → ReadAll (take n y) r
-    → (As : List Array) × (shapes As ≡ shapesOf count forms) × (allCells As ≡ cs) × ReadBack (take n y) As r
-accepted-then-read count forms cs out h m n y p r v =
-    let w = accepted-read (shapesOf count forms) cs out n h m (sym (p .said)) in
+    → (n : ℕ) (p : PackCall) → Packs count forms cs out p → p .answer ≡ Got n → (r : ReadCall) → now (r .passed .0) ≡ take n (packedOut p)
+    → (As : List Array) × (shapes As ≡ shapesOf count forms) × (allCells As ≡ cs) × ReadBack (take n (packedOut p)) As (r .answer)
+accepted-then-read count forms cs out h m n p k a r is =
+    let q = packs p k in
+    let s : got n ≡ pack (shapesOf count forms) cs out .answer = ap numberSaid (sym a) ∙ q .said in
+    let w = accepted-read (shapesOf count forms) cs out n h m (sym s) in
     let b = w .3 in
-    let e = got-one (b .0) n (sym (b .1) ∙ sym (p .said)) in
-    (w .0, w .1, w .2, read-back (take n y) (w .0) r v (ap (λ (u : List ℕ). readBundle (take n u)) (p .wrote) ∙ (rw e at (b .2))))
+    let e = got-one (b .0) n (sym (b .1) ∙ sym s) in
+    let z = ap (λ (u : List ℕ). readBundle (take n u)) (q .wrote) ∙ (rw e at (b .2)) in
+    (w .0, w .1, w .2, read-back _ (w .0) (r .answer) (reads r is) z)

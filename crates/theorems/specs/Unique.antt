@@ -8,16 +8,18 @@ use Rattle.paper.specs.declared.ReferenceAnswer.{ReferenceAnswer}
 use Rattle.paper.specs.declared.WalkAnswer.{WalkAnswer}
 use Rattle.paper.specs.declared.Walk.{Walk}
 use Rattle.paper.specs.declared.TotalAnswer.{TotalAnswer}
+use Rattle.paper.specs.declared.PlanAnswer.{PlanAnswer}
 use Rattle.paper.specs.declared.PageAnswer.{PageAnswer}
 use Rattle.paper.specs.declared.StretchAnswer.{StretchAnswer}
 use Rattle.paper.specs.Refusals.{Res, got, refused}
 use Rattle.paper.specs.Reference.{Walked}
-use Rattle.paper.specs.Answers.{axesOf, extentOf, readSaid, numberSaid, referenceSaid, seenSaid, walkSaid, totalSaid, pageSaid, stretchSaid}
+use Rattle.paper.specs.Answers.{axesOf, extentOf, readSaid, numberSaid, planSaid, referenceSaid, seenSaid, walkSaid, totalSaid, pageSaid, stretchSaid}
 use Rattle.laws.specs.Answers.{TidyExtent, readingOf}
 use Rattle.paper.specs.declared.NumberAnswer.the-variants as Number
 use Rattle.paper.specs.declared.ReferenceAnswer.the-variants as Reference
 use Rattle.paper.specs.declared.WalkAnswer.the-variants as WalkCase
 use Rattle.paper.specs.declared.TotalAnswer.the-variants as Total
+use Rattle.paper.specs.declared.PlanAnswer.the-variants as Plan
 use Rattle.paper.specs.declared.PageAnswer.the-variants as Page
 use Rattle.paper.specs.declared.StretchAnswer.the-variants as Stretch
 
@@ -47,6 +49,9 @@ walk-one a b e =
 
 pub total-one : (a b : TotalAnswer) → totalSaid a ≡ totalSaid b → a ≡ b
 total-one = fixed totalSaid Total.Got Total.Refused (λ a. elim a [ Total.Got x ↦ refl | Total.Refused r ↦ refl ])
+
+pub plan-one : (a b : PlanAnswer) → planSaid a ≡ planSaid b → a ≡ b
+plan-one = fixed planSaid Plan.Got Plan.Refused (λ a. elim a [ Plan.Got x ↦ refl | Plan.Refused r ↦ refl ])
 
 pub page-one : (a b : PageAnswer) → pageSaid a ≡ pageSaid b → a ≡ b
 page-one = fixed pageSaid Page.Got Page.Refused (λ a. elim a [ Page.Got x ↦ refl | Page.Refused r ↦ refl ])

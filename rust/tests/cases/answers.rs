@@ -19,6 +19,8 @@ pub fn paper_answers(case: &Case) -> Answer {
         Function::Walk => face::rma_walk(&shared[0], n[0], &mut first[0], said),
         Function::Total => face::rma_total(&shared[0], n[0], n[1], said),
         Function::WriteJson => face::rma_write_json(&shared[0], n[0], &mut first[0], said),
+        Function::Plan => face::rma_plan(&shared[0], &shared[1], said),
+        Function::Extent => face::rma_extent(&shared[0], &shared[1], &mut first[0], said),
         Function::Run => face::rma_run(&shared[0], &shared[1], &mut first[0], said),
         Function::Page => {
             let [work, rows] = first else { unreachable!("a page lends work and rows") };
@@ -111,6 +113,8 @@ fn call(case: &Case, ground: &mut Ground) -> u32 {
             Function::Walk => raw::rma_walk(a, a_len, n[0], write(0), length(0), said, said_len),
             Function::Total => raw::rma_total(a, a_len, n[0], n[1], said, said_len),
             Function::WriteJson => raw::rma_write_json(a, a_len, n[0], write(0), length(0), said, said_len),
+            Function::Plan => raw::rma_plan(a, a_len, read(1), read_length(1), said, said_len),
+            Function::Extent => raw::rma_extent(a, a_len, read(1), read_length(1), write(0), length(0), said, said_len),
             Function::Run => raw::rma_run(a, a_len, read(1), read_length(1), write(0), length(0), said, said_len),
             Function::Page => {
                 let (recipe, recipe_len) = (read(1), read_length(1));

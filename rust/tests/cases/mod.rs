@@ -28,13 +28,15 @@ pub enum Function {
     Walk,
     Total,
     WriteJson,
+    Plan,
+    Extent,
     Run,
     Page,
     Stretch,
 }
 
 /// Each function with its name and its weight among the cases.
-pub const FUNCTIONS: [(Function, &str, u64); 10] = [
+pub const FUNCTIONS: [(Function, &str, u64); 12] = [
     (Function::Read, "rma_read", 20),
     (Function::Array, "rma_array", 12),
     (Function::Pack, "rma_pack", 22),
@@ -42,6 +44,8 @@ pub const FUNCTIONS: [(Function, &str, u64); 10] = [
     (Function::Walk, "rma_walk", 20),
     (Function::Total, "rma_total", 26),
     (Function::WriteJson, "rma_write_json", 24),
+    (Function::Plan, "rma_plan", 24),
+    (Function::Extent, "rma_extent", 24),
     (Function::Run, "rma_run", 40),
     (Function::Page, "rma_page", 52),
     (Function::Stretch, "rma_stretch", 24),
@@ -79,6 +83,8 @@ pub fn of_function(dice: &mut Dice, function: Function) -> Vec<Case> {
         Function::Walk => questions::walks(dice),
         Function::Total => questions::totals(dice),
         Function::WriteJson => json::writings(dice),
+        Function::Plan => vec![runs::plan(dice)],
+        Function::Extent => vec![runs::extent(dice)],
         Function::Run => vec![runs::run(dice)],
         Function::Page => runs::pages(dice),
         Function::Stretch => stretches::stretches(dice),

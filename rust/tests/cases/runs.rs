@@ -1,4 +1,4 @@
-//! Cases for run and page: work areas of exactly 9T, one less, more or none; row buffers from nothing to all rows and odd
+//! Cases for plan, extent, run and page: extent buffers of exactly a head, one less, more or none; work areas of exactly 9T, one less, more or none; row buffers from nothing to all rows and odd
 //! bytes; every kind of start; and pages chained to the end, whose rows joined must be the TRUE cells, each once.
 
 use super::answers::paper_answers;
@@ -27,6 +27,19 @@ fn meal(dice: &mut Dice, truth: bool) -> Meal {
     let recipe = recipe(dice, &arrays, Aim { truth, refusing });
     let bundle = if dice.one_in(16) { damaged(dice, &raw) } else { sound };
     Meal { arrays: read(&bundle).unwrap_or(arrays), bundle, recipe }
+}
+
+pub fn plan(dice: &mut Dice) -> Case {
+    let truth = dice.one_in(2);
+    let meal = meal(dice, truth);
+    Case { function: Function::Plan, shared: vec![meal.bundle, meal.recipe], numbers: vec![], lent: vec![said(dice)] }
+}
+
+pub fn extent(dice: &mut Dice) -> Case {
+    let truth = dice.one_in(2);
+    let meal = meal(dice, truth);
+    let lent = vec![lent(dice, 98), said(dice)];
+    Case { function: Function::Extent, shared: vec![meal.bundle, meal.recipe], numbers: vec![], lent }
 }
 
 pub fn run(dice: &mut Dice) -> Case {

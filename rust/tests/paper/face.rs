@@ -1,4 +1,4 @@
-//! The ten callable parts of the C face, answered by the paper: the returned number, the bytes of `said`, and
+//! The twelve callable parts of the C face, answered by the paper: the returned number, the bytes of `said`, and
 //! every lent buffer after. Each slice of the face is one slice here.
 
 use super::array::Declared;
@@ -68,6 +68,16 @@ pub fn rma_total(bundle: &[u8], array: u32, which: u32, said: &mut [u8]) -> u32 
 
 pub fn rma_write_json(bundle: &[u8], array: u32, out: &mut [u8], said: &mut [u8]) -> u32 {
     let answer = read(bundle).and_then(|arrays| json::write(&arrays, array, out));
+    say(answer.map(|length| numbers(&[length])), said)
+}
+
+pub fn rma_plan(bundle: &[u8], recipe: &[u8], said: &mut [u8]) -> u32 {
+    let answer = read(bundle).and_then(|arrays| listing::plan(&arrays, recipe));
+    say(answer.map(|figures| numbers(&figures)), said)
+}
+
+pub fn rma_extent(bundle: &[u8], recipe: &[u8], extent: &mut [u8], said: &mut [u8]) -> u32 {
+    let answer = read(bundle).and_then(|arrays| listing::extent(&arrays, recipe, extent));
     say(answer.map(|length| numbers(&[length])), said)
 }
 

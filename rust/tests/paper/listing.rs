@@ -1,8 +1,9 @@
-//! Run and page: the recipe judged step by step, then listing type (7), work area (10) and rows (11), then values,
+//! Plan, extent, run and page: the recipe judged step by step, then listing type (7), work area (10) and rows (11), then values,
 //! step by step, one whole array at a time. Says what each lent buffer holds afterwards.
 
 use super::array::{Array, Declared, Shape};
 use super::cell::{Cell, Type, CELL_BYTES};
+use super::extent::name_bytes;
 use super::judge::{judge, Shapes};
 use super::recipe::{steps_in, Step};
 use super::refusal::{refused, refused_at, Refusal};
@@ -71,6 +72,34 @@ pub fn operand<'a>(arrays: &'a [Declared], results: &'a [Array], which: u8) -> &
         _ => &results[usize::from(which) - 17],
     }
 }
+
+/// The plan call: T, and the last result's type, axis count and number of cells.
+pub fn plan(arrays: &[Declared], recipe: &[u8]) -> Result<[u32; 4], Refusal> {
+    let plan = Plan::of_recipe(arrays, recipe)?;
+    let last = plan.last();
+    Ok([plan.cells() as u32, u32::from(last.of.byte()), last.extent.axes.len() as u32, last.extent.cells() as u32])
+}
+
+/// The extent call: 98, and the last result's head at the beginning of `head`: each axis with the widest maximum, then zeros.
+pub fn extent(arrays: &[Declared], recipe: &[u8], head: &mut [u8]) -> Result<u32, Refusal> {
+    let plan = Plan::of_recipe(arrays, recipe)?;
+    if head.len() < HEAD {
+        return Err(refused(14, 0));
+    }
+    let axes = &plan.last().extent.axes;
+    let mut bytes = vec![plan.last().of.byte(), axes.len() as u8];
+    for axis in axes {
+        bytes.extend(name_bytes(&axis.name));
+        let limits = [axis.lower, axis.upper, -1_000_000, 1_000_000];
+        bytes.extend(limits.into_iter().flat_map(|limit: i32| limit.to_le_bytes()));
+    }
+    bytes.resize(HEAD, 0);
+    head[..HEAD].copy_from_slice(&bytes);
+    Ok(HEAD as u32)
+}
+
+/// The bytes of a head.
+const HEAD: usize = 98;
 
 /// The run call: T, and the work area filled.
 pub fn run(arrays: &[Declared], recipe: &[u8], work: &mut [u8]) -> Result<u32, Refusal> {

@@ -3,7 +3,7 @@ use mathlib.Core.Path.{refl}
 use Prim.Native.Nat.{_-_}
 use native.Mathlib.Omega.{arith}
 use Rattle.paper.specs.Limits.{mostArrays}
-use Rattle.c_asked.specs.Asked.{headLength}
+use Rattle.pack.specs.Heads.{headLength}
 use Rattle.c_asked.specs.Pieces.{Filling, filling-starts, filling-more, filling-ends}
 use Rattle.c_asked.specs.Heads.{formIn}
 use Rattle.c_asked.proofs.forms_in.Statement.{statement}

@@ -1,0 +1,2 @@
+-- What the call promises, for the theorems.
+pub mod Promised

@@ -1,0 +1,2 @@
+-- What the calls promise, for the theorems.
+pub mod Promised
