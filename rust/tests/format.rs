@@ -1,5 +1,6 @@
 //! The examples in hex of docs/FORMAT.md, read out of the page and put to the engine: the bundle is read, each operation's step is run over
-//! it and leaves the cells that the page prints, the rows and the answer of a page are those printed, and a head packs to its bundle.
+//! it and leaves the cells that the page prints, the rows and the answer of a page are those printed, so are a plan and the head of a result,
+//! and a head packs to its bundle.
 
 use std::collections::BTreeMap;
 use std::fs;
@@ -62,6 +63,21 @@ fn rows_and_their_answer() {
     let said: Vec<u8> = [answer.written, answer.next].iter().flat_map(|number| number.to_le_bytes()).collect();
     assert_eq!(said, blocks["said page"]);
     assert_eq!(Row::from_bytes(&rows[..12]), Row { ordinality: 1, coordinate: vec![1, 1] });
+}
+
+#[test]
+fn plan_and_head_of_the_result() {
+    let blocks = blocks();
+    let (bundle, recipe) = (&blocks["bundle"], &blocks["step right scalar"]);
+    let (mut said, mut head) = ([0; 16], [7; 98]);
+    let (b, b_len, r, r_len) = (bundle.as_ptr(), bundle.len(), recipe.as_ptr(), recipe.len());
+    // SAFETY: each pointer and length are one slice's; `said` and `head`, which are written to, are borrowed alone.
+    let refused = unsafe { raw::rma_plan(b, b_len, r, r_len, said.as_mut_ptr(), said.len()) };
+    assert_eq!((refused, &said[..]), (0, &blocks["said plan"][..]));
+    // SAFETY: as above.
+    let refused = unsafe { raw::rma_extent(b, b_len, r, r_len, head.as_mut_ptr(), head.len(), said.as_mut_ptr(), said.len()) };
+    assert_eq!((refused, &head[..]), (0, &blocks["head of the result"][..]));
+    assert_eq!(said[..4], [98, 0, 0, 0]);
 }
 
 #[test]
