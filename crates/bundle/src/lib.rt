@@ -71,17 +71,14 @@ pub fn array_of(s: &[u8], from: usize, k: u32, form: Form) -> ArrayRead
     requires { ⌜ from ≤ length (now s) ⌝ }
     ensures { λ r. ⌜ JudgedArray (now (s .entry)) from k form r ⌝ }
 {
-    let extent = form.extent;
-    let maximum = form.maximum;
-    let kind = form.kind;
-    let n = extent_cells(extent, maximum);
+    let n = extent_cells(form.extent, form.maximum);
     if n == 0 {
         return no_array(2, k, 0);
     }
     if s.len() - from < n * CELL_BYTES {
         return no_array(1, k, 0);
     }
-    let bad = first_bad(s, from, kind, n);
+    let bad = first_bad(s, from, form.kind, n);
     if bad != 0 {
         return no_array(3, k, bad as u32);
     }
@@ -162,9 +159,8 @@ pub fn read(s: &[u8]) -> Reading
     let mut i: usize = 0;
     while i < n {
         let one = array_at(s, at, (i + 1) as u32);
-        let refusal = one.refusal;
-        if refusal.number != 0 {
-            return no_reading(refusal);
+        if one.refusal.number != 0 {
+            return no_reading(one.refusal);
         }
         let h = one.head;
         heads[i] = h;

@@ -12,8 +12,7 @@ use mir.Facts.{toZ-ofZ, fits-ofZ}
 use borrow.Author.Tests.{ltb-true, ltb-false}
 use Rattle.laws.specs.Parts.{up, dn, One, one-part, sub-parts, add-parts, minus-parts, fit-parts, parts-fit, parts-eq, toZ-low, toZ-high}
 use Rattle.paper.specs.Operators.{fitInt}
-use Rattle.paper.specs.Refusals.{if_then_else_, noFit12}
-use Rattle.paper.specs.declared.Answer.{Answer}
+use Rattle.paper.specs.Refusals.{noFit12}
 use Rattle.paper.specs.declared.Answer.the-variants.{Is, Refused}
 use Rattle.paper.specs.declared.Cell.the-variants.{Int}
 use Rattle.cell.specs.Signs.{signsApart}
@@ -28,24 +27,12 @@ toZ-parts n h = go (ltb n (2 ^ 63)) refl
     go true e = let l : n < 2 ^ 63 = ltb-true n (2 ^ 63) e in omega (arith, toZ-low w64 n l, one-part (toZ w64 n))
     go false e = let l : 2 ^ 63 ≤ n = ltb-false n (2 ^ 63) e in omega (arith, toZ-high w64 n l h, one-part (toZ w64 n))
 
--- s is at most 2 ^ 63 away from x, and n is its bits
-pub record Near (x s : ℤ) (n : ℕ) : Type 0 where
-  bits : n ≡ (up s + (2 ^ 64 - dn s)) % 2 ^ 64
-  over : up s + dn x ≤ up x + dn s + 2 ^ 63
-  under : up x + dn s ≤ up s + dn x + 2 ^ 63
-
+-- the bits of a sum and of a difference, which wrap
 add-bits : (x y : ℤ) → SFits w64 x → SFits w64 y → (ofZ w64 x + ofZ w64 y) % 2 ^ 64 ≡ (up (x +ℤ y) + (2 ^ 64 - dn (x +ℤ y))) % 2 ^ 64
 add-bits (pos a) (pos b) f g = omega (arith, f .sfits, g .sfits)
 add-bits (pos a) (negsuc b) f g = omega (arith, sub-parts a (suc b), f .sfits, g .sfits)
 add-bits (negsuc a) (pos b) f g = omega (arith, sub-parts b (suc a), f .sfits, g .sfits)
 add-bits (negsuc a) (negsuc b) f g = omega (arith, f .sfits, g .sfits)
-
-pub near-add : (x y : ℤ) → SFits w64 x → SFits w64 y → Near x (x +ℤ y) ((ofZ w64 x + ofZ w64 y) % 2 ^ 64)
-near-add x y f g = record {
-  bits = add-bits x y f g;
-  over = omega (arith, add-parts x y, fit-parts g);
-  under = omega (arith, add-parts x y, fit-parts g);
-}
 
 sub-bits : (x y : ℤ) (n : ℕ) → SFits w64 x → SFits w64 y → n < 2 ^ 64 → (n + ofZ w64 y) % 2 ^ 64 ≡ ofZ w64 x → n ≡ (up (x -ℤ y) + (2 ^ 64 - dn (x -ℤ y))) % 2 ^ 64
 sub-bits (pos a) (pos b) n f g h e = omega (arith, minus-parts (pos a) (pos b), f .sfits, g .sfits)
@@ -53,28 +40,14 @@ sub-bits (pos a) (negsuc b) n f g h e = omega (arith, minus-parts (pos a) (negsu
 sub-bits (negsuc a) (pos b) n f g h e = omega (arith, minus-parts (negsuc a) (pos b), f .sfits, g .sfits)
 sub-bits (negsuc a) (negsuc b) n f g h e = omega (arith, minus-parts (negsuc a) (negsuc b), f .sfits, g .sfits)
 
-pub near-sub : (x y : ℤ) (n : ℕ) → SFits w64 x → SFits w64 y → n < 2 ^ 64 → (n + ofZ w64 y) % 2 ^ 64 ≡ ofZ w64 x → Near x (x -ℤ y) n
-near-sub x y n f g h e = record {
-  bits = sub-bits x y n f g h e;
-  over = omega (arith, minus-parts x y, fit-parts g);
-  under = omega (arith, minus-parts x y, fit-parts g);
-}
-
--- ---- what the code answers: z, read back from its bits, or refusal 12
-
-abbrev pub wrapped : Bool → ℤ → Answer
-wrapped fits z = if fits then Is (Int (toZ w64 (ofZ w64 z))) else Refused noFit12
-
-module _ (x s z : ℤ) (n : ℕ) (f : SFits w64 x) (c : Near x s n) (e : z ≡ toZ w64 n) where
-  parts : (up z + n / 2 ^ 63 * 2 ^ 64 ≡ n + dn z) × One z
-  parts = let h : n < 2 ^ 64 = omega (arith, c .bits) in rw e (toZ-parts n h)
-
-  -- s fits, so z is s
-  same : (up s < 2 ^ 63) × (dn s ≤ 2 ^ 63) → wrapped true z ≡ fitInt s
-  same h =
-      let g : SFits w64 s = parts-fit w64 s h in
-      let i : z ≡ s = parts-eq z s (omega (arith, one-part s, parts, c .bits)) in
-      ap (λ (y : ℤ). Is (Int (toZ w64 (ofZ w64 y)))) i ∙ ap (λ (y : ℤ). Is (Int y)) (toZ-ofZ g) ∙ sym (fit-yes s g)
+-- s fits, so z, which its bits n read back as, is s
+same : (s z : ℤ) (n : ℕ) → n ≡ (up s + (2 ^ 64 - dn s)) % 2 ^ 64 → z ≡ toZ w64 n → (up s < 2 ^ 63) × (dn s ≤ 2 ^ 63)
+    → Is (Int (toZ w64 (ofZ w64 z))) ≡ fitInt s
+same s z n b e h =
+    let p : (up z + n / 2 ^ 63 * 2 ^ 64 ≡ n + dn z) × One z = rw e (toZ-parts n (omega arith)) in
+    let g : SFits w64 s = parts-fit w64 s h in
+    let i : z ≡ s = parts-eq z s (omega (arith, one-part s)) in
+    ap (λ (y : ℤ). Is (Int (toZ w64 (ofZ w64 y)))) i ∙ ap (λ (y : ℤ). Is (Int y)) (toZ-ofZ g) ∙ sym (fit-yes s g)
 
 -- a number's bits, in parts
 ofZ-parts : (x : ℤ) → SFits w64 x → up x + ofZ w64 x / 2 ^ 63 * 2 ^ 64 ≡ ofZ w64 x + dn x
@@ -85,16 +58,13 @@ ofZ-parts x f =
 
 module _ (x y : ℤ) (f : SFits w64 x) (g : SFits w64 y) where
   -- the sum that wraps: it fits exactly if it has the sign of x or of y
-  module _ (z : ℤ) (e : z ≡ toZ w64 ((ofZ w64 x + ofZ w64 y) % 2 ^ 64)) where
-    abbrev n : ℕ
-    n = (ofZ w64 x + ofZ w64 y) % 2 ^ 64
-
-    pub add-fits : signsApart (ofZ w64 x) (ofZ w64 y) n ≡ false → Is (Int (toZ w64 (ofZ w64 z))) ≡ fitInt (x +ℤ y)
-    add-fits h =
-        same x (x +ℤ y) z n f (near-add x y f g) e
-        (signs-no (ofZ w64 x) (ofZ w64 y) n ((up (x +ℤ y) < 2 ^ 63) × (dn (x +ℤ y) ≤ 2 ^ 63)) h
-        (λ s. omega (arith, add-parts x y, one-part x, one-part y, ofZ-parts x f, ofZ-parts y g, fit-parts f, fit-parts g, s))
-        (λ s. omega (arith, add-parts x y, one-part x, one-part y, ofZ-parts x f, ofZ-parts y g, fit-parts f, fit-parts g, s)))
+  pub add-fits : (z : ℤ) → z ≡ toZ w64 ((ofZ w64 x + ofZ w64 y) % 2 ^ 64)
+      → signsApart (ofZ w64 x) (ofZ w64 y) ((ofZ w64 x + ofZ w64 y) % 2 ^ 64) ≡ false → Is (Int (toZ w64 (ofZ w64 z))) ≡ fitInt (x +ℤ y)
+  add-fits z e h =
+      same (x +ℤ y) z _ (add-bits x y f g) e
+      (signs-no (ofZ w64 x) (ofZ w64 y) ((ofZ w64 x + ofZ w64 y) % 2 ^ 64) ((up (x +ℤ y) < 2 ^ 63) × (dn (x +ℤ y) ≤ 2 ^ 63)) h
+      (λ s. omega (arith, add-parts x y, one-part x, one-part y, ofZ-parts x f, ofZ-parts y g, fit-parts f, fit-parts g, s))
+      (λ s. omega (arith, add-parts x y, one-part x, one-part y, ofZ-parts x f, ofZ-parts y g, fit-parts f, fit-parts g, s)))
 
   pub add-over : signsApart (ofZ w64 x) (ofZ w64 y) ((ofZ w64 x + ofZ w64 y) % 2 ^ 64) ≡ true → Refused noFit12 ≡ fitInt (x +ℤ y)
   add-over h =
@@ -109,7 +79,7 @@ module _ (x y : ℤ) (f : SFits w64 x) (g : SFits w64 y) where
   module _ (n : ℕ) (l : n < 2 ^ 64) (d : (n + ofZ w64 y) % 2 ^ 64 ≡ ofZ w64 x) where
     pub sub-fits : (z : ℤ) → z ≡ toZ w64 n → signsApart (ofZ w64 y) n (ofZ w64 x) ≡ false → Is (Int (toZ w64 (ofZ w64 z))) ≡ fitInt (x -ℤ y)
     sub-fits z e h =
-        same x (x -ℤ y) z n f (near-sub x y n f g l d) e
+        same (x -ℤ y) z n (sub-bits x y n f g l d) e
         (signs-no (ofZ w64 y) n (ofZ w64 x) ((up (x -ℤ y) < 2 ^ 63) × (dn (x -ℤ y) ≤ 2 ^ 63)) h
         (λ s. omega (arith, minus-parts x y, one-part x, one-part y, ofZ-parts x f, ofZ-parts y g, fit-parts f, fit-parts g, s))
         (λ s. omega (arith, minus-parts x y, one-part x, one-part y, ofZ-parts x f, ofZ-parts y g, fit-parts f, fit-parts g, s)))

@@ -113,18 +113,20 @@ pub fn ints(code: u8, ma: u8, na: u64, mb: u8, nb: u64) -> Answer
     requires { ⌜ Judged code na nb ⌝ }
     ensures { λ r. ⌜ r ≡ answered code ma na mb nb ⌝ }
 {
+    let a = int_cell(ma, na);
+    let b = int_cell(mb, nb);
     match code {
-        1 => add(int_cell(ma, na), int_cell(mb, nb)),
-        2 => sub(int_cell(ma, na), int_cell(mb, nb)),
-        3 => mul(int_cell(ma, na), int_cell(mb, nb)),
-        4 => div(int_cell(ma, na), int_cell(mb, nb)),
-        5 => modulo(int_cell(ma, na), int_cell(mb, nb)),
-        6 => eq(int_cell(ma, na), int_cell(mb, nb)),
-        7 => ne(int_cell(ma, na), int_cell(mb, nb)),
-        8 => lt(int_cell(ma, na), int_cell(mb, nb)),
-        9 => le(int_cell(ma, na), int_cell(mb, nb)),
-        10 => gt(int_cell(ma, na), int_cell(mb, nb)),
-        11 => ge(int_cell(ma, na), int_cell(mb, nb)),
+        1 => add(a, b),
+        2 => sub(a, b),
+        3 => mul(a, b),
+        4 => div(a, b),
+        5 => modulo(a, b),
+        6 => eq(a, b),
+        7 => ne(a, b),
+        8 => lt(a, b),
+        9 => le(a, b),
+        10 => gt(a, b),
+        11 => ge(a, b),
         _ => Answer::Is(Cell::Empty),
     }
 }
@@ -154,11 +156,13 @@ pub fn truths(code: u8, ma: u8, na: u64, mb: u8, nb: u64) -> Answer
     requires { ⌜ Judged code na nb ⌝ }
     ensures { λ r. ⌜ r ≡ answered code ma na mb nb ⌝ }
 {
+    let a = truth_cell(ma, na);
+    let b = truth_cell(mb, nb);
     match code {
-        38 => eq(truth_cell(ma, na), truth_cell(mb, nb)),
-        39 => ne(truth_cell(ma, na), truth_cell(mb, nb)),
-        44 => and(truth_cell(ma, na), truth_cell(mb, nb)),
-        45 => or(truth_cell(ma, na), truth_cell(mb, nb)),
+        38 => eq(a, b),
+        39 => ne(a, b),
+        44 => and(a, b),
+        45 => or(a, b),
         _ => Answer::Is(Cell::Empty),
     }
 }

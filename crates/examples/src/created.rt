@@ -1,27 +1,31 @@
 // The report's clause 5: the arrays that it gives by their elements, tables 2, 4 and 5, and the updates of 5.5: a part of the same
 // dimension, a slice, and a single element.
-use crate::arrays::TEMP;
-use crate::arrays::X;
-use crate::arrays::Y;
-use crate::arrays::cube;
-use crate::arrays::put_cube;
-use crate::arrays::put_temp;
-use crate::ask::pack_arrays;
 use crate::ask::show_array;
 use crate::ask::show_step;
 use crate::ask::show_steps;
-use crate::make::FLOAT;
-use crate::make::INT;
-use crate::make::PLACE;
-use crate::make::RESHAPE;
-use crate::make::STEP_1;
-use crate::make::UPDATE;
-use crate::make::extent;
-use crate::make::fixed;
-use crate::make::put_floats;
-use crate::make::put_ints;
-use paper::Extent;
+use crate::say::say_table;
+use ask_and_say::arrays::TEMP;
+use ask_and_say::arrays::X;
+use ask_and_say::arrays::Y;
+use ask_and_say::arrays::cube;
+use ask_and_say::arrays::put_cube;
+use ask_and_say::arrays::put_temp;
+use ask_and_say::ask::pack_arrays;
+use ask_and_say::make::PLACE;
+use ask_and_say::make::STEP_1;
+use ask_and_say::make::UPDATE;
+use ask_and_say::make::flat;
+use ask_and_say::make::line;
+use ask_and_say::make::of_two;
+use ask_and_say::make::put_floats;
+use ask_and_say::make::put_six;
+use ask_and_say::make::reshape_block;
+use ask_and_say::make::solid;
+use ask_and_say::make::within;
+use ask_and_say::say::say;
+use paper::FLOAT;
 use paper::Form;
+use paper::INT;
 
 // The operands: the array that is updated, the part, the slice and the element.
 const TARGET: u8 = 1;
@@ -37,79 +41,92 @@ const T: u64 = 0x74;
 
 // ---- arrays
 
-fn pack_four(bundle: &mut [u8]) {
-    let temp = fixed(FLOAT, extent(1, [TEMP, 0, 0], [10, 19, 0, 0, 0, 0]));
-    let mut forms = [temp; paper::ARRAYS];
-    forms[1] = cube();
-    forms[2] = fixed(INT, extent(1, [X, 0, 0], [1, 6, 0, 0, 0, 0]));
-    forms[3] = fixed(INT, extent(3, [T, X, Y], [0, 0, 0, 2, 0, 1]));
-    let mut cells = [0u8; 270];
-    put_temp(&mut cells);
-    put_cube(&mut cells, 10);
-    put_ints(&mut cells, 18, [1, 2, 3, 4, 5, 6]);
-    put_ints(&mut cells, 24, [1, 2, 3, 4, 5, 6]);
-    pack_arrays(4, forms, &cells, bundle);
+fn put_arrays(cells: &mut [u8]) {
+    put_temp(cells);
+    put_cube(cells, 10);
+    put_six(cells, 18, 1, 2, 3, 4, 5, 6);
+    put_six(cells, 24, 1, 2, 3, 4, 5, 6);
 }
 
-fn show_arrays() {
+fn pack_created(bundle: &mut [u8]) {
+    let mut cells = [0u8; 270];
+    put_arrays(&mut cells);
+    let temp = line(FLOAT, TEMP, 10, 19);
+    let row = line(INT, X, 1, 6);
+    let block = solid(INT, T, 0, 0, X, 0, 2, Y, 0, 1);
+    let _ = pack_arrays(4, temp, cube(), row, block, &cells, bundle);
+}
+
+fn show_arrays(bundle: &[u8]) {
+    say_table(2, 1);
+    show_array(bundle, 0);
+    say_table(2, 3);
+    show_array(bundle, 1);
+    say(b"tables 4 and 5 row 1:");
+    show_array(bundle, 2);
+    say(b"tables 4 and 5 row 3:");
+    show_array(bundle, 3);
+}
+
+fn show_created() {
     let mut bundle = [0u8; 476];
-    pack_four(&mut bundle);
-    show_array(b"table 2 row 1:", &bundle, 0);
-    show_array(b"table 2 row 3:", &bundle, 1);
-    show_array(b"tables 4 and 5 row 1:", &bundle, 2);
-    show_array(b"tables 4 and 5 row 3:", &bundle, 3);
+    pack_created(&mut bundle);
+    show_arrays(&bundle);
 }
 
 // ---- updates
 
 // t, x and y from 1 on.
-fn block(t: i64, x: i64, y: i64) -> Extent {
-    extent(3, [T, X, Y], [1, t, 1, x, 1, y])
+fn block(t: i64, x: i64, y: i64) -> Form {
+    solid(FLOAT, T, 1, t, X, 1, x, Y, 1, y)
 }
 
 // The report's zeros of four cells, in a maximum of t(1:12), x(1:1000), y(1:1000).
-fn target_form() -> Form {
-    let extent = block(1, 1, 4);
-    let maximum = block(12, 1000, 1000);
-    Form {
-        kind: FLOAT,
-        extent,
-        maximum,
-    }
+fn target() -> Form {
+    within(block(1, 1, 4), block(12, 1000, 1000))
+}
+
+fn put_updates(cells: &mut [u8]) {
+    put_floats(cells, 0, 0.0, 0.0, 0.0, 0.0);
+    put_floats(cells, 4, 0.0, 1.0, 2.0, 5.0);
+    put_floats(cells, 8, 1.0, 2.0, 3.0, 5.2);
 }
 
 fn pack_updates(bundle: &mut [u8]) {
-    let target = target_form();
-    let mut forms = [target; paper::ARRAYS];
-    forms[1] = fixed(FLOAT, block(1, 1, 3));
-    forms[2] = fixed(FLOAT, extent(2, [X, Y, 0], [1, 1, 1, 4, 0, 0]));
-    forms[3] = fixed(FLOAT, block(1, 1, 1));
     let mut cells = [0u8; 108];
-    put_floats(&mut cells, 0, [0.0, 0.0, 0.0, 0.0]);
-    put_floats(&mut cells, 4, [0.0, 1.0, 2.0, 5.0]);
-    put_floats(&mut cells, 8, [1.0, 2.0, 3.0, 5.2]);
-    pack_arrays(4, forms, &cells, bundle);
+    put_updates(&mut cells);
+    let slice = flat(FLOAT, X, 1, 1, Y, 1, 4);
+    let _ = pack_arrays(
+        4,
+        target(),
+        block(1, 1, 3),
+        slice,
+        block(1, 1, 1),
+        &cells,
+        bundle,
+    );
 }
 
 // The slice at t 2 lies outside the target, until a reshape has given it the second t; the element comes after the part.
-fn show_updates() {
-    let mut bundle = [0u8; 386];
-    pack_updates(&mut bundle);
-    let no = [0, 0, 0, 0, 0, 0];
-    let at_2 = [2, 0, 0, 0, 0, 0];
-    let part = [UPDATE, TARGET, PART, 0];
-    show_step(b"5.5.2 case 2:", &bundle, part, no);
-    let slice = [PLACE, TARGET, SLICE, 1];
-    show_step(b"5.5.3, not reshaped:", &bundle, slice, at_2);
-    let reshape = [RESHAPE, TARGET, 0, 0];
-    let limits = [1, 2, 1, 1, 1, 4];
-    let placed = [PLACE, STEP_1, SLICE, 1];
-    show_steps(b"5.5.3, reshaped:", &bundle, reshape, limits, placed, at_2);
-    let element = [UPDATE, STEP_1, ELEMENT, 0];
-    show_steps(b"5.5.4:", &bundle, part, no, element, no);
+fn show_updates(bundle: &[u8]) {
+    let part = of_two(UPDATE, TARGET, PART, 0, 0);
+    say(b"5.5.2 case 2:");
+    show_step(bundle, part);
+    say(b"5.5.3, not reshaped:");
+    show_step(bundle, of_two(PLACE, TARGET, SLICE, 1, 2));
+    say(b"5.5.3, reshaped:");
+    show_steps(
+        bundle,
+        reshape_block(TARGET, 2, 1, 4),
+        of_two(PLACE, STEP_1, SLICE, 1, 2),
+    );
+    say(b"5.5.4:");
+    show_steps(bundle, part, of_two(UPDATE, STEP_1, ELEMENT, 0, 0));
 }
 
 pub fn show() {
-    show_arrays();
-    show_updates();
+    show_created();
+    let mut bundle = [0u8; 386];
+    pack_updates(&mut bundle);
+    show_updates(&bundle);
 }

@@ -1,22 +1,16 @@
-// The printed examples and the cases of the papers, run through the engine's calls: a line says which it is, and what the engine gave.
-// `make` has the arrays and steps, `ask` the calls, `say` the printing; each other module is a story, and `arrays` what stories share.
-mod arrays;
+// The examples of the report's clauses 5 and 6, and the papers' cases of trims, glued arrays and numbers: a line says which it is, and
+// what the engine gave.
+// `ask` has the calls, `say` the printing; each other module is a story. The other stories are those of the program `calls`.
 mod ask;
-mod bundles;
 mod created;
-mod hours;
-mod json;
 mod kernels;
-mod make;
 mod numbers;
 mod planes;
 mod say;
 
 fn main() {
-    bundles::show();
     created::show();
     kernels::show();
     planes::show();
     numbers::show();
-    hours::show();
 }

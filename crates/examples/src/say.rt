@@ -1,96 +1,57 @@
-// Numbers, cells, refusals, extents and rows, printed.
+// Extents, cells and the names of tables, printed.
+use ask_and_say::say::say;
+use ask_and_say::say::say_byte;
+use ask_and_say::say::say_cell;
+use ask_and_say::say::say_count;
+use ask_and_say::say::say_number;
 use cell::bytes::Got;
-use cell::bytes::half;
 use cell::bytes::read_cell;
-use cell::bytes::word_of;
-use libc::STDOUT_FILENO;
-use paper::Cell;
 use paper::Extent;
-use paper::Refusal;
-
-pub fn say(text: &[u8]) {
-    io::write_all(STDOUT_FILENO, text);
-}
-
-pub fn say_number(n: u64) {
-    io::print_decimal(STDOUT_FILENO, n);
-}
-
-// A word and a number.
-pub fn say_count(word: &[u8], n: u64) {
-    say(word);
-    say_number(n);
-}
-
-// A signed number from its bits.
-fn say_int(bits: u64) {
-    if bits < 0x8000_0000_0000_0000 {
-        say_number(bits);
-    } else {
-        say_count(b"-", 0xffff_ffff_ffff_ffff - bits + 1);
-    }
-}
-
-// A FLOAT is printed as the 16 digits of its bits.
-pub fn say_cell(c: Cell) {
-    match c {
-        Cell::Empty => say(b"empty"),
-        Cell::Int(_) => say_int(word_of(c)),
-        Cell::Float(_) => {
-            io::print_hex(STDOUT_FILENO, word_of(c), 16);
-        }
-        Cell::Truth(t) => {
-            if t {
-                say(b"TRUE");
-            } else {
-                say(b"FALSE");
-            }
-        }
-    }
-}
-
-pub fn say_refusal(r: Refusal) {
-    say_count(b"refused ", r.number as u64);
-    say_count(b" ", r.place as u64);
-    say_count(b" ", r.ordinality as u64);
-    say(b"\n");
-}
 
 // ---- extents
 
 // A position from its distance above -1,000,000.
 fn say_position(d: u32) {
     if d < 1_000_000 {
-        say_count(b"-", (1_000_000 - d) as u64);
+        say_byte(b'-');
+        say_number((1_000_000 - d) as u64);
     } else {
         say_number((d - 1_000_000) as u64);
     }
 }
 
-fn say_letter(code: u64) {
-    let letter = [(code % 256) as u8];
-    if letter[0] != 0 {
-        say(&letter);
+// A byte, unless it is 0.
+pub fn say_letter(code: u64) {
+    let letter = (code % 256) as u8;
+    if letter != 0 {
+        say_byte(letter);
     }
 }
 
-// An axis with the first four letters of its name: the examples' names have no more.
+// The first four letters of a name: the examples' names have no more.
+fn say_name(name: u64) {
+    say_byte(b' ');
+    say_letter(name);
+    say_letter(name / 256);
+    say_letter(name / 65536);
+    say_letter(name / 16777216);
+}
+
+fn say_limits(lo: u32, hi: u32) {
+    say_byte(b'(');
+    say_position(lo);
+    say_byte(b':');
+    say_position(hi);
+    say_byte(b')');
+}
+
 fn say_axis(e: Extent, k: usize) {
     if k < e.rank {
         if k < paper::AXES {
             let axes = e.axes;
             let axis = axes[k];
-            let name = axis.name;
-            say(b" ");
-            say_letter(name);
-            say_letter(name / 256);
-            say_letter(name / 65536);
-            say_letter(name / 16777216);
-            say(b"(");
-            say_position(axis.lo);
-            say(b":");
-            say_position(axis.hi);
-            say(b")");
+            say_name(axis.name);
+            say_limits(axis.lo, axis.hi);
         }
     }
 }
@@ -109,7 +70,7 @@ fn say_one(kind: u8, cells: &[u8], k: usize) {
     if k < cells.len() / 9 {
         match read_cell(cells, k * 9, kind) {
             Got::Is(c) => {
-                say(b" ");
+                say_byte(b' ');
                 say_cell(c);
             }
             Got::Bad => say(b" bad"),
@@ -124,29 +85,12 @@ pub fn say_cells(kind: u8, cells: &[u8], from: usize, to: usize) {
         say_one(kind, cells, k);
         k += 1;
     }
-    say(b"\n");
+    say_byte(b'\n');
 }
 
-// ---- rows
-
-// Row k, from 0, of the n rows that were written: its ordinality and two coordinates, none of them negative.
-fn say_row(rows: &[u8], k: usize, n: u32) {
-    if k < n as usize {
-        if k < rows.len() / 12 {
-            say_count(b", ", half(rows, k * 12) as u64);
-            say_count(b" ", half(rows, k * 12 + 4) as u64);
-            say_count(b" ", half(rows, k * 12 + 8) as u64);
-        }
-    }
-}
-
-// How many rows were written, where to go on, and up to four rows.
-pub fn say_listed(rows: &[u8], n: u32, next: u32) {
-    say_count(b" found ", n as u64);
-    say_count(b", next ", next as u64);
-    say_row(rows, 0, n);
-    say_row(rows, 1, n);
-    say_row(rows, 2, n);
-    say_row(rows, 3, n);
-    say(b"\n");
+// The name of a table's row.
+pub fn say_table(table: u64, row: u64) {
+    say_count(b"table ", table);
+    say_count(b" row ", row);
+    say_byte(b':');
 }

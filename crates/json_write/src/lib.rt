@@ -53,10 +53,15 @@ fn cell_length(c: Cell) -> usize
     ensures { λ r. ⌜ r ≡ length (cellText c) ⌝ }
 {
     match c {
-        Cell::Empty => 4,
-        Cell::Int(z) => int_length(z),
-        Cell::Float(_) => 0,
-        Cell::Truth(b) => { if b { 4 } else { 5 } }
+        Cell::Empty => return 4,
+        Cell::Int(z) => return int_length(z),
+        Cell::Float(_) => return 0,
+        Cell::Truth(b) => {
+            if b {
+                return 4;
+            }
+            return 5;
+        }
     }
 }
 
@@ -86,14 +91,6 @@ fn json_length(s: &[u8], from: usize, kind: u8, extent: Extent, n: usize) -> usi
 
 // ---- the text
 
-fn put(out: &mut [u8], at: usize, b: u8) -> usize
-    requires { ⌜ at < length (now out) ⌝ }
-    ensures { λ r. ⌜ Stored (now (out .entry)) at (b ∷ []) r (now (out .exit)) ⌝ }
-{
-    out[at] = b;
-    at + 1
-}
-
 // What follows an item with so many more after it: a comma, but after the last.
 fn put_comma(out: &mut [u8], at: usize, more: u64) -> usize
     requires { ⌜ at + length (comma more) ≤ length (now out) ⌝ }
@@ -102,7 +99,8 @@ fn put_comma(out: &mut [u8], at: usize, more: u64) -> usize
     if more == 0 {
         return at;
     }
-    put(out, at, b',')
+    out[at] = b',';
+    at + 1
 }
 
 // A cell.
@@ -111,15 +109,14 @@ fn put_cell(out: &mut [u8], at: usize, c: Cell) -> usize
     ensures { λ r. ⌜ Stored (now (out .entry)) at (cellText c) r (now (out .exit)) ⌝ }
 {
     match c {
-        Cell::Empty => put_text(out, at, b"null"),
-        Cell::Int(z) => put_int(out, at, z),
-        Cell::Float(_) => at,
+        Cell::Empty => return put_text(out, at, b"null"),
+        Cell::Int(z) => return put_int(out, at, z),
+        Cell::Float(_) => return at,
         Cell::Truth(b) => {
             if b {
-                put_text(out, at, b"true")
-            } else {
-                put_text(out, at, b"false")
+                return put_text(out, at, b"true");
             }
+            return put_text(out, at, b"false");
         }
     }
 }
@@ -130,24 +127,24 @@ struct Pen {
     cell: usize,
 }
 
-// The cells of the last axis.
-fn put_cells(out: &mut [u8], pen: Pen, s: &[u8], from: usize, kind: u8, width: u64) -> Pen
-    requires { ⌜ RowReady (now s) from kind width (pen .at) (pen .cell) (length (now out)) ⌝ }
-    ensures { λ r. ⌜ RowDrawn (now (s .entry)) from kind width (pen .at) (pen .cell) (now (out .entry))
+// The cells of the last axis, which has so many more.
+fn put_cells(out: &mut [u8], pen: Pen, s: &[u8], from: usize, kind: u8, mut more: u64) -> Pen
+    requires { ⌜ RowReady (now s) from kind more (pen .at) (pen .cell) (length (now out)) ⌝ }
+    ensures { λ r. ⌜ RowDrawn (now (s .entry)) from kind more (pen .at) (pen .cell) (now (out .entry))
         (r .at) (r .cell) (now (out .exit)) ⌝ }
 {
-    let begin = pen.at;
+    let mut at = pen.at;
     let mut cell = pen.cell;
-    let mut at = put(out, begin, b'[');
-    let mut more = width;
+    out[at] = b'[';
+    at += 1;
     while 0 < more {
         more -= 1;
         at = put_cell(out, at, held_cell(s, from, kind, cell));
         at = put_comma(out, at, more);
         cell += 1;
     }
-    let end = put(out, at, b']');
-    Pen { at: end, cell }
+    out[at] = b']';
+    Pen { at: at + 1, cell }
 }
 
 // The first of the axes that are left.
@@ -162,7 +159,7 @@ fn axis_left(e: Extent, left: usize) -> Axis
 // The axes that are left, from a cell on: with one left its cells; with more the same again at each position of the first.
 fn put_axes(
     out: &mut [u8],
-    pen: Pen,
+    mut pen: Pen,
     s: &[u8],
     from: usize,
     kind: u8,
@@ -173,21 +170,22 @@ fn put_axes(
     ensures { λ r. ⌜ Drawn (now (s .entry)) from kind (axesOf extent) left (pen .at) (pen .cell) (now (out .entry))
         (r .at) (r .cell) (now (out .exit)) ⌝ }
 {
-    let width = width_of(axis_left(extent, left));
+    let mut more = width_of(axis_left(extent, left));
     if left == 1 {
-        return put_cells(out, pen, s, from, kind, width);
+        return put_cells(out, pen, s, from, kind, more);
     }
-    let mut cell = pen.cell;
-    let mut at = put(out, pen.at, b'[');
-    let mut more = width;
+    let begin = pen.at;
+    out[begin] = b'[';
+    pen.at = begin + 1;
     while 0 < more {
         more -= 1;
-        let next = put_axes(out, Pen { at, cell }, s, from, kind, extent, left - 1);
-        at = put_comma(out, next.at, more);
-        cell = next.cell;
+        pen = put_axes(out, pen, s, from, kind, extent, left - 1);
+        pen.at = put_comma(out, pen.at, more);
     }
-    at = put(out, at, b']');
-    Pen { at, cell }
+    let end = pen.at;
+    out[end] = b']';
+    pen.at = end + 1;
+    pen
 }
 
 // The whole object.
@@ -198,7 +196,9 @@ fn put_json(out: &mut [u8], s: &[u8], from: usize, kind: u8, extent: Extent) -> 
     let rank = rank_of(extent);
     let first = put_text(out, 0, b"{\"data\":");
     let pen = put_axes(out, Pen { at: first, cell: 0 }, s, from, kind, extent, rank);
-    put(out, pen.at, b'}')
+    let end = pen.at;
+    out[end] = b'}';
+    end + 1
 }
 
 // Array k of a bundle as JSON: the text's length, or the refusal; then `out` is as it was.
@@ -211,19 +211,25 @@ pub fn write(s: &[u8], k: u32, out: &mut [u8]) -> NumberAnswer
     if refusal.number != 0 {
         return NumberAnswer::Refused(refusal);
     }
-    let head = array.head;
-    let form = head.form;
-    let kind = form.kind;
-    if kind == FLOAT {
+    if array.head.form.kind == FLOAT {
         return NumberAnswer::Refused(refuse(7, k));
     }
-    let extent = form.extent;
-    let from = head.at;
-    let n = head.cells;
-    let long = json_length(s, from, kind, extent, n);
+    let long = json_length(
+        s,
+        array.head.at,
+        array.head.form.kind,
+        array.head.form.extent,
+        array.head.cells,
+    );
     if out.len() < long {
         return NumberAnswer::Refused(refuse(14, 0));
     }
-    put_json(out, s, from, kind, extent);
+    put_json(
+        out,
+        s,
+        array.head.at,
+        array.head.form.kind,
+        array.head.form.extent,
+    );
     NumberAnswer::Got(long as u32)
 }

@@ -19,22 +19,23 @@ pub enum SingleGot {
 pub fn pair_op(n: u8) -> PairGot
     ensures { λ r. ⌜ toldPair r ≡ pairOp n ⌝ }
 {
-    match n {
-        1 => PairGot::Is(PairOp::Add),
-        2 => PairGot::Is(PairOp::Sub),
-        3 => PairGot::Is(PairOp::Mul),
-        4 => PairGot::Is(PairOp::Div),
-        5 => PairGot::Is(PairOp::Mod),
-        6 => PairGot::Is(PairOp::Eq),
-        7 => PairGot::Is(PairOp::Ne),
-        8 => PairGot::Is(PairOp::Lt),
-        9 => PairGot::Is(PairOp::Le),
-        10 => PairGot::Is(PairOp::Gt),
-        11 => PairGot::Is(PairOp::Ge),
-        12 => PairGot::Is(PairOp::And),
-        13 => PairGot::Is(PairOp::Or),
-        _ => PairGot::Unknown,
-    }
+    let op = match n {
+        1 => PairOp::Add,
+        2 => PairOp::Sub,
+        3 => PairOp::Mul,
+        4 => PairOp::Div,
+        5 => PairOp::Mod,
+        6 => PairOp::Eq,
+        7 => PairOp::Ne,
+        8 => PairOp::Lt,
+        9 => PairOp::Le,
+        10 => PairOp::Gt,
+        11 => PairOp::Ge,
+        12 => PairOp::And,
+        13 => PairOp::Or,
+        _ => return PairGot::Unknown,
+    };
+    PairGot::Is(op)
 }
 
 pub fn pair_number(op: PairOp) -> u8
@@ -61,16 +62,17 @@ pub fn pair_number(op: PairOp) -> u8
 pub fn single_op(n: u8) -> SingleGot
     ensures { λ r. ⌜ toldSingle r ≡ singleOp n ⌝ }
 {
-    match n {
-        1 => SingleGot::Is(SingleOp::Negate),
-        2 => SingleGot::Is(SingleOp::Absolute),
-        3 => SingleGot::Is(SingleOp::Not),
-        4 => SingleGot::Is(SingleOp::IsEmpty),
-        5 => SingleGot::Is(SingleOp::IsTrue),
-        6 => SingleGot::Is(SingleOp::IsFalse),
-        7 => SingleGot::Is(SingleOp::IsUnknown),
-        _ => SingleGot::Unknown,
-    }
+    let op = match n {
+        1 => SingleOp::Negate,
+        2 => SingleOp::Absolute,
+        3 => SingleOp::Not,
+        4 => SingleOp::IsEmpty,
+        5 => SingleOp::IsTrue,
+        6 => SingleOp::IsFalse,
+        7 => SingleOp::IsUnknown,
+        _ => return SingleGot::Unknown,
+    };
+    SingleGot::Is(op)
 }
 
 pub fn single_number(op: SingleOp) -> u8

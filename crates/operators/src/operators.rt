@@ -15,11 +15,9 @@ pub fn add(a: Cell, b: Cell) -> Answer
     ensures { λ r. ⌜ r ≡ pairCell Add a b ⌝ }
 {
     match both(a, b) {
-        Two::Ints(x, y) => cell::ints::int_add(x, y),
-        Two::Floats(x, y) => cell::floats::float_add(x, y),
-        Two::Truths(_, _) => Answer::Is(Cell::Empty),
-        Two::OneEmpty => Answer::Is(Cell::Empty),
-        Two::Unlike => Answer::Is(Cell::Empty),
+        Two::Ints(x, y) => return cell::ints::int_add(x, y),
+        Two::Floats(x, y) => return cell::floats::float_add(x, y),
+        _ => return Answer::Is(Cell::Empty),
     }
 }
 
@@ -27,11 +25,9 @@ pub fn sub(a: Cell, b: Cell) -> Answer
     ensures { λ r. ⌜ r ≡ pairCell Sub a b ⌝ }
 {
     match both(a, b) {
-        Two::Ints(x, y) => cell::ints::int_sub(x, y),
-        Two::Floats(x, y) => cell::floats::float_sub(x, y),
-        Two::Truths(_, _) => Answer::Is(Cell::Empty),
-        Two::OneEmpty => Answer::Is(Cell::Empty),
-        Two::Unlike => Answer::Is(Cell::Empty),
+        Two::Ints(x, y) => return cell::ints::int_sub(x, y),
+        Two::Floats(x, y) => return cell::floats::float_sub(x, y),
+        _ => return Answer::Is(Cell::Empty),
     }
 }
 
@@ -39,11 +35,9 @@ pub fn mul(a: Cell, b: Cell) -> Answer
     ensures { λ r. ⌜ r ≡ pairCell Mul a b ⌝ }
 {
     match both(a, b) {
-        Two::Ints(x, y) => cell::ints::int_mul(x, y),
-        Two::Floats(x, y) => cell::floats::float_mul(x, y),
-        Two::Truths(_, _) => Answer::Is(Cell::Empty),
-        Two::OneEmpty => Answer::Is(Cell::Empty),
-        Two::Unlike => Answer::Is(Cell::Empty),
+        Two::Ints(x, y) => return cell::ints::int_mul(x, y),
+        Two::Floats(x, y) => return cell::floats::float_mul(x, y),
+        _ => return Answer::Is(Cell::Empty),
     }
 }
 
@@ -51,11 +45,9 @@ pub fn div(a: Cell, b: Cell) -> Answer
     ensures { λ r. ⌜ r ≡ pairCell Div a b ⌝ }
 {
     match both(a, b) {
-        Two::Ints(x, y) => cell::ints::int_div(x, y),
-        Two::Floats(x, y) => cell::floats::float_div(x, y),
-        Two::Truths(_, _) => Answer::Is(Cell::Empty),
-        Two::OneEmpty => Answer::Is(Cell::Empty),
-        Two::Unlike => Answer::Is(Cell::Empty),
+        Two::Ints(x, y) => return cell::ints::int_div(x, y),
+        Two::Floats(x, y) => return cell::floats::float_div(x, y),
+        _ => return Answer::Is(Cell::Empty),
     }
 }
 
@@ -63,60 +55,61 @@ pub fn modulo(a: Cell, b: Cell) -> Answer
     ensures { λ r. ⌜ r ≡ pairCell Mod a b ⌝ }
 {
     match both(a, b) {
-        Two::Ints(x, y) => cell::ints::int_mod(x, y),
-        Two::Floats(_, _) => Answer::Is(Cell::Empty),
-        Two::Truths(_, _) => Answer::Is(Cell::Empty),
-        Two::OneEmpty => Answer::Is(Cell::Empty),
-        Two::Unlike => Answer::Is(Cell::Empty),
+        Two::Ints(x, y) => return cell::ints::int_mod(x, y),
+        _ => return Answer::Is(Cell::Empty),
     }
 }
 
 pub fn eq(a: Cell, b: Cell) -> Answer
     ensures { λ r. ⌜ r ≡ pairCell Eq a b ⌝ }
 {
-    match both(a, b) {
-        Two::Ints(x, y) => Answer::Is(Cell::Truth(cell::ints::int_eq(x, y))),
-        Two::Floats(x, y) => Answer::Is(Cell::Truth(x == y)),
-        Two::Truths(x, y) => Answer::Is(Cell::Truth(x == y)),
-        Two::OneEmpty => Answer::Is(Cell::Empty), // of two empty cells too
-        Two::Unlike => Answer::Is(Cell::Empty),
-    }
+    Answer::Is(
+        match both(a, b) {
+            Two::Ints(x, y) => Cell::Truth(cell::ints::int_eq(x, y)),
+            Two::Floats(x, y) => Cell::Truth(x == y),
+            Two::Truths(x, y) => Cell::Truth(x == y),
+            _ => Cell::Empty, // of two empty cells too
+        },
+    )
 }
 
 pub fn ne(a: Cell, b: Cell) -> Answer
     ensures { λ r. ⌜ r ≡ pairCell Ne a b ⌝ }
 {
-    match both(a, b) {
-        Two::Ints(x, y) => Answer::Is(Cell::Truth(!cell::ints::int_eq(x, y))),
-        Two::Floats(x, y) => Answer::Is(Cell::Truth(x != y)),
-        Two::Truths(x, y) => Answer::Is(Cell::Truth(x != y)),
-        Two::OneEmpty => Answer::Is(Cell::Empty),
-        Two::Unlike => Answer::Is(Cell::Empty),
-    }
+    Answer::Is(
+        match both(a, b) {
+            Two::Ints(x, y) => Cell::Truth(!cell::ints::int_eq(x, y)),
+            Two::Floats(x, y) => Cell::Truth(x != y),
+            Two::Truths(x, y) => Cell::Truth(x != y),
+            _ => Cell::Empty,
+        },
+    )
 }
 
 pub fn lt(a: Cell, b: Cell) -> Answer
     ensures { λ r. ⌜ r ≡ pairCell Lt a b ⌝ }
 {
-    match both(a, b) {
-        Two::Ints(x, y) => Answer::Is(Cell::Truth(x < y)),
-        Two::Floats(x, y) => Answer::Is(Cell::Truth(x < y)),
-        Two::Truths(_, _) => Answer::Is(Cell::Truth(false)),
-        Two::OneEmpty => Answer::Is(Cell::Empty),
-        Two::Unlike => Answer::Is(Cell::Empty),
-    }
+    Answer::Is(
+        match both(a, b) {
+            Two::Ints(x, y) => Cell::Truth(x < y),
+            Two::Floats(x, y) => Cell::Truth(x < y),
+            Two::Truths(_, _) => Cell::Truth(false),
+            _ => Cell::Empty,
+        },
+    )
 }
 
 pub fn le(a: Cell, b: Cell) -> Answer
     ensures { λ r. ⌜ r ≡ pairCell Le a b ⌝ }
 {
-    match both(a, b) {
-        Two::Ints(x, y) => Answer::Is(Cell::Truth(x <= y)),
-        Two::Floats(x, y) => Answer::Is(Cell::Truth(x <= y)),
-        Two::Truths(_, _) => Answer::Is(Cell::Truth(false)),
-        Two::OneEmpty => Answer::Is(Cell::Empty),
-        Two::Unlike => Answer::Is(Cell::Empty),
-    }
+    Answer::Is(
+        match both(a, b) {
+            Two::Ints(x, y) => Cell::Truth(x <= y),
+            Two::Floats(x, y) => Cell::Truth(x <= y),
+            Two::Truths(_, _) => Cell::Truth(false),
+            _ => Cell::Empty,
+        },
+    )
 }
 
 pub fn gt(a: Cell, b: Cell) -> Answer
@@ -135,10 +128,9 @@ pub fn negate(c: Cell) -> Answer
     ensures { λ r. ⌜ r ≡ singleCell Negate c ⌝ }
 {
     match c {
-        Cell::Empty => Answer::Is(Cell::Empty),
-        Cell::Int(x) => cell::ints::int_neg(x),
-        Cell::Float(x) => Answer::Is(Cell::Float(-x)),
-        Cell::Truth(_) => Answer::Is(Cell::Empty),
+        Cell::Int(x) => return cell::ints::int_neg(x),
+        Cell::Float(x) => return Answer::Is(Cell::Float(-x)),
+        _ => return Answer::Is(Cell::Empty),
     }
 }
 
@@ -146,10 +138,9 @@ pub fn absolute(c: Cell) -> Answer
     ensures { λ r. ⌜ r ≡ singleCell Absolute c ⌝ }
 {
     match c {
-        Cell::Empty => Answer::Is(Cell::Empty),
-        Cell::Int(x) => cell::ints::int_abs(x),
-        Cell::Float(x) => Answer::Is(Cell::Float(cell::floats::float_abs(x))),
-        Cell::Truth(_) => Answer::Is(Cell::Empty),
+        Cell::Int(x) => return cell::ints::int_abs(x),
+        Cell::Float(x) => return Answer::Is(Cell::Float(cell::floats::float_abs(x))),
+        _ => return Answer::Is(Cell::Empty),
     }
 }
 
@@ -201,19 +192,19 @@ pub fn pair(op: PairOp, a: Cell, b: Cell) -> Answer
     ensures { λ r. ⌜ r ≡ pairCell op a b ⌝ }
 {
     match op {
-        PairOp::Add => add(a, b),
-        PairOp::Sub => sub(a, b),
-        PairOp::Mul => mul(a, b),
-        PairOp::Div => div(a, b),
-        PairOp::Mod => modulo(a, b),
-        PairOp::Eq => eq(a, b),
-        PairOp::Ne => ne(a, b),
-        PairOp::Lt => lt(a, b),
-        PairOp::Le => le(a, b),
-        PairOp::Gt => gt(a, b),
-        PairOp::Ge => ge(a, b),
-        PairOp::And => and(a, b),
-        PairOp::Or => or(a, b),
+        PairOp::Add => return add(a, b),
+        PairOp::Sub => return sub(a, b),
+        PairOp::Mul => return mul(a, b),
+        PairOp::Div => return div(a, b),
+        PairOp::Mod => return modulo(a, b),
+        PairOp::Eq => return eq(a, b),
+        PairOp::Ne => return ne(a, b),
+        PairOp::Lt => return lt(a, b),
+        PairOp::Le => return le(a, b),
+        PairOp::Gt => return gt(a, b),
+        PairOp::Ge => return ge(a, b),
+        PairOp::And => return and(a, b),
+        PairOp::Or => return or(a, b),
     }
 }
 
@@ -222,12 +213,12 @@ pub fn single(op: SingleOp, c: Cell) -> Answer
     ensures { λ r. ⌜ r ≡ singleCell op c ⌝ }
 {
     match op {
-        SingleOp::Negate => negate(c),
-        SingleOp::Absolute => absolute(c),
-        SingleOp::Not => negation(c),
-        SingleOp::IsEmpty => emptiness(c),
-        SingleOp::IsTrue => trueness(c),
-        SingleOp::IsFalse => falseness(c),
-        SingleOp::IsUnknown => unknownness(c),
+        SingleOp::Negate => return negate(c),
+        SingleOp::Absolute => return absolute(c),
+        SingleOp::Not => return negation(c),
+        SingleOp::IsEmpty => return emptiness(c),
+        SingleOp::IsTrue => return trueness(c),
+        SingleOp::IsFalse => return falseness(c),
+        SingleOp::IsUnknown => return unknownness(c),
     }
 }

@@ -8,24 +8,24 @@ pub fn both(a: Cell, b: Cell) -> Two
     ensures { λ r. ⌜ r ≡ two a b ⌝ }
 {
     match a {
-        Cell::Empty => Two::OneEmpty,
+        Cell::Empty => return Two::OneEmpty,
         Cell::Int(x) => match b {
-            Cell::Empty => Two::OneEmpty,
-            Cell::Int(y) => Two::Ints(x, y),
-            Cell::Float(_) => Two::Unlike,
-            Cell::Truth(_) => Two::Unlike,
+            Cell::Empty => return Two::OneEmpty,
+            Cell::Int(y) => return Two::Ints(x, y),
+            Cell::Float(_) => return Two::Unlike,
+            Cell::Truth(_) => return Two::Unlike,
         },
         Cell::Float(x) => match b {
-            Cell::Empty => Two::OneEmpty,
-            Cell::Int(_) => Two::Unlike,
-            Cell::Float(y) => Two::Floats(x, y),
-            Cell::Truth(_) => Two::Unlike,
+            Cell::Empty => return Two::OneEmpty,
+            Cell::Int(_) => return Two::Unlike,
+            Cell::Float(y) => return Two::Floats(x, y),
+            Cell::Truth(_) => return Two::Unlike,
         },
         Cell::Truth(x) => match b {
-            Cell::Empty => Two::OneEmpty,
-            Cell::Int(_) => Two::Unlike,
-            Cell::Float(_) => Two::Unlike,
-            Cell::Truth(y) => Two::Truths(x, y),
+            Cell::Empty => return Two::OneEmpty,
+            Cell::Int(_) => return Two::Unlike,
+            Cell::Float(_) => return Two::Unlike,
+            Cell::Truth(y) => return Two::Truths(x, y),
         },
     }
 }

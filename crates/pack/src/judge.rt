@@ -50,25 +50,22 @@ fn form_judged(cells: &[u8], from: usize, k: u32, form: Form) -> FormJudged
     requires { ⌜ from ≤ length (now cells) ⌝ }
     ensures { λ r. ⌜ JudgedForm (now (cells .entry)) from k form r ⌝ }
 {
-    let kind = form.kind;
-    let extent = form.extent;
-    let rank = rank_of(extent);
-    if !in_range(kind as usize, paper::TYPES) {
+    let rank = rank_of(form.extent);
+    if !in_range(form.kind as usize, paper::TYPES) {
         return form_refused(refuse(1, k));
     }
     if !in_range(rank, paper::AXES) {
         return form_refused(refuse(1, k));
     }
     let one = array_of(cells, from, k, form);
-    let refusal = one.refusal;
-    let end = one.end;
-    if refusal.number != 0 {
-        return form_refused(refusal);
+    if one.refusal.number != 0 {
+        return form_refused(one.refusal);
     }
+    let refusal = one.refusal;
     FormJudged {
         refusal,
-        end,
-        long: TYPE_BYTES + rank * AXIS_BYTES + (end - from),
+        end: one.end,
+        long: TYPE_BYTES + rank * AXIS_BYTES + (one.end - from),
     }
 }
 
@@ -83,11 +80,9 @@ pub fn judged(count: usize, forms: [Form; paper::ARRAYS], cells: &[u8]) -> Verdi
     let mut long = OPENING_BYTES;
     let mut i = 0;
     while i < count {
-        let form = forms[i];
-        let one = form_judged(cells, at, (i + 1) as u32, form);
-        let refusal = one.refusal;
-        if refusal.number != 0 {
-            return all_refused(refusal);
+        let one = form_judged(cells, at, (i + 1) as u32, forms[i]);
+        if one.refusal.number != 0 {
+            return all_refused(one.refusal);
         }
         at = one.end;
         long += one.long;

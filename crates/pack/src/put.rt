@@ -67,9 +67,7 @@ fn put_axes(d: &mut [u8], at: usize, e: Extent, m: Extent)
     let rank = rank_of(e);
     let mut i = 0;
     while i < rank {
-        let a = e.axes[i];
-        let b = m.axes[i];
-        put_axis(d, at + i * AXIS_BYTES, a, b);
+        put_axis(d, at + i * AXIS_BYTES, e.axes[i], m.axes[i]);
         i += 1;
     }
 }
@@ -85,11 +83,10 @@ pub fn put_head(form: Form, d: &mut [u8], at: usize) -> usize
     requires { ⌜ HeadRoom form at (now d) ⌝ }
     ensures { λ r. ⌜ HeadPut form at (now (d .entry)) r (now (d .exit)) ⌝ }
 {
-    let extent = form.extent;
-    let rank = rank_of(extent);
+    let rank = rank_of(form.extent);
     d[at] = form.kind;
     d[at + 1] = rank as u8;
-    put_axes(d, at + TYPE_BYTES, extent, form.maximum);
+    put_axes(d, at + TYPE_BYTES, form.extent, form.maximum);
     at + TYPE_BYTES + rank * AXIS_BYTES
 }
 
@@ -116,8 +113,7 @@ pub fn put_arrays(count: usize, forms: [Form; paper::ARRAYS], cells: &[u8], d: &
     let mut at = OPENING_BYTES;
     let mut i = 0;
     while i < count {
-        let form = forms[i];
-        let ends = put_array(form, cells, from, d, at);
+        let ends = put_array(forms[i], cells, from, d, at);
         from = ends.from;
         at = ends.at;
         i += 1;

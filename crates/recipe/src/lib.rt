@@ -113,25 +113,21 @@ pub fn plan_recipe(reading: Reading, s: &[u8]) -> Plan
         let next = k + 1;
         let result_at = RESULTS + next;
         let base = k * STEP_BYTES;
-        let a = plan.operands[numbered(s[base + 1])];
-        let b = plan.operands[numbered(s[base + 2])];
         let one = plan_step(
-            a,
-            b,
+            plan.operands[numbered(s[base + 1])],
+            plan.operands[numbered(s[base + 2])],
             base,
             plan.cells * CELL_BYTES,
             StepNumber(next as u32),
             s,
         );
-        let refusal = one.refusal;
-        if refusal.number != 0 {
-            return no_plan(refusal);
+        if one.refusal.number != 0 {
+            return no_plan(one.refusal);
         }
         let step = one.step;
-        let result = one.result;
         plan.steps[k] = step;
-        plan.operands[result_at] = in_work(result);
-        plan.cells = plan.cells + result.cells;
+        plan.operands[result_at] = in_work(one.result);
+        plan.cells = plan.cells + one.result.cells;
         plan.count = next;
     }
     plan

@@ -78,18 +78,17 @@ fn step_refusal(step: StepHead, used: Used, a: Form, b: Form, k: StepNumber, s: 
     requires { ⌜ used ≡ usedBy (step .operation) (length (axesOf (a .extent))) ⌝ }
     ensures { λ r. ⌜ unless r tt ≡ stepTests (k .0) (stepIn (now (s .entry)) step) (shapeOf a) (shapeOf b) ⌝ }
 {
-    let op = step.operation;
-    let e = a.extent;
     if !unused_zero(used, step, s) {
         return refuse(4, k.0);
     }
-    if !axis_in(used, rank_of(e), step.axis) {
+    if !axis_in(used, rank_of(a.extent), step.axis) {
         return refuse(5, k.0);
     }
     if !types_fit(step, used.b, a.kind, b.kind, s) {
         return refuse(7, k.0);
     }
-    if !agrees(op, AxisIndex(step.axis as u32), e, b.extent) {
+    let op = step.operation;
+    if !agrees(op, AxisIndex(step.axis as u32), a.extent, b.extent) {
         return refuse(8, k.0);
     }
     if !fits_in(step, a, b, s) {
@@ -134,21 +133,19 @@ fn judge(step: StepHead, a: Operand, b: Operand, at: usize, k: StepNumber, s: &[
     ensures { λ r. ⌜ Judged (now (s .entry)) step a b at (k .0) r ⌝ }
 {
     let op = step.operation;
-    let x = a.head.form;
-    let used = used_by(op, rank_of(x.extent));
+    let used = used_by(op, rank_of(a.head.form.extent));
     let second = used_b(used.b, b);
-    let y = second.head.form;
     if !a.found {
         return refused_step(refuse(4, k.0));
     }
     if !second.found {
         return refused_step(refuse(4, k.0));
     }
-    let refusal = step_refusal(step, used, x, y, k, s);
+    let refusal = step_refusal(step, used, a.head.form, second.head.form, k, s);
     if refusal.number != 0 {
         return refused_step(refusal);
     }
-    finish(step, x, y, at, k, s)
+    finish(step, a.head.form, second.head.form, at, k, s)
 }
 
 // Step k, from the byte `base` of the recipe on.

@@ -57,17 +57,15 @@ pub fn choose(s: &[u8], k: u32) -> Chosen
     if refusal.number != 0 {
         return none_chosen(refusal);
     }
-    let count = reading.count;
-    let heads = reading.heads;
     let unknown = refuse(4, k);
+    if k == 0 {
+        return none_chosen(unknown);
+    }
     let i = k as usize;
-    if i == 0 {
+    if reading.count < i {
         return none_chosen(unknown);
     }
-    if count < i {
-        return none_chosen(unknown);
-    }
-    let head = heads[i - 1];
+    let head = reading.heads[i - 1];
     Chosen { refusal, head }
 }
 
@@ -131,22 +129,16 @@ pub fn refer(s: &[u8], k: u32, coordinates: &[i32]) -> ReferenceAnswer
     if refusal.number != 0 {
         return ReferenceAnswer::Refused(refusal);
     }
-    let head = array.head;
-    let form = head.form;
-    let extent = form.extent;
-    let maximum = form.maximum;
-    if coordinates.len() != rank_of(extent) {
+    if coordinates.len() != rank_of(array.head.form.extent) {
         return ReferenceAnswer::Refused(refuse(5, k));
     }
     let p = coordinate_at(coordinates);
-    let place = found(extent, maximum, p);
+    let place = found(array.head.form.extent, array.head.form.maximum, p);
     let Place::At(o) = place else {
         return elsewhere(place, k);
     };
-    let at = head.at;
-    let kind = form.kind;
     let i = o.0 as usize - 1;
-    ReferenceAnswer::Got(held_cell(s, at, kind, i))
+    ReferenceAnswer::Got(held_cell(s, array.head.at, array.head.form.kind, i))
 }
 
 // A walking place outside: refusal 6, and the place is kept.
@@ -171,25 +163,21 @@ pub fn walk_step(s: &[u8], k: u32, place: Ordinality) -> Walk
             place,
         };
     }
-    let head = array.head;
-    let n = head.cells;
     let o = place.0 as usize;
     if o == 0 {
         return outside(k, place);
     }
-    if n + 1 < o {
+    let end = array.head.cells + 1;
+    if end < o {
         return outside(k, place);
     }
-    if o == n + 1 {
+    if o == end {
         return Walk {
             answer: WalkAnswer::Got(Seen::End),
             place,
         };
     }
-    let at = head.at;
-    let form = head.form;
-    let kind = form.kind;
-    let cell = held_cell(s, at, kind, o - 1);
+    let cell = held_cell(s, array.head.at, array.head.form.kind, o - 1);
     Walk {
         answer: WalkAnswer::Got(Seen::Held(cell)),
         place: Ordinality(place.0 + 1),

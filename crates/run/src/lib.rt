@@ -49,9 +49,8 @@ fn planned(bundle: &[u8], recipe: &[u8]) -> Plan
     ensures { λ r. ⌜ PlannedFor (now (bundle .entry)) (now (recipe .entry)) r ⌝ }
 {
     let reading = read(bundle);
-    let refusal = reading.refusal;
-    if refusal.number != 0 {
-        return no_plan(refusal);
+    if reading.refusal.number != 0 {
+        return no_plan(reading.refusal);
     }
     plan_recipe(reading, recipe)
 }
@@ -71,14 +70,13 @@ fn page_refusal(
     requires { ⌜ result .cells ≡ cellsIn (axesOf (result .form .extent)) ⌝ }
     ensures { λ r. ⌜ PageJudged result steps bytes work (start .0) rows r ⌝ }
 {
-    let form = result.form;
-    if form.kind != BOOLEAN {
+    if result.form.kind != BOOLEAN {
         return refuse(7, steps as u32);
     }
     if work < bytes {
         return refuse(10, 0);
     }
-    if rows < LIMIT_BYTES + LIMIT_BYTES * rank_of(form.extent) {
+    if rows < LIMIT_BYTES + LIMIT_BYTES * rank_of(result.form.extent) {
         return refuse(11, 0);
     }
     if start.0 == 0 {
@@ -125,18 +123,15 @@ pub fn plan(bundle: &[u8], recipe: &[u8]) -> PlanAnswer
     ensures { λ r. ⌜ planSaid r ≡ paperPlan (now (bundle .entry)) (now (recipe .entry)) ⌝ }
 {
     let plan = planned(bundle, recipe);
-    let refusal = plan.refusal;
-    if refusal.number != 0 {
-        return PlanAnswer::Refused(refusal);
+    if plan.refusal.number != 0 {
+        return PlanAnswer::Refused(plan.refusal);
     }
     let operand = plan.operands[RESULTS + plan.count];
-    let result = operand.head;
-    let form = result.form;
     PlanAnswer::Got(Foreseen {
         total: plan.cells as u32,
-        kind: form.kind,
-        axes: rank_of(form.extent) as u32,
-        cells: result.cells as u32,
+        kind: operand.head.form.kind,
+        axes: rank_of(operand.head.form.extent) as u32,
+        cells: operand.head.cells as u32,
     })
 }
 
@@ -146,17 +141,15 @@ pub fn extent(bundle: &[u8], recipe: &[u8], head: &mut [u8]) -> NumberAnswer
         ≡ lastExtent (now (bundle .entry)) (now (recipe .entry)) (now (head .entry)) ⌝ }
 {
     let plan = planned(bundle, recipe);
-    let refusal = plan.refusal;
-    if refusal.number != 0 {
-        return NumberAnswer::Refused(refusal);
+    if plan.refusal.number != 0 {
+        return NumberAnswer::Refused(plan.refusal);
     }
     if head.len() < WHOLE_HEAD {
         return NumberAnswer::Refused(refuse(14, 0));
     }
     let operand = plan.operands[RESULTS + plan.count];
-    let result = operand.head;
     clear(head, WHOLE_HEAD);
-    put_head(result.form, head, 0);
+    put_head(operand.head.form, head, 0);
     NumberAnswer::Got(WHOLE_HEAD as u32)
 }
 
@@ -201,14 +194,12 @@ pub fn page_rows(
         × RowAxes (now (bundle .entry)) (now (recipe .entry)) r ⌝ }
 {
     let plan = planned(bundle, recipe);
-    let refusal = plan.refusal;
-    if refusal.number != 0 {
-        return no_page(refusal);
+    if plan.refusal.number != 0 {
+        return no_page(plan.refusal);
     }
     let last = plan.operands[RESULTS + plan.count];
-    let result = last.head;
     let bytes = plan.cells * CELL_BYTES;
-    let unfit = page_refusal(result, plan.count, bytes, work.len(), start, rows.len());
+    let unfit = page_refusal(last.head, plan.count, bytes, work.len(), start, rows.len());
     if unfit.number != 0 {
         return no_page(unfit);
     }
@@ -216,9 +207,15 @@ pub fn page_rows(
     if stopped.number != 0 {
         return no_page(stopped);
     }
-    let extent = result.form.extent;
-    let answer = PageAnswer::Got(list(work, result.at, extent, result.cells, start, rows));
-    let axes = rank_of(extent);
+    let answer = PageAnswer::Got(list(
+        work,
+        last.head.at,
+        last.head.form.extent,
+        last.head.cells,
+        start,
+        rows,
+    ));
+    let axes = rank_of(last.head.form.extent);
     PageRows { answer, axes }
 }
 

@@ -72,10 +72,9 @@ fn takes_type(w: Work, step: StepHead, t: u8, s: &[u8]) -> bool
     requires { ⌜ Holds (step .at) detailBytes (now s) ⌝ }
     ensures { λ r. ⌜ r ≡ takesType w (stepIn (now (s .entry)) step) t ⌝ }
 {
-    let at = step.at;
     match w {
         Work::Pair(o) => return takes_pair(o, t),
-        Work::Scalar(_, o) => return scalar_fits(o, t, s, at),
+        Work::Scalar(_, o) => return scalar_fits(o, t, s, step.at),
         Work::Single(o) => return takes_single(o, t),
     }
 }
@@ -136,18 +135,14 @@ fn move_fits(m: Move, step: StepHead, a: Form, b: Form, s: &[u8]) -> bool
     requires { ⌜ Holds (step .at) detailBytes (now s) ⌝ }
     ensures { λ r. ⌜ r ≡ fitsIn (Moves m) (stepIn (now (s .entry)) step) (shapeOf a) (shapeOf b) ⌝ }
 {
-    let at = step.at;
-    let k = AxisIndex(step.axis as u32);
-    let e = a.extent;
-    let f = b.extent;
     match m {
-        Move::Trim => return trim_fits(e, s, at),
-        Move::Slice => return slice_fits(e, k, s, at),
+        Move::Trim => return trim_fits(a.extent, s, step.at),
+        Move::Slice => return slice_fits(a.extent, AxisIndex(step.axis as u32), s, step.at),
         Move::Reshape => return true,
         Move::Shift => return true,
         Move::Rename => return true,
-        Move::Update => return covers_all(e, f),
-        Move::Put => return put_fits(e, f, k, s, at),
+        Move::Update => return covers_all(a.extent, b.extent),
+        Move::Put => return put_fits(a.extent, b.extent, AxisIndex(step.axis as u32), s, step.at),
         Move::Glue => return true,
     }
 }
@@ -189,17 +184,15 @@ fn moved_extent(m: Move, step: StepHead, e: Extent, f: Extent, s: &[u8]) -> Exte
     requires { ⌜ axisIn (uses (Moves m)) (length (axesOf e)) (step .axis) ≡ true ⌝ }
     ensures { λ r. ⌜ axesOf r ≡ resultAxes (Moves m) (stepIn (now (s .entry)) step) (axesOf e) (axesOf f) ⌝ }
 {
-    let at = step.at;
-    let k = AxisIndex(step.axis as u32);
     match m {
-        Move::Trim => return with_limits(e, s, at),
-        Move::Slice => return removed(e, k),
-        Move::Reshape => return with_limits(e, s, at),
-        Move::Shift => return shifted_by(e, s, at),
-        Move::Rename => return with_names(e, s, at),
+        Move::Trim => return with_limits(e, s, step.at),
+        Move::Slice => return removed(e, AxisIndex(step.axis as u32)),
+        Move::Reshape => return with_limits(e, s, step.at),
+        Move::Shift => return shifted_by(e, s, step.at),
+        Move::Rename => return with_names(e, s, step.at),
         Move::Update => return e,
         Move::Put => return e,
-        Move::Glue => return glued_along(e, f, k),
+        Move::Glue => return glued_along(e, f, AxisIndex(step.axis as u32)),
     }
 }
 

@@ -130,14 +130,13 @@ pub fn unused_zero(used: Used, step: StepHead, s: &[u8]) -> bool
     requires { ⌜ Holds (step .at) detailBytes (now s) ⌝ }
     ensures { λ r. ⌜ r ≡ unusedTested used (stepIn (now (s .entry)) step) ⌝ }
 {
-    let at = step.at;
     if !used_or_zero(used.b, step.b) {
         return false;
     }
     if !used_or_zero(used.axis, step.axis) {
         return false;
     }
-    detail_zero(used, s, at)
+    detail_zero(used, s, step.at)
 }
 
 // The axis index, where one is used, is 1 to n.

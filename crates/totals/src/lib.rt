@@ -276,13 +276,15 @@ pub fn total(s: &[u8], k: u32, which: Total) -> TotalAnswer
     if refusal.number != 0 {
         return TotalAnswer::Refused(refusal);
     }
-    let head = array.head;
-    let form = head.form;
-    let kind = form.kind;
-    if !has_total(which, kind) {
+    if !has_total(which, array.head.form.kind) {
         return TotalAnswer::Refused(refuse(7, k));
     }
-    let n = head.cells;
-    let at = head.at;
-    total_of(s, at, kind, n, k, which)
+    total_of(
+        s,
+        array.head.at,
+        array.head.form.kind,
+        array.head.cells,
+        k,
+        which,
+    )
 }

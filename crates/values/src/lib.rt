@@ -81,19 +81,21 @@ fn paired(code: u8, scalar: u64, first: Source, second: Source) -> Pairing
 fn pairing_of(w: Work, scalar: u64, a: Operand, b: Operand) -> Pairing
     ensures { λ r. ⌜ r ≡ pairingOf w scalar a b ⌝ }
 {
-    let kind = a.head.form.kind;
     let x = cells_of(a);
-    let all = Source {
-        which: SCALAR,
-        at: 0,
-    };
     match w {
-        Work::Pair(o) => return paired(pair_code(kind, o), scalar, x, cells_of(b)),
-        Work::Scalar(hand, o) => match hand {
-            Hand::Right => return paired(pair_code(kind, o), scalar, x, all),
-            Hand::Left => return paired(pair_code(kind, o), scalar, all, x),
-        },
-        Work::Single(o) => return paired(single_code(kind, o), scalar, x, x),
+        Work::Pair(o) => return paired(pair_code(a.head.form.kind, o), scalar, x, cells_of(b)),
+        Work::Scalar(hand, o) => {
+            let code = pair_code(a.head.form.kind, o);
+            let all = Source {
+                which: SCALAR,
+                at: 0,
+            };
+            match hand {
+                Hand::Right => return paired(code, scalar, x, all),
+                Hand::Left => return paired(code, scalar, all, x),
+            }
+        }
+        Work::Single(o) => return paired(single_code(a.head.form.kind, o), scalar, x, x),
     }
 }
 
@@ -120,14 +122,19 @@ fn move_cells(bundle: &[u8], recipe: &[u8], work: &mut [u8], m: Move, turn: Turn
 {
     let a = cells_of(turn.a);
     let b = cells_of(turn.b);
-    let e = turn.a.head.form.extent;
-    let f = turn.b.head.form.extent;
-    let t = turn.result.form.extent;
     let base = turn.result.at;
     let n = turn.result.cells;
     let mut k: usize = 0;
     while k < n {
-        let o = origin_of(m, turn.step, e, f, t, k, recipe);
+        let o = origin_of(
+            m,
+            turn.step,
+            turn.a.head.form.extent,
+            turn.b.head.form.extent,
+            turn.result.form.extent,
+            k,
+            recipe,
+        );
         let raw = fetched(bundle, &work[..base], a, b, o);
         put9(work, base + k * CELL_BYTES, raw.mark, raw.bits);
         k += 1;
@@ -143,22 +150,18 @@ fn begin_cells(bundle: &[u8], recipe: &[u8], work: &mut [u8], turn: Turn) -> Beg
 {
     let step = turn.step;
     let op = step.operation;
-    let a = turn.a;
-    let b = turn.b;
-    let result = turn.result;
-    let n = result.cells;
     match op {
         Operation::Moves(m) => {
             move_cells(bundle, recipe, work, m, turn);
-            let x = cells_of(a);
+            let x = cells_of(turn.a);
             return Begun {
-                count: n,
+                count: turn.result.cells,
                 pairing: paired(0, 0, x, x),
             };
         }
         Operation::Works(w) => {
-            let pairing = pairing_of(w, word(recipe, step.at + SCALAR_AT), a, b);
-            let count = ahead(bundle, work, result.at, pairing, n);
+            let pairing = pairing_of(w, word(recipe, step.at + SCALAR_AT), turn.a, turn.b);
+            let count = ahead(bundle, work, turn.result.at, pairing, turn.result.cells);
             return Begun { count, pairing };
         }
     }
@@ -194,13 +197,12 @@ pub fn run_steps(bundle: &[u8], recipe: &[u8], plan: Plan, work: &mut [u8]) -> R
         let base = result.at;
         let n = result.cells;
         let begun = begin_cells(bundle, recipe, work, Turn { step, a, b, result });
-        let q = begun.pairing;
         let mut k = begun.count;
         'cells: while k < n {
             let done = &work[..base];
-            let x = raw_of(bundle, done, q.first, q.scalar, k);
-            let y = raw_of(bundle, done, q.second, q.scalar, k);
-            let got = computed(q.code, x.mark, x.bits, y.mark, y.bits);
+            let x = raw_of(bundle, done, begun.pairing.first, begun.pairing.scalar, k);
+            let y = raw_of(bundle, done, begun.pairing.second, begun.pairing.scalar, k);
+            let got = computed(begun.pairing.code, x.mark, x.bits, y.mark, y.bits);
             match got {
                 Answer::Is(c) => write_cell(work, base + k * CELL_BYTES, c),
                 Answer::Refused(number) => {

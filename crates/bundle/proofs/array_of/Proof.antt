@@ -22,16 +22,16 @@ use Rattle.bundle.proofs.array_of.Tie as tie
 -- the extent is judged
 module _ (c : tie.After-extent-cells) where
   abbrev bs : List ℕ
-  bs = now (c .before .before .before .before .args .s)
+  bs = now (c .before .before .args .s)
 
   abbrev k : ℕ
-  k = c .before .before .before .before .args .k
+  k = c .before .before .args .k
 
   abbrev from : ℕ
-  from = c .before .before .before .before .args .from
+  from = c .before .before .args .from
 
   abbrev form : Form
-  form = c .before .before .before .before .args .form
+  form = c .before .before .args .form
 
   abbrev n : ℕ
   n = c .extent-cells .result
@@ -65,13 +65,12 @@ returns-4 c =
     let b = c .before .before in
     let p = b .before .before .before in
     of-got (k p) (bs p) (from p) (form p) (n p) (count p) (b .before .before .if1 .left) (b .before .if2 .left) _ (b .first-bad .ensures .0)
-    (p .before .before .before .before .pre) (c .before .if3 .left) (p .extent-cells .ensures .1) _
+    (p .before .before .pre) (c .before .if3 .left) (p .extent-cells .ensures .1) _
     (λ i. record { refusal = (c .none .ensures) i; head = record { form = form p; at = from p; cells = n p }; end = from p + n p * cellBytes })
 
 pub array-of-spec : {M : Type 1} → statement M
 array-of-spec =
     tie.close
     (tie.spec
-    (λ c κs. search needs) (λ c κs. search needs) returns (λ c. search needs) (λ c. search needs)
-    (λ c κs. search needs) returns-2 (λ c κs. search needs) (λ c. search needs) (λ c κs. search needs) returns-3
-    (λ c κs. search needs) (λ c. search needs) (λ c. search needs) returns-4)
+    (λ c κs. tt) (λ c κs. tt) returns (λ c. search needs) (λ c. search needs) (λ c κs. tt) returns-2 (λ c κs. search needs)
+    (λ c. search needs) (λ c κs. tt) returns-3 (λ c κs. tt) (λ c. search needs) (λ c. search needs) returns-4)

@@ -83,7 +83,7 @@ module _ (c : tie.After-array-at Inv-loop μ-loop) where
 
 returns-4 : tie.Need-returns-4 Inv-loop μ-loop
 returns-4 c =
-    let o = c .before .before .before .before in
+    let o = c .before .before .before in
     let q = of o in
     let s = bs (its q) in
     all-refused s (c .no-reading4 .result) _ (c .no-reading4 .ensures) (c .before .if4 .taken)
@@ -91,17 +91,17 @@ returns-4 c =
     (loop-refused (here o .loop .inv) (o .before .loop-test .taken) (o .array-at .ensures) (c .before .if4 .taken)))
 
 mul-heads : tie.Need-mul-heads Inv-loop μ-loop
-mul-heads c = omega (arith, here (c .before .before .before .before) .loop .inv .few)
+mul-heads c = omega (arith, here (c .before .before .before) .loop .inv .few)
 
 array-set-from-heads : tie.Need-array-set-from-heads Inv-loop μ-loop
-array-set-from-heads c = let v = here (c .before .before .before .before) .loop .inv in omega (arith, v .few, v .long)
+array-set-from-heads c = let v = here (c .before .before .before) .loop .inv in omega (arith, v .few, v .long)
 
 add-i : tie.Need-add-i Inv-loop μ-loop
-add-i c = omega (arith, here (c .before .before .before .before) .loop .inv .few)
+add-i c = omega (arith, here (c .before .before .before) .loop .inv .few)
 
 loop-again : tie.Need-loop-again Inv-loop μ-loop
 loop-again c =
-    let o = c .before .before .before .before in
+    let o = c .before .before .before in
     loop-more (here o .loop .inv) (o .before .loop-test .taken) (o .array-at .ensures) (c .before .if4 .left)
 
 returns-5 : tie.Need-returns-5 Inv-loop μ-loop
@@ -125,8 +125,6 @@ pub read-spec : {M : Type 1} → statement M
 read-spec =
     tie.close
     (tie.spec
-    Inv-loop μ-loop (λ c κs. search needs) returns (λ c κs. omega arith) (λ c κs. search needs) returns-2
-    (λ c κs. search needs) (λ c. search needs) (λ c κs. search needs) (λ c κs. search needs) returns-3
-    (λ c κs. search needs) loop-holds add-array-at cast-array-at array-at-requires (λ c κs. search needs) returns-4
-    mul-heads array-set-from-heads add-i (λ c. omega arith) loop-again (λ c κs. search needs) returns-5
-    (λ c κs. search needs) returns-6)
+    Inv-loop μ-loop (λ c κs. tt) returns (λ c κs. omega arith) (λ c κs. tt) returns-2 (λ c κs. search needs) (λ c. search needs)
+    (λ c κs. tt) (λ c κs. tt) returns-3 (λ c κs. tt) loop-holds add-array-at cast-array-at array-at-requires (λ c κs. tt) returns-4
+    mul-heads array-set-from-heads add-i (λ c. omega arith) loop-again (λ c κs. tt) returns-5 (λ c κs. tt) returns-6)

@@ -11,10 +11,9 @@ unfolding codeCell
 truths-spec =
     tie.close
     (tie.spec
-    (λ c κs. tt) (λ c κs. tt) (λ c κs. tt) (λ c κs. tt) (λ c κs. tt) (λ c κs. tt) (λ c κs. tt) (λ c κs. tt)
-    (λ c κs. tt) (λ c κs. tt) (λ c κs. tt) (λ c κs. tt)
-    (λ c. pair-row _ _ _ _ 38 (c .before .before .before .match .keys1) Eq (λ a b. refl) (c .eq .ensures) (c .before .before .truth-cell .ensures) (c .before .truth-cell2 .ensures))
-    (λ c. pair-row _ _ _ _ 39 (c .before .before .before .match .keys2) Ne (λ a b. refl) (c .ne .ensures) (c .before .before .truth-cell3 .ensures) (c .before .truth-cell4 .ensures))
-    (λ c. pair-row _ _ _ _ 44 (c .before .before .before .match .keys3) And (λ a b. refl) (c .and .ensures) (c .before .before .truth-cell5 .ensures) (c .before .truth-cell6 .ensures))
-    (λ c. pair-row _ _ _ _ 45 (c .before .before .before .match .keys4) Or (λ a b. refl) (c .or .ensures) (c .before .before .truth-cell7 .ensures) (c .before .truth-cell8 .ensures))
-    (λ c. no-truth _ _ _ _ _ (c .before .pre .0 .0) (c .before .pre .0 .1) (c .match .rest)))
+    (λ c κs. tt) (λ c κs. tt) (λ c κs. tt) (λ c κs. tt) (λ c κs. tt) (λ c κs. tt)
+    (λ c. pair-row _ _ _ _ 38 (c .before .match .keys1) Eq (λ a b. refl) (c .eq .ensures) (c .before .before .before .truth-cell .ensures) (c .before .before .truth-cell2 .ensures))
+    (λ c. pair-row _ _ _ _ 39 (c .before .match .keys2) Ne (λ a b. refl) (c .ne .ensures) (c .before .before .before .truth-cell .ensures) (c .before .before .truth-cell2 .ensures))
+    (λ c. pair-row _ _ _ _ 44 (c .before .match .keys3) And (λ a b. refl) (c .and .ensures) (c .before .before .before .truth-cell .ensures) (c .before .before .truth-cell2 .ensures))
+    (λ c. pair-row _ _ _ _ 45 (c .before .match .keys4) Or (λ a b. refl) (c .or .ensures) (c .before .before .before .truth-cell .ensures) (c .before .before .truth-cell2 .ensures))
+    (λ c. no-truth _ _ _ _ _ (c .before .before .before .pre .0 .0) (c .before .before .before .pre .0 .1) (c .match .rest)))

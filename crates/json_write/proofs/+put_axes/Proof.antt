@@ -1,9 +1,9 @@
 -- `json_write::put_axes` meets its contract: the measure is the number of axes left; with one left the cells are drawn, with more the
 -- loop's invariant is `Rowing`.
 use Prim.Native.Nat.{ℕ, _-_, _<_}
-use mathlib.Core.Path.{_≡_, ap, _∙_}
+use mathlib.Core.Path.{_≡_, refl, ap, _∙_}
 use native.Mathlib.Omega.{arith}
-use lib.ListN.{length}
+use lib.ListN.{length, length-set}
 use denote.Ref.{now}
 use borrow.Fn.Kinds.{In}
 use borrow.Fn.PlainCycle.{Measures, is, falls, and}
@@ -18,7 +18,6 @@ use Rattle.json_write.proofs.put_axes.Kinds as put-axes-kinds
 use Rattle.json_write.proofs.+put_axes.Lts-put_axes as tie
 use Rattle.extent.proofs.width_of.Reads as width-of-reads
 use Rattle.json_write.proofs.axis_left.Reads as axis-left-reads
-use Rattle.json_write.proofs.put.Reads as put-reads
 use Rattle.json_write.proofs.put_cells.Reads as put-cells-reads
 use Rattle.json_write.proofs.put_comma.Reads as put-comma-reads
 use Rattle.json_write.proofs.+put_axes.{statement}
@@ -42,8 +41,6 @@ claims t = (
   width-of-reads.Learnt,
   put-cells-reads.Asked,
   put-cells-reads.Learnt,
-  put-reads.Asked,
-  put-reads.Learnt,
   below t,
   put-axes.Post,
   put-comma-reads.Asked,
@@ -51,12 +48,12 @@ claims t = (
 )
 
 abbrev Inv-loop : tie.InvT-loop
-Inv-loop out₀ s from kind extent left width cell₀ at₀ more₀ out cell at more =
+Inv-loop out₀ pen₀ s from kind extent left more₀ begin out pen more =
     Rowing out₀ (textLeft (cellBy s from kind) (axesOf extent) (left - 1))
-    (sizeLeft (axesOf extent) (left - 1)) width at₀ cell₀ out cell at more
+    (sizeLeft (axesOf extent) (left - 1)) more₀ (pen₀ .at) (pen₀ .cell) out (pen .cell) (pen .at) more
 
 abbrev μ-loop : tie.MeasureT-loop
-μ-loop out₀ s from kind extent left width cell₀ at₀ more₀ out cell at more = more
+μ-loop out₀ pen₀ s from kind extent left more₀ begin out pen more = more
 
 module _ (t : ℕ) where
   -- the width of the first axis is known
@@ -67,16 +64,24 @@ module _ (t : ℕ) where
     wide : c .width-of .result ≡ width (axisLeft (axesOf (start .args .extent)) (start .args .left))
     wide = c .width-of .ensures .0 ∙ ap width (c .before .axis-left .ensures)
 
-  -- at the loop's head more axes are left, the bracket is open, and the buffer is as long as it was
-  module _ (c : tie.At-loop (claims t) (given t) put-axes.Post Inv-loop μ-loop) where
-    abbrev o : tie.After-put (claims t) (given t) put-axes.Post Inv-loop μ-loop
-    o = c .before .before .before
-
+  -- more axes are left: the row fits
+  module _ (c : tie.Else1 (claims t) (given t) put-axes.Post Inv-loop μ-loop) where
     abbrev w : tie.After-width-of (claims t) (given t) put-axes.Post Inv-loop μ-loop
-    w = o .before .before .before
+    w = c .before
 
-    long : length (c .loop .out) ≡ length (now (start w .args .out))
-    long = c .loop .inv .long ∙ o .put .kept .0
+    fits : start w .args .pen .at < length (now (start w .args .out))
+    fits = omega (arith, more-fits (start w .pre .1) (wide w) (c .if1 .left))
+
+  -- at the loop's head the bracket is open, the buffer is as long as it was, and the bracket that closes it fits
+  module _ (c : tie.At-loop (claims t) (given t) put-axes.Post Inv-loop μ-loop) where
+    abbrev s : tie.Start (claims t) (given t) put-axes.Post Inv-loop μ-loop
+    s = start (w (c .before))
+
+    long : length (c .loop .out) ≡ length (now (s .args .out))
+    long = c .loop .inv .long ∙ simp length-set
+
+    end : c .loop .pen .at < length (now (s .args .out))
+    end = row-end (c .loop .inv) _ _ refl (more-fits (s .pre .1) (wide (w (c .before))) (c .before .if1 .left))
 
   -- the axes after the first are written, and the comma
   module _ (c : tie.After-put-comma (claims t) (given t) put-axes.Post Inv-loop μ-loop) where
@@ -101,26 +106,22 @@ module _ (t : ℕ) where
       let b = d .before .before in
       one-drawn (start (b .before) .pre .1) (wide (b .before)) (b .if1 .taken) (d .put-cells .ensures)
 
-  put-requires : tie.Need-put-requires (claims t) (given t) put-axes.Post Inv-loop μ-loop
-  put-requires c κs = let q = c .before .before in omega (arith, more-fits (start q .pre .1) (wide q) (c .before .if1 .left))
-
   put-axes-requires : tie.Need-put-axes-requires (claims t) (given t) put-axes.Post Inv-loop μ-loop
   put-axes-requires c κs =
       let l = c .before .before in
-      let q = o l in
-      let r = start (w l) .pre in
-      let m = q .before .before .if1 .left in (
+      let r = s l .pre in
+      let q = l .before in (
         omega (arith, r .0, r .1 .some),
-        next-ready (r .1) (wide (w l)) m (l .loop .inv) (q .put .ensures .0) (c .before .loop-test .taken) _ (long l),
+        next-ready (r .1) (wide (w q)) (q .if1 .left) (l .loop .inv) refl (c .before .loop-test .taken) _ (long l),
       )
 
   put-comma-requires : tie.Need-put-comma-requires (claims t) (given t) put-axes.Post Inv-loop μ-loop
   put-comma-requires c κs =
       let d = c .before .before .before in
       let i = d .before .before in
-      let q = o (i .before) in
-      let f = more-fits (start (w (i .before)) .pre .1) (wide (w (i .before))) (q .before .before .if1 .left) in
-      let g = row-at (i .before .loop .inv) _ _ (q .put .ensures .0) f (i .loop-test .taken) in
+      let q = i .before .before in
+      let f = more-fits (start (w q) .pre .1) (wide (w q)) (q .if1 .left) in
+      let g = row-at (i .before .loop .inv) _ _ refl f (i .loop-test .taken) in
       omega (arith, g, d .put-axes .ensures .drawn .0, d .put-axes .kept .0, long (i .before))
 
   loop-again : tie.Need-loop-again (claims t) (given t) put-axes.Post Inv-loop μ-loop
@@ -129,23 +130,11 @@ module _ (t : ℕ) where
       let d = wrote m .put-axes .ensures in
       row-turn (turn m .before .loop .inv) (turn m .loop-test .taken) (d .drawn) (m .put-comma .ensures) (d .goes)
 
-  put-requires-2 : tie.Need-put-requires-2 (claims t) (given t) put-axes.Post Inv-loop μ-loop
-  put-requires-2 c κs =
-      let l = c .before .before in
-      let q = o l in
-      let f = more-fits (start (w l) .pre .1) (wide (w l)) (q .before .before .if1 .left) in
-      rw (long l) (row-end (l .loop .inv) _ _ (q .put .ensures .0) f)
-
-  same-length-2 : tie.Need-same-length-2 (claims t) (given t) put-axes.Post Inv-loop μ-loop
-  same-length-2 c = let e = c .before .before in e .put2 .kept .0 ∙ long (e .before .before .before)
-
   returns-2 : tie.Need-returns-2 (claims t) (given t) put-axes.Post Inv-loop μ-loop
   returns-2 c =
-      let e = c .before .before in
-      let l = e .before .before .before in
-      let q = o l in
-      more-drawn (start (w l) .pre .1) (wide (w l)) (q .before .before .if1 .left) (l .loop .inv) (e .before .before .loop-test .left) _
-      (q .put .ensures) (e .put2 .ensures)
+      let l = c .before in
+      let q = l .before in
+      more-drawn (start (w q) .pre .1) (wide (w q)) (q .if1 .left) (l .loop .inv) (c .loop-test .left) _ (refl, refl) (refl, refl)
 
 pub +put-axes-spec : {M : Type 1} → statement M
 +put-axes-spec =
@@ -153,6 +142,9 @@ pub +put-axes-spec : {M : Type 1} → statement M
     (λ t. tie.spec (claims t)
     (given t) put-axes.Post Inv-loop μ-loop
     (λ c κs. c .before .before .pre .1 .rank) (width-of-requires t) (put-cells-requires t) (λ c. c .before .before .put-cells .kept .0)
-    (returns t) (put-requires t) (λ c. rowing-begins _ _ _ _ _ _) (λ c. omega (arith, c .loop-test .taken))
-    (λ c. omega (arith, start t (w t (c .before .before)) .pre .1 .some)) (put-axes-requires t) (put-comma-requires t)
-    (λ c. omega (arith, turn t (c .before .before) .loop-test .taken)) (loop-again t) (put-requires-2 t) (same-length-2 t) (returns-2 t))
+    (returns t) (λ c. omega (arith, fits t c)) (λ c. omega (arith, fits t c)) (λ c. rowing-begins _ _ _ _ _ _)
+    (λ c. omega (arith, c .loop-test .taken))
+    (λ c. omega (arith, s t (c .before .before) .pre .1 .some)) (put-axes-requires t) (put-comma-requires t)
+    (λ c. omega (arith, turn t (c .before .before) .loop-test .taken)) (loop-again t)
+    (λ c. omega (arith, end t (c .before), long t (c .before)))
+    (λ c. omega (arith, end t (c .before))) (λ c. rw length-set (long t (c .before))) (returns-2 t))

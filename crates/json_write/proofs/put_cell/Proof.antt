@@ -78,7 +78,8 @@ pub put-cell-spec : {M : Type 1} → statement M
 put-cell-spec =
     tie.close
     (tie.spec
-    (λ c. search needs) (λ c. search needs) put-text-requires (λ c. search needs) put-int-requires (λ c. search needs)
-    (λ c. search needs) (λ c. search needs) put-text-requires-2 (λ c. search needs) put-text-requires-3
-    (λ c. search needs) returns (λ c. search needs) returns-2 returns-3 (λ c. search needs) returns-4
-    (λ c. search needs) returns-5)
+    (λ c. search needs) (λ c. search needs) put-text-requires (λ c. c .before .before .put-text .kept .0) returns
+    (λ c. search needs) put-int-requires (λ c. c .before .before .put-int .kept .0) returns-2
+    (λ c. search needs) returns-3
+    (λ c. search needs) (λ c. search needs) put-text-requires-2 (λ c. c .before .before .put-text2 .kept .0) returns-4
+    (λ c. search needs) put-text-requires-3 (λ c. c .before .before .put-text3 .kept .0) returns-5)

@@ -2,9 +2,8 @@
 use Prim.Native.Nat.{_+_, _-_, _<_}
 use mathlib.Core.Path.{_≡_, refl, ap, _∙_}
 use native.Mathlib.Omega.{arith}
-use lib.ListN.{length}
+use lib.ListN.{length, length-set}
 use denote.Ref.{now}
-use borrow.Author.Needs.{needs}
 use Rattle.paper.specs.Json.{cellText}
 use Rattle.json_write.specs.Texts.{comma, cellOn}
 use Rattle.json_write.specs.Rows.{Rowing, rowing-begins, row-cell, row-at, row-end, row-turn, shut-cell, shut-row}
@@ -13,22 +12,22 @@ use Rattle.json_write.proofs.put_cells.Statement.{statement}
 use Rattle.json_write.proofs.put_cells.Tie as tie
 
 abbrev Inv-loop : tie.InvT-loop
-Inv-loop out₀ s from kind width begin cell₀ at₀ more₀ out cell at more =
-    Rowing out₀ (cellOn (cellBy s from kind)) 1 width at₀ cell₀ out cell at more
+Inv-loop out₀ s from kind more₀ at₀ cell₀ out more at cell =
+    Rowing out₀ (cellOn (cellBy s from kind)) 1 more₀ at₀ cell₀ out cell at more
 
 abbrev μ-loop : tie.MeasureT-loop
-μ-loop out₀ s from kind width begin cell₀ at₀ more₀ out cell at more = more
+μ-loop out₀ s from kind more₀ at₀ cell₀ out more at cell = more
 
--- at the loop's head the row is open, and the buffer is as long as it was
+-- at the loop's head the row is open, the buffer is as long as it was, and the bracket that closes it fits
 module _ (c : tie.At-loop Inv-loop μ-loop) where
-  abbrev o : tie.After-put Inv-loop μ-loop
-  o = c .before .before .before
-
   abbrev start : tie.Start Inv-loop μ-loop
-  start = o .before .before .before .before
+  start = c .before .before .before
 
   long : length (c .loop .out) ≡ length (now (start .args .out))
-  long = c .loop .inv .long ∙ o .put .kept .0
+  long = c .loop .inv .long ∙ simp length-set
+
+  end : c .loop .at < length (now (start .args .out))
+  end = row-end (c .loop .inv) _ _ refl (start .pre .fits)
 
 -- the cell that is written is the one at the index
 module _ (c : tie.After-held-cell Inv-loop μ-loop) where
@@ -40,14 +39,8 @@ module _ (c : tie.After-held-cell Inv-loop μ-loop) where
 
   fits : l .loop .at + length (cellText (c .held-cell .result)) + length (comma (l .loop .more - 1)) < length (l .loop .out)
   fits =
-      let f = row-at (l .loop .inv) _ _ (o l .put .ensures .0) (start l .pre .fits) (turn .loop-test .taken) in
+      let f = row-at (l .loop .inv) _ _ refl (start l .pre .fits) (turn .loop-test .taken) in
       rw (long l, ap cellText (c .held-cell .ensures)) f
-
-put-requires : tie.Need-put-requires Inv-loop μ-loop
-put-requires c κs = omega (arith, c .before .before .before .pre .fits)
-
-loop-holds : tie.Need-loop-holds Inv-loop μ-loop
-loop-holds c = rowing-begins _ _ _ _ _ _
 
 held-cell-requires : tie.Need-held-cell-requires Inv-loop μ-loop
 held-cell-requires c κs =
@@ -79,26 +72,20 @@ loop-again c =
     row-turn (l h .loop .inv) (turn h .loop-test .taken) (rw (ap cellText (h .held-cell .ensures)) at (w .put-cell .ensures))
     (c .before .before .put-comma .ensures) refl
 
-put-requires-2 : tie.Need-put-requires-2 Inv-loop μ-loop
-put-requires-2 c κs =
-    let e = c .before .before in
-    rw (long e) (row-end (e .loop .inv) _ _ (o e .put .ensures .0) (start e .pre .fits))
-
-same-length : tie.Need-same-length Inv-loop μ-loop
-same-length c = let w = c .before .before in w .put2 .kept .0 ∙ long (w .before .before .before)
-
 returns : tie.Need-returns Inv-loop μ-loop
 returns c =
-    let w = c .before .before in
-    let e = w .before .before in
-    let v = e .before .loop .inv in
-    let p = o (e .before) .put .ensures in
-    let h = e .loop-test .left in
-    record { drawn = shut-row v h (now (start (e .before) .args .out)) _ p (w .put2 .ensures); goes = omega (arith, shut-cell v h) }
+    let v = c .before .loop .inv in
+    let h = c .loop-test .left in
+    record {
+      drawn = shut-row v h (now (start (c .before) .args .out)) _ (refl, refl) (refl, refl);
+      goes = omega (arith, shut-cell v h);
+    }
 
 pub put-cells-spec : {M : Type 1} → statement M
 put-cells-spec =
     tie.close
     (tie.spec
-    Inv-loop μ-loop put-requires loop-holds (λ c. search needs) held-cell-requires put-cell-requires
-    put-comma-requires add-cell (λ c. omega arith) loop-again put-requires-2 same-length returns)
+    Inv-loop μ-loop (λ c. omega (arith, c .before .before .pre .fits)) (λ c. omega (arith, c .before .before .pre .fits))
+    (λ c. rowing-begins _ _ _ _ _ _) (λ c. omega arith) held-cell-requires put-cell-requires put-comma-requires add-cell (λ c. omega arith)
+    loop-again (λ c. omega (arith, end (c .before), long (c .before))) (λ c. omega (arith, end (c .before)))
+    (λ c. rw length-set (long (c .before))) returns)

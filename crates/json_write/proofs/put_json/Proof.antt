@@ -1,8 +1,8 @@
 -- `json_write::put_json` meets its contract: the object's beginning, the brackets, the closing brace.
-use Prim.Native.Nat.{ℕ, _+_, _≤_}
-use mathlib.Core.Path.{_∙_}
+use Prim.Native.Nat.{ℕ, _+_, _≤_, _<_}
+use mathlib.Core.Path.{_≡_, refl, _∙_}
 use native.Mathlib.Omega.{arith}
-use lib.ListN.{length}
+use lib.ListN.{length, length-set}
 use denote.Ref.{now}
 use borrow.Author.Needs.{needs}
 use Rattle.paper.specs.declared.Cell.{Cell}
@@ -48,32 +48,25 @@ put-axes-requires c κs =
     whole-ready (s .pre .0) (s .args .kind) (omega (arith, s .pre .1, w .put-text .kept .0)) (p w .rank-of .ensures .number) _
     (omega (arith, begun w .0))
 
-put-requires : tie.Need-put-requires
-put-requires c κs =
-    let a = c .before .before .before in
-    omega (arith, fits (p (o a)), begun (o a) .0, a .put-axes .ensures .drawn .0, a .put-axes .kept .0, o a .put-text .kept .0)
+-- the closing brace fits
+room : (a : tie.After-put-axes) → a .put-axes .result .at < length (now (start (p (o a)) .args .out))
+room a = omega (arith, fits (p (o a)), begun (o a) .0, a .put-axes .ensures .drawn .0)
 
--- the object is closed
-module _ (c : tie.After-put) where
-  abbrev brackets : tie.After-put-axes
-  brackets = c .before .before .before .before
-
-same-length : tie.Need-same-length
-same-length c =
-    let w = c .before .before in
-    w .put .kept .0 ∙ brackets w .put-axes .kept .0 ∙ o (brackets w) .put-text .kept .0
+long : (a : tie.After-put-axes) → length (a .put-axes .last .0) ≡ length (now (start (p (o a)) .args .out))
+long a = a .put-axes .kept .0 ∙ o a .put-text .kept .0
 
 returns : tie.Need-returns
 returns c =
-    let w = c .before .before in
-    let a = brackets w in
+    let a = c .before .before in
     let q = p (o a) in
     let s = start q in
     whole-drawn (s .pre .0) (s .args .kind) (s .pre .1) (q .rank-of .ensures .number) (now (s .args .out)) (begun (o a))
-    (a .put-axes .ensures) (w .put .ensures)
+    (a .put-axes .ensures) (refl, refl)
 
 pub put-json-spec : {M : Type 1} → statement M
 put-json-spec =
     tie.close
     (tie.spec
-    (λ c κs. search needs) (λ c. search needs) put-text-requires put-axes-requires put-requires same-length returns)
+    (λ c κs. search needs) (λ c. search needs) put-text-requires put-axes-requires
+    (λ c. omega (arith, room (c .before .before), long (c .before .before)))
+    (λ c. omega (arith, room (c .before .before))) (λ c. rw length-set (long (c .before .before))) returns)

@@ -22,9 +22,9 @@ module _ (c : tie.Else1) where
   out = now (h .before .before .before .args .out)
 
 -- and its cells are no FLOAT numbers: it is whole
-module _ (c : tie.After-extent) where
+module _ (c : tie.Else2) where
   abbrev kept : tie.Else1
-  kept = c .before .before .before .before
+  kept = c .before .before
 
   whole : Whole (bs kept) (h kept .choose .result .head .at) (axesOf (h kept .choose .result .head .form .extent))
   whole =
@@ -45,7 +45,7 @@ returns c = own-refusal (c .before .before .before .choose .ensures) _ (c .if1 .
 returns-2 : tie.Need-returns-2
 returns-2 c =
     let f = c .before in
-    let q = f .before .before .before in
+    let q = f .before .before in
     float-refused (h q .choose .ensures) (out q) (q .if1 .left) (f .if2 .taken) (c .refuse .ensures)
 
 json-length-requires : tie.Need-json-length-requires
@@ -56,14 +56,11 @@ returns-3 c =
     let j = c .before .before in
     let e = j .before in
     let q = kept e in
-    small-refused (h q .choose .ensures) (out q) (q .if1 .left) (e .before .if2 .left)
+    small-refused (h q .choose .ensures) (out q) (q .if1 .left) (e .if2 .left)
     (omega (arith, j .json-length .ensures .0, c .before .if3 .taken)) (c .refuse2 .ensures)
 
 put-json-requires : tie.Need-put-json-requires
 put-json-requires c κs = let j = c .before .before in (whole (j .before), omega (arith, j .json-length .ensures .0, c .before .if3 .left))
-
-cast : tie.Need-cast-t19
-cast c = record { fits = long (c .before .before) .json-length .ensures .1 }
 
 returns-4 : tie.Need-returns-4
 returns-4 c =
@@ -71,12 +68,13 @@ returns-4 c =
     let j = long w .json-length .ensures .0 in
     let e = long w .before in
     let q = kept e in
-    text-got (h q .choose .ensures) (out q) (q .if1 .left) (e .before .if2 .left) (omega (arith, j, fits w .if3 .left)) j
+    text-got (h q .choose .ensures) (out q) (q .if1 .left) (e .if2 .left) (omega (arith, j, fits w .if3 .left)) j
     (w .put-json .ensures)
 
 pub write-spec : {M : Type 1} → statement M
 write-spec =
     tie.close
     (tie.spec
-    (λ c κs. search needs) returns (λ c κs. search needs) returns-2 json-length-requires (λ c κs. search needs) returns-3
-    put-json-requires cast (λ c. c .before .before .put-json .kept .0) returns-4)
+    (λ c κs. tt) returns (λ c κs. tt) returns-2 json-length-requires (λ c κs. tt) returns-3
+    put-json-requires (λ c. record { fits = long (c .before .before) .json-length .ensures .1 })
+    (λ c. c .before .before .put-json .kept .0) returns-4)

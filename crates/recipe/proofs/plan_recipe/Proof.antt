@@ -91,7 +91,7 @@ module _ (c : tie.After-plan-step Inv-loop μ-loop) where
 -- it has no refusal
 module _ (c : tie.Else2 Inv-loop μ-loop) where
   abbrev judged : tie.After-plan-step Inv-loop μ-loop
-  judged = c .before .before .before
+  judged = c .before .before
 
   abbrev grown : Plan
   grown = withStep (p judged) (judged .plan-step .result)
@@ -129,26 +129,26 @@ plan-step-requires c κs =
 returns-2 : tie.Need-returns-2 Inv-loop μ-loop
 returns-2 c =
     let t = c .before in
-    let x = t .before .before .before in
+    let x = t .before .before in
     let w = loop x in
     step-refused (R (w .before)) (ss x) _ (good (w .before)) _ (c .no-plan2 .ensures) (t .if2 .taken)
     (rw (← over w) (steps-refused _ _ (p x) (w .loop .inv .0) (below x) (x .plan-step .result) (answered x) (t .if2 .taken)))
 
-mul-t25 : tie.Need-mul-t25 Inv-loop μ-loop
-mul-t25 c = let b = loop-grown (c .before .before .before) in omega (arith, b .turns, b .few)
+mul-t18 : tie.Need-mul-t18 Inv-loop μ-loop
+mul-t18 c = let b = loop-grown (c .before .before) in omega (arith, b .turns, b .few)
 
 element-set-from-plan : tie.Need-element-set-from-plan Inv-loop μ-loop
-element-set-from-plan c = let b = loop-grown (c .before .before .before) in omega (arith, b .turns, b .few)
+element-set-from-plan c = let b = loop-grown (c .before .before) in omega (arith, b .turns, b .few)
 
 add-plan : tie.Need-add-plan Inv-loop μ-loop
-add-plan c = let b = loop-grown (c .before .before .before .before) in omega (arith, b .most, b .turns, b .few)
+add-plan c = let b = loop-grown (c .before .before .before) in omega (arith, b .most, b .turns, b .few)
 
 loop-less : tie.Need-loop-less Inv-loop μ-loop
-loop-less c = let b = loop-grown (c .before .before .before .before) in omega (arith, b .turns)
+loop-less c = let b = loop-grown (c .before .before .before) in omega (arith, b .turns)
 
 loop-again : tie.Need-loop-again Inv-loop μ-loop
 loop-again c =
-    let e = c .before .before .before .before in
+    let e = c .before .before .before in
     let x = judged e in
     let l = loop x .loop .inv in
     let A = arraysOf (loop x .before .over-arrays .result) in
@@ -168,5 +168,7 @@ plan-recipe-spec =
     (λ c κs. search needs) loop-holds (λ c. search needs) (λ c. search needs) (λ c. search needs) (λ c. search needs)
     (λ c. search needs) (λ c κs. search needs) (λ c. search needs) (λ c. search needs) (λ c. search needs)
     (λ c. search needs) (λ c κs. search needs) (λ c. search needs) (λ c. search needs) (λ c. search needs)
-    (λ c. search needs) plan-step-requires (λ c κs. search needs) returns-2 (λ c. search needs) (λ c. search needs)
-    (λ c κs. search needs) mul-t25 element-set-from-plan add-plan loop-less loop-again returns-3)
+    (λ c. search needs) plan-step-requires (λ c κs. search needs) returns-2
+    (λ c. let b = loop-grown (c .before) in omega (arith, b .turns, b .few))
+    (λ c. let b = loop-grown (c .before) in omega (arith, b .turns, b .few))
+    (λ c κs. search needs) mul-t18 element-set-from-plan add-plan loop-less loop-again returns-3)

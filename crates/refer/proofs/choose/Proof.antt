@@ -12,14 +12,14 @@ use Rattle.refer.proofs.choose.Tie as tie
 -- the bundle was read
 module _ (c : tie.After-refuse) where
   abbrev kept : tie.Else1
-  kept = c .before .before
+  kept = c .before
 
   abbrev had : tie.After-read
   had = kept .before .before .before
 
 -- there is such an array
-array-copy-out-head : tie.Need-array-copy-out-head
-array-copy-out-head c =
+element-copy-out-head : tie.Need-element-copy-out-head
+element-copy-out-head c =
     let o = had (c .before .before) .read in
     let l : length (o .result .heads) ≡ mostArrays = search (needs, length-mapped) in
     omega (arith, o .ensures .room)
@@ -42,6 +42,6 @@ choose-spec =
     (tie.spec
     (λ c κs. search needs) (λ c κs. search needs)
     (λ c. bundle-refuses (c .before .before .before .before .read .ensures) (c .before .if1 .taken) (c .none-chosen .ensures))
-    (λ c κs. search needs) (λ c κs. search needs) returns-2 (λ c κs. search needs) returns-3 (λ c. search needs) (λ c. search needs)
-    array-copy-out-head
+    (λ c κs. search needs) (λ c κs. search needs) returns-2 (λ c κs. search needs) returns-3 (λ c. search needs)
+    (λ c. omega (arith, had (c .before .before) .read .ensures .room)) element-copy-out-head
     (λ c. let q = c .before .before .before in known (had q .read .ensures) (kept q .if1 .left) (omega arith) (omega arith) refl))

@@ -49,7 +49,7 @@ module _ (c : tie.Else1) where
 -- as many coordinates as axes
 module _ (c : tie.Else2) where
   abbrev kept : tie.Else1
-  kept = c .before .before .before .before .before .before
+  kept = c .before .before
 
   count : length (zs kept) ≡ length (axesOf (form kept .extent))
   count = c .if2 .left ∙ c .before .rank-of .ensures .number
@@ -76,7 +76,7 @@ module _ (c : tie.After-place) where
 returns-2 : tie.Need-returns-2
 returns-2 c =
     let r = c .before .before in
-    let q = r .before .before .before .before .before in
+    let q = r .before in
     rw (c .refuse .ensures)
     (refer-count (zs q) (had q .choose .ensures) (q .if1 .left) (λ e. c .before .if2 .taken (e ∙ sym (r .rank-of .ensures .number))))
 

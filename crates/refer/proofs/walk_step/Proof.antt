@@ -27,7 +27,7 @@ module _ (c : tie.Else3) where
 
 returns-2 : tie.Need-returns-2
 returns-2 c =
-    let q = c .before .before .before .before in
+    let q = c .before .before .before in
     c .outside .ensures ∙ walk-outside (o q) (had q .choose .ensures) (q .if1 .left) (none-before _ (o q) (c .before .if2 .taken))
 
 returns-3 : tie.Need-returns-3
@@ -37,7 +37,7 @@ returns-3 c =
 
 returns-5 : tie.Need-returns-5
 returns-5 c =
-    let q = kept (c .before .before .before .before) in
+    let q = kept (c .before .before .before) in
     rw (c .before .held-cell .ensures) (walk-cell (o q) (had q .choose .ensures) (q .if1 .left) (omega arith) (omega arith))
 
 pub walk-step-spec : {M : Type 1} → statement M
@@ -47,7 +47,7 @@ walk-step-spec =
     (λ c κs. search needs)
     (λ c. let h = c .before .before .before in walk-refused (h .before .before .args .place .0) (h .choose .ensures) (c .if1 .taken))
     (λ c. search needs) (λ c κs. search needs) returns-2 (λ c. omega (arith, fit (c .before .before .before) .few)) (λ c κs. search needs)
-    returns-3 (λ c. omega (arith, fit (kept c) .few))
+    returns-3
     (λ c. let q = kept (c .before) in walk-end (o q) (had q .choose .ensures) (q .if1 .left) (c .if4 .taken)) (λ c. search needs)
-    (λ c κs. let f = fit (kept (c .before .before)) in omega (arith, f .counted, f .fits))
-    (λ c. omega (arith, fit (kept (c .before .before .before .before)) .few)) returns-5)
+    (λ c κs. let f = fit (kept (c .before)) in omega (arith, f .counted, f .fits))
+    (λ c. omega (arith, fit (kept (c .before .before .before)) .few)) returns-5)

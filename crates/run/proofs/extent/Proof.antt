@@ -10,7 +10,7 @@ use Rattle.run.proofs.extent.Tie as tie
 -- the bundle and the recipe are accepted
 module _ (c : tie.Else1) where
   abbrev tested : tie.After-planned
-  tested = c .before .before .before
+  tested = c .before
 
   abbrev start : tie.Start
   start = tested .before .before .before .before
@@ -22,8 +22,8 @@ module _ (c : tie.Else2) where
 
 returns : tie.Need-returns
 returns c =
-    let t = c .before .before .before in
-    extent-refused (t .planned .ensures) (c .if1 .taken) (now (t .before .before .before .before .args .head))
+    let t = c .before .before in
+    extent-refused (t .planned .ensures) (c .before .if1 .taken) (now (t .before .before .before .before .args .head))
 
 returns-2 : tie.Need-returns-2
 returns-2 c =
@@ -33,7 +33,7 @@ returns-2 c =
 put-head-requires : tie.Need-put-head-requires
 put-head-requires c κs =
     let w = c .before .before .before in
-    let f = w .before .before .before .before in
+    let f = w .before .before .before in
     let e = accepted f in
     last-room (tested e .planned .ensures) (e .if1 .left) (now (start e .args .head)) (f .if2 .left) (w .clear .ensures)
 
@@ -41,7 +41,7 @@ returns-3 : tie.Need-returns-3
 returns-3 c =
     let h = c .before .before in
     let w = h .before .before .before .before in
-    let f = w .before .before .before .before in
+    let f = w .before .before .before in
     let e = accepted f in
     extent-told (tested e .planned .ensures) (e .if1 .left) (now (start e .args .head)) (f .if2 .left) (w .clear .ensures) _ _
     (h .put-head .ensures)
@@ -54,5 +54,5 @@ extent-spec =
     (λ c. let e = accepted c in omega (arith, laid (tested e .planned .ensures) (e .if1 .left) .few))
     (λ c. let e = accepted c in omega (arith, laid (tested e .planned .ensures) (e .if1 .left) .few))
     (λ c. let e = accepted c in let l = laid (tested e .planned .ensures) (e .if1 .left) in omega (arith, l .few, l .named .long))
-    (λ c κs. c .before .before .before .if2 .left) put-head-requires (λ c. search needs)
+    (λ c κs. c .before .before .if2 .left) put-head-requires (λ c. search needs)
     (λ c. c .before .before .put-head .kept .1 .0 ∙ c .before .before .before .before .before .before .clear .kept .0) returns-3)

@@ -11,7 +11,7 @@ module _ (c : tie.After-rank-of) where
   typed = c .before .before
 
   abbrev start : tie.Start
-  start = typed .before .before .before
+  start = typed .before .before
 
 -- the row buffer has room too
 module _ (c : tie.After-struct-known4) where

@@ -15,15 +15,12 @@ use Rattle.run.proofs.page_rows.Statement.{statement}
 use Rattle.run.proofs.page_rows.Tie as tie
 
 -- the bundle and the recipe are tested
-module _ (c : tie.After-struct-known) where
-  abbrev tested : tie.After-planned
-  tested = c .before .before
-
+module _ (c : tie.After-planned) where
   abbrev start : tie.Start
-  start = tested .before .before .before .before .before
+  start = c .before .before .before .before .before
 
   abbrev P : Plan
-  P = tested .planned .result
+  P = c .planned .result
 
   abbrev B : List ℕ
   B = now (start .args .bundle)
@@ -41,7 +38,7 @@ module _ (c : tie.After-struct-known) where
   L = now (start .args .rows)
 
   abbrev is : PlannedFor B bs P
-  is = tested .planned .ensures
+  is = c .planned .ensures
 
 -- they are accepted
 module _ (c : tie.Else1) where
@@ -49,16 +46,16 @@ module _ (c : tie.Else1) where
   laid = is (c .before) .setting (c .if1 .left) .0 .laid
 
 -- the page's own tests are made
-module _ (c : tie.After-struct-known2) where
+module _ (c : tie.After-struct-known) where
   abbrev accepted : tie.Else1
-  accepted = c .before .before .before .before
+  accepted = c .before .before .before
 
   abbrev judged : PageJudged (lastIn (P (accepted .before))) (P (accepted .before) .count) (P (accepted .before) .cells * cellBytes)
       (length (W (accepted .before))) (o (accepted .before)) (length (L (accepted .before))) (c .before .page-refusal .result)
   judged = c .before .page-refusal .ensures
 
 -- the values are there, or were stopped
-module _ (c : tie.After-struct-known3) where
+module _ (c : tie.After-struct-known2) where
   abbrev settled : tie.After-settle
   settled = c .before .before .before
 
@@ -67,7 +64,7 @@ module _ (c : tie.After-struct-known3) where
 
 returns : tie.Need-returns
 returns c =
-    let t = c .before in
+    let t = c .before .before in
     let s = t .before in
     no-rows (B s) (bs s) (c .no-page .ensures) (page-refused (is s) (W s) (o s) (L s) (t .if1 .taken))
 
@@ -81,11 +78,11 @@ element-copy-out-last : tie.Need-element-copy-out-last
 element-copy-out-last c = omega (arith, laid c .few, laid c .named .long)
 
 mul-bytes : tie.Need-mul-bytes
-mul-bytes c = omega (arith, laid (c .before .before) .most)
+mul-bytes c = omega (arith, laid (c .before) .most)
 
 page-refusal-requires : tie.Need-page-refusal-requires
 page-refusal-requires c κs =
-    let a = c .before .before in
+    let a = c .before in
     let w = last-laid (laid a) (is (a .before) .setting (a .if1 .left) .1) in
     (laid a .few, (omega (arith, w .small .few, w .count), w .count))
 
@@ -114,7 +111,7 @@ returns-3 c =
 
 list-requires : tie.Need-list-requires
 list-requires c κs =
-    let e = c .before .before .before in
+    let e = c .before .before in
     let v = e .before in
     let f = fits v in
     let a = accepted (f .before) in
@@ -124,7 +121,7 @@ list-requires c κs =
 returns-4 : tie.Need-returns-4
 returns-4 c =
     let l = c .before .before .before in
-    let e = l .before .before .before .before in
+    let e = l .before .before .before in
     let v = e .before in
     let f = fits v in
     let a = accepted (f .before) in

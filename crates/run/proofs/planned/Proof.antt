@@ -10,7 +10,7 @@ use Rattle.run.proofs.planned.Tie as tie
 -- the bundle was read
 module _ (c : tie.After-struct-known) where
   abbrev reading : tie.After-read
-  reading = c .before .before
+  reading = c .before
 
   abbrev start : tie.Start
   start = reading .before .before .before

@@ -10,7 +10,7 @@ use Rattle.totals.proofs.total.Tie as tie
 -- an array was chosen, and not refused
 module _ (c : tie.After-has-total) where
   abbrev kept : tie.Else1
-  kept = c .before .before .before
+  kept = c .before
 
   abbrev had : tie.After-choose
   had = kept .before .before .before
@@ -35,7 +35,7 @@ pub total-spec : {M : Type 1} → statement M
 total-spec =
     tie.close
     (tie.spec
-    (λ c κs. search needs)
+    (λ c κs. tt)
     (λ c. let h = c .before .before .before in total-refused (h .choose .ensures) (h .before .before .args .which) (c .if1 .taken))
-    (λ c κs. search needs) (λ c κs. search needs) returns-2
+    (λ c κs. tt) (λ c κs. tt) returns-2
     (λ c κs. let h = c .before in lying (had h .choose .ensures) (which h) (kept h .if1 .left)) returns-3)

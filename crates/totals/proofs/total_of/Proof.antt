@@ -11,9 +11,10 @@ unfolding totalOf
 total-of-spec =
     tie.close
     (tie.spec
-    (λ c. search needs) (λ c κs. search needs) (λ c. search needs) (λ c κs. search needs) (λ c. search needs)
-    (λ c κs. search needs) (λ c. search needs) (λ c κs. search needs) (λ c. search needs) (λ c κs. search needs)
-    (λ c κs. search needs) (λ c. search needs) (λ c κs. search needs)
+    (λ c. search needs) (λ c κs. c .before .before .before .pre) (λ c. search needs) (λ c κs. c .before .before .before .pre)
+    (λ c. search needs) (λ c κs. c .before .before .before .pre) (λ c. search needs) (λ c κs. c .before .before .before .pre)
+    (λ c. search needs) (λ c κs. c .before .before .before .before .pre) (λ c κs. c .before .before .before .before .pre)
+    (λ c. search needs) (λ c κs. c .before .before .before .pre)
     (λ c. rw (c .before .enum-told .given .1, c .count-cells .ensures, counted-filled 1))
     (λ c. rw (c .before .enum-told2 .given .1, c .count-cells2 .ensures, counted-true 1))
     (λ c. rw (c .before .enum-told3 .given .1, c .best-cell .ensures))

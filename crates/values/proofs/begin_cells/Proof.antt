@@ -12,9 +12,9 @@ use Rattle.values.proofs.begin_cells.Statement.{statement}
 use Rattle.values.proofs.begin_cells.Tie as tie
 
 -- a step whose operands are known
-module _ (c : tie.After-result) where
+module _ (c : tie.After-step) where
   abbrev start : tie.Start
-  start = c .before .before .before .before .before .before .before
+  start = c .before .before .before .before
 
 -- a step that works cells out
 module _ (c : tie.After-pairing-of) where
@@ -48,6 +48,5 @@ pub begin-cells-spec : {M : Type 1} → statement M
 begin-cells-spec =
     tie.close
     (tie.spec
-    (λ c. search needs) (λ c κs. search needs) (λ c κs. search needs) (λ c κs. search needs) (λ c. search needs)
-    returns (λ c. search needs) (λ c. search needs) (λ c κs. search needs) (λ c κs. search needs) ahead-requires
-    (λ c. search needs) returns-2)
+    (λ c. search needs) (λ c κs. search needs) (λ c κs. tt) (λ c κs. tt) (λ c. search needs) returns (λ c. search needs)
+    (λ c. search needs) (λ c κs. search needs) (λ c κs. tt) ahead-requires (λ c. search needs) returns-2)

@@ -10,15 +10,17 @@ returns c =
 
 returns-2 : tie.Need-returns-2
 returns-2 c =
-    let h = c .before .before in
-    let w = h .before .before .before in
-    rw (w .w2 .given .1, h .enum-told .given .1, ← c .before .pair-code2 .ensures, ← w .before .before .cells-of .ensures) (c .paired2 .ensures)
+    let h = c .before in
+    let p = h .before .before in
+    let w = p .before .before in
+    rw (w .w2 .given .1, h .enum-told .given .1, ← p .pair-code2 .ensures, ← w .before .before .cells-of .ensures) (c .paired2 .ensures)
 
 returns-3 : tie.Need-returns-3
 returns-3 c =
-    let h = c .before .before in
-    let w = h .before .before .before in
-    rw (w .w2 .given .1, h .enum-told2 .given .1, ← c .before .pair-code3 .ensures, ← w .before .before .cells-of .ensures) (c .paired3 .ensures)
+    let h = c .before in
+    let p = h .before .before in
+    let w = p .before .before in
+    rw (w .w2 .given .1, h .enum-told2 .given .1, ← p .pair-code2 .ensures, ← w .before .before .cells-of .ensures) (c .paired3 .ensures)
 
 returns-4 : tie.Need-returns-4
 returns-4 c =
@@ -29,7 +31,5 @@ pub pairing-of-spec : {M : Type 1} → statement M
 pairing-of-spec =
     tie.close
     (tie.spec
-    (λ c κs. search needs) (λ c. search needs) (λ c κs. search needs) (λ c κs. search needs) (λ c κs. search needs)
-    returns (λ c. search needs) (λ c. search needs) (λ c κs. search needs) (λ c κs. search needs) returns-2
-    (λ c. search needs) (λ c κs. search needs) (λ c κs. search needs) returns-3 (λ c. search needs)
-    (λ c κs. search needs) (λ c κs. search needs) returns-4)
+    (λ c κs. tt) (λ c. search needs) (λ c κs. tt) (λ c κs. tt) (λ c κs. tt) returns (λ c. search needs) (λ c κs. tt) (λ c. search needs)
+    (λ c κs. tt) returns-2 (λ c. search needs) (λ c κs. tt) returns-3 (λ c. search needs) (λ c κs. tt) (λ c κs. tt) returns-4)

@@ -27,12 +27,12 @@ use Rattle.values.proofs.run_steps.Statement.{statement}
 use Rattle.values.proofs.run_steps.Tie as tie
 
 abbrev Inv-cells : tie.InvT-cells
-Inv-cells bundle recipe work₀ plan m out₀ s base n q k₀ work out k =
+Inv-cells bundle recipe work₀ plan m out₀ s base n begun k₀ work out k =
     (k₀ ≤ k) × (k ≤ n) × (n ≤ mostCells) × (base + n * cellBytes ≤ length work) × (length work ≡ length work₀) × (out ≡ out₀)
     × ((W : List ℕ) (d : Done (arraysAt bundle plan) (stepsOf recipe plan) W s) → CellsDone d k₀ work₀ → CellsDone d k work)
 
 abbrev μ-cells : tie.MeasureT-cells
-μ-cells bundle recipe work₀ plan m out₀ s base n q k₀ work out k = n - k
+μ-cells bundle recipe work₀ plan m out₀ s base n begun k₀ work out k = n - k
 
 abbrev Inv-steps : tie.InvT-steps
 Inv-steps bundle recipe work₀ plan m out₀ s₀ work out s =
@@ -119,7 +119,7 @@ module _ (c : tie.After-begin-cells Inv-cells μ-cells Inv-steps μ-steps) where
 -- the head of the loop over cells
 module _ (c : tie.At-cells Inv-cells μ-cells Inv-steps μ-steps) where
   abbrev first : tie.After-begin-cells Inv-cells μ-cells Inv-steps μ-steps
-  first = c .before .before .before .before
+  first = c .before .before .before
 
   abbrev on : InTurn (B (its first)) (bs (its first)) (t (its first)) (sofar (its first) .done)
   on = turned (its first) _ _
@@ -146,7 +146,7 @@ module _ (c : tie.In-cells Inv-cells μ-cells Inv-steps μ-steps) where
 
 cells-holds : tie.Need-cells-holds Inv-cells μ-cells Inv-steps μ-steps
 cells-holds c =
-    let f = c .before .before .before in
+    let f = c .before .before in
     let y = turned (its f) _ (sofar (its f) .done) in
     let m = f .begin-cells .ensures .most in
     (omega arith, m, few-cells y (begun f), omega (arith, room-all y (begun f), keeps y (begun f) m), refl, refl, λ X d v. v)
@@ -255,10 +255,9 @@ pub run-steps-spec : {M : Type 1} → statement M
 run-steps-spec =
     tie.close
     (tie.spec
-    Inv-cells μ-cells Inv-steps μ-steps (λ c κs. search needs) steps-holds (λ c. search needs) (λ c. search needs)
-    (λ c. search needs) mul-a element-copy-out-a (λ c. search needs) mul-b element-copy-out-b (λ c. search needs)
-    (λ c. search needs) (λ c. search needs) (λ c. search needs) begin-cells-requires cells-holds (λ c. search needs)
-    slice-aggregate-done raw-of-requires raw-of-requires-2 computed-requires (λ c. search needs) (λ c. search needs)
-    add-write-cell (λ c κs. search needs) (λ c. search needs) refusal-of-requires (λ c. search needs)
-    (λ c. search needs) cells-again (λ c. search needs) (λ c. search needs) steps-again same-length returns
+    Inv-cells μ-cells Inv-steps μ-steps (λ c κs. tt) steps-holds (λ c. search needs) (λ c. search needs) (λ c. search needs) mul-a
+    element-copy-out-a (λ c. search needs) mul-b element-copy-out-b (λ c. search needs) (λ c. search needs) (λ c. search needs)
+    (λ c. search needs) begin-cells-requires cells-holds (λ c. search needs) slice-aggregate-done raw-of-requires raw-of-requires-2
+    computed-requires (λ c. search needs) (λ c. search needs) add-write-cell (λ c κs. search needs) (λ c. search needs) refusal-of-requires
+    (λ c. search needs) (λ c. search needs) cells-again (λ c. search needs) (λ c. search needs) steps-again same-length returns
     same-length-2 returns-2)

@@ -1,21 +1,28 @@
 -- `cell::bytes::half` meets its contract, as `word` does. Assumes nothing.
 use borrow.Author.Needs.{needs}
 use mathlib.Core.Path.{ap, sym, _∙_}
+use lib.Dec.{lit<}
 use denote.Ref.{now}
 use Rattle.paper.specs.Limits.{limitBytes}
 use Rattle.paper.specs.Numbers.{leOf}
-use Rattle.cell.proofs.Runs.{bytes-at}
+use Rattle.cell.proofs.Runs.{Room, bytes-at, within, place-fits}
 use Rattle.cell.proofs.bytes.half.Statement.{statement}
 use Rattle.cell.proofs.bytes.half.Tie as tie
 
+room : (c : tie.After-shared-slice-known2) → Room (now (c .before .before .args .s)) (c .before .before .args .at) limitBytes
+room c = record { ends = c .before .before .pre; short = c .before .before .good .0 .0 }
+
 returns : tie.Need-returns
 returns c =
-    let a = c .before .before .before .before .before .before .args in
-    c .join4 .ensures ∙ ap leOf (sym (bytes-at (now (a .s)) (a .at) limitBytes (search needs)))
+    let o = c .before .before .before .before .before .before in
+    c .join4 .ensures ∙ ap leOf (sym (bytes-at (now (o .args .s)) (o .args .at) limitBytes (o .pre)))
 
+-- each index is within the slice, and each `at + i` fits
 pub half-spec : {M : Type 1} → statement M
 half-spec =
     tie.close
     (tie.spec
-    (λ c. search needs) (λ c. search needs) (λ c. search needs) (λ c. search needs) (λ c. search needs)
-    (λ c. search needs) (λ c. search needs) (λ c κs. search needs) returns)
+    (λ c. search needs) (λ c. place-fits (room c) 1 (lit< tt)) (λ c. within (room (c .before)) 1 (lit< tt))
+    (λ c. place-fits (room (c .before)) 2 (lit< tt)) (λ c. within (room (c .before .before)) 2 (lit< tt))
+    (λ c. place-fits (room (c .before .before)) 3 (lit< tt)) (λ c. within (room (c .before .before .before)) 3 (lit< tt)) (λ c κs. tt)
+    returns)

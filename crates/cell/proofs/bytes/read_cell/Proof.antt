@@ -18,4 +18,4 @@ returns c =
 
 pub read-cell-spec : {M : Type 1} → statement M
 read-cell-spec =
-    tie.close (tie.spec (λ c. search needs) (λ c. search needs) (λ c κs. search needs) (λ c κs. search needs) returns)
+    tie.close (tie.spec (λ c. search needs) (λ c. search needs) (λ c κs. search needs) (λ c κs. tt) returns)

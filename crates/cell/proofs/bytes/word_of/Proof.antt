@@ -28,5 +28,5 @@ pub word-of-spec : {M : Type 1} → statement M
 word-of-spec =
     tie.close
     (tie.spec
-    (λ c. search needs) (λ c. search needs) (λ c κs. search needs) (λ c. search needs) float-to-bits-result
+    (λ c. search needs) (λ c. search needs) (λ c κs. tt) (λ c. search needs) float-to-bits-result
     (λ c. search needs) (λ c. search needs) (λ c. search needs) returns-2 returns-3 returns-4 (λ c. search needs))

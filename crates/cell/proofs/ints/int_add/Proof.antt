@@ -1,5 +1,4 @@
 -- `cell::ints::int_add` meets its contract: whether the sum that wraps fits is told by the signs (Wrap.antt). Assumes nothing.
-use borrow.Author.Needs.{needs}
 use mathlib.Core.Path.{_≡_, _∙_, sym, ap, ap₂}
 use mathlib.Core.Bool.{Bool, true, false}
 use Prim.Native.Nat.{ℕ, _+_, _%_, _^_}
@@ -46,4 +45,4 @@ returns-2 c = let s = c .before .before in add-fits (a s) (b s) (o s .fits .a) (
 pub int-add-spec : {M : Type 1} → statement M
 int-add-spec =
     tie.close
-    (tie.spec (λ c κs. search needs) (λ c κs. search needs) (λ c κs. search needs) (λ c κs. search needs) (λ c κs. search needs) returns returns-2)
+    (tie.spec (λ c κs. tt) (λ c κs. tt) (λ c κs. tt) (λ c κs. tt) (λ c κs. tt) returns returns-2)

@@ -10,7 +10,6 @@ use lib.IntN.{ℤ, natAbs, _*ℤ_}
 use mir.Syntax.{w64}
 use mir.Val.{SFits}
 use mir.Facts.{toZ-ofZ, sfits-lit}
-use borrow.Author.Needs.{needs}
 use Rattle.laws.specs.Tests.{and-left, and-right}
 use Rattle.laws.specs.Parts.{up, dn, one-part, abs-parts, parts-eq, abs-mul, small-fits, neg-flag, same-signs, unlike-signs}
 use Rattle.paper.specs.Operators.{fitInt}
@@ -94,5 +93,5 @@ pub int-mul-spec : {M : Type 1} → statement M
 int-mul-spec =
     tie.close
     (tie.spec
-    (λ c κs. search needs) (λ c κs. search needs) mul-t8 returns (λ c κs. search needs) (λ c κs. search needs)
-    (λ c κs. search needs) returns-2 mul-p mul-t13 returns-3 returns-4 returns-5 returns-6)
+    (λ c κs. tt) (λ c κs. tt) mul-t8 returns (λ c κs. tt) (λ c κs. tt)
+    (λ c κs. tt) returns-2 mul-p mul-t13 returns-3 returns-4 returns-5 returns-6)

@@ -49,4 +49,4 @@ returns-2 c = let s = c .before .before in sub-fits (a s) (b s) (o s .fits .a) (
 pub int-sub-spec : {M : Type 1} → statement M
 int-sub-spec =
     tie.close
-    (tie.spec (λ c κs. search needs) (λ c κs. search needs) (λ c κs. search needs) (λ c κs. search needs) (λ c κs. search needs) returns returns-2)
+    (tie.spec (λ c κs. tt) (λ c κs. tt) (λ c κs. tt) (λ c κs. tt) (λ c κs. tt) returns returns-2)

@@ -22,4 +22,4 @@ returns c =
     ∙ parts-eq (toZ w64 n) (pos x +ℤ smallestInt) (omega (arith, toZ-parts n (omega (arith, c .before .wrapping-add-u64 .ensures)), add-parts (pos x) smallestInt, c .before .wrapping-add-u64 .ensures))
 
 pub above-spec : {M : Type 1} → statement M
-above-spec = tie.close (tie.spec (λ c κs. search needs) (λ c κs. search needs) returns)
+above-spec = tie.close (tie.spec (λ c κs. tt) (λ c κs. tt) returns)

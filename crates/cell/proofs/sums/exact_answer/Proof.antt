@@ -35,5 +35,5 @@ pub exact-answer-spec : {M : Type 1} → statement M
 exact-answer-spec =
     tie.close
     (tie.spec
-    returns (λ c κs. search needs) (λ c κs. search needs) (λ c. search needs) (λ c. search needs) returns-2
-    (λ c. search needs) (λ c. search needs) (λ c κs. search needs) returns-3 returns-4)
+    returns (λ c κs. tt) (λ c κs. tt) (λ c. search needs) (λ c. search needs) returns-2
+    (λ c. search needs) (λ c. search needs) (λ c κs. tt) returns-3 returns-4)

@@ -11,5 +11,5 @@ pub show-last-spec : {M : Type 1} → statement M
 show-last-spec =
     tie.close
     (tie.spec
-    (λ c κs. search needs) plan-recipe-requires (λ c. search needs) (λ c. search needs) (λ c. search needs) (λ c. search needs)
-    (λ c κs. search needs) (λ c. search needs) (λ c κs. search needs) (λ c. search needs) (λ c. search needs) (λ c. search needs))
+    (λ c κs. search needs) plan-recipe-requires (λ c. search needs) (λ c. search needs) (λ c. search needs)
+    (λ c κs. search needs) (λ c. search needs) (λ c. search needs))

@@ -9,10 +9,8 @@ pub pair-op-spec : {M : Type 1} → statement M
 pair-op-spec =
     tie.close
     (tie.spec
-    (λ c. sym (ap pairOp (c .match .keys1))) (λ c. sym (ap pairOp (c .match .keys2)))
-    (λ c. sym (ap pairOp (c .match .keys3))) (λ c. sym (ap pairOp (c .match .keys4)))
-    (λ c. sym (ap pairOp (c .match .keys5))) (λ c. sym (ap pairOp (c .match .keys6)))
-    (λ c. sym (ap pairOp (c .match .keys7))) (λ c. sym (ap pairOp (c .match .keys8)))
-    (λ c. sym (ap pairOp (c .match .keys9))) (λ c. sym (ap pairOp (c .match .keys10)))
-    (λ c. sym (ap pairOp (c .match .keys11))) (λ c. sym (ap pairOp (c .match .keys12)))
-    (λ c. sym (ap pairOp (c .match .keys13))) (λ c. no-pair (c .before .args .n) (c .match .rest)))
+    (λ c. no-pair (c .before .args .n) (c .match .rest)) (λ c. sym (ap pairOp (c .match .keys1))) (λ c. sym (ap pairOp (c .match .keys2)))
+    (λ c. sym (ap pairOp (c .match .keys3))) (λ c. sym (ap pairOp (c .match .keys4))) (λ c. sym (ap pairOp (c .match .keys5)))
+    (λ c. sym (ap pairOp (c .match .keys6))) (λ c. sym (ap pairOp (c .match .keys7))) (λ c. sym (ap pairOp (c .match .keys8)))
+    (λ c. sym (ap pairOp (c .match .keys9))) (λ c. sym (ap pairOp (c .match .keys10))) (λ c. sym (ap pairOp (c .match .keys11)))
+    (λ c. sym (ap pairOp (c .match .keys12))) (λ c. sym (ap pairOp (c .match .keys13))))

@@ -9,7 +9,6 @@ pub single-op-spec : {M : Type 1} → statement M
 single-op-spec =
     tie.close
     (tie.spec
-    (λ c. sym (ap singleOp (c .match .keys1))) (λ c. sym (ap singleOp (c .match .keys2)))
-    (λ c. sym (ap singleOp (c .match .keys3))) (λ c. sym (ap singleOp (c .match .keys4)))
-    (λ c. sym (ap singleOp (c .match .keys5))) (λ c. sym (ap singleOp (c .match .keys6)))
-    (λ c. sym (ap singleOp (c .match .keys7))) (λ c. no-single (c .before .args .n) (c .match .rest)))
+    (λ c. no-single (c .before .args .n) (c .match .rest)) (λ c. sym (ap singleOp (c .match .keys1)))
+    (λ c. sym (ap singleOp (c .match .keys2))) (λ c. sym (ap singleOp (c .match .keys3))) (λ c. sym (ap singleOp (c .match .keys4)))
+    (λ c. sym (ap singleOp (c .match .keys5))) (λ c. sym (ap singleOp (c .match .keys6))) (λ c. sym (ap singleOp (c .match .keys7))))

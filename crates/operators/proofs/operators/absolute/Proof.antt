@@ -4,6 +4,7 @@ use mathlib.Core.Path.{sym, ap, _∙_}
 use mir.Facts.{toZ-ofZ}
 use mir.Syntax.{w64}
 use mir.Val.{SFits}
+use Rattle.operators.proofs.Arms.{signed-last}
 use Rattle.paper.specs.Operators.{singleCell, signed}
 use Rattle.paper.specs.declared.Answer.the-variants.{Is}
 use Rattle.paper.specs.declared.Cell.the-variants.{Float}
@@ -11,9 +12,9 @@ use Rattle.paper.specs.declared.SingleOp.the-variants.{Absolute}
 use Rattle.operators.proofs.operators.absolute.Statement.{statement}
 use Rattle.operators.proofs.operators.absolute.Tie as tie
 
-returns-2 : tie.Need-returns-2
+returns : tie.Need-returns
 unfolding singleCell signed
-returns-2 c =
+returns c =
     let k = c .before .before in
     let fx : SFits w64 (k .c .given .0 .0) = sfits-of (search needs) in
     simp toZ-ofZ at (c .int-abs .ensures) ∙ sym (ap (singleCell Absolute) (k .c .given .1))
@@ -23,7 +24,6 @@ unfolding singleCell signed
 absolute-spec =
     tie.close
     (tie.spec
-    (λ c. search needs) (λ c. search needs) (λ c κs. search needs) (λ c. search needs) (λ c κs. search needs)
-    (λ c. search needs) (λ c. sym (ap (singleCell Absolute) (c .enum-told .given .1))) returns-2
+    (λ c. c .match .keys1) (λ c κs. tt) returns (λ c. c .match .keys2) (λ c κs. tt)
     (λ c. ap (λ y. Is (Float y)) (c .float-abs .ensures) ∙ sym (ap (singleCell Absolute) (c .before .before .c2 .given .1)))
-    (λ c. sym (ap (singleCell Absolute) (c .enum-told2 .given .1))))
+    (λ c. signed-last _ _ (c .before .args .c) (c .match .keys3)))

@@ -1,26 +1,20 @@
 -- `operators::operators::div` meets its contract: each arm is what the paper says of two such cells. Assumes nothing.
 use borrow.Author.Needs.{needs, sfits-of}
-use mathlib.Core.Path.{_≡_, _∙_}
-use Rattle.operators.proofs.Arms.{arm, ints-arm}
-use Rattle.paper.specs.Operators.{worked, applied, pairCell}
+use mathlib.Core.Path.{refl, _∙_}
+use Rattle.operators.proofs.Arms.{arm, ints-arm, worked-last}
+use Rattle.paper.specs.Operators.{worked, applied}
 use Rattle.paper.specs.declared.PairOp.the-variants.{Div}
-use Rattle.paper.specs.declared.Two.{Two}
 use Rattle.operators.proofs.operators.div.Statement.{statement}
 use Rattle.operators.proofs.operators.div.Tie as tie
-
-by : (k : tie.After-both) {t : Two} → k .both .result ≡ t → applied Div t (k .before .args .a) (k .before .args .b) ≡ pairCell Div (k .before .args .a) (k .before .args .b)
-by k = arm Div (k .before .args .a) (k .before .args .b) (k .both .ensures)
 
 pub div-spec : {M : Type 1} → statement M
 unfolding applied worked
 div-spec =
     tie.close
     (tie.spec
-    (λ c κs. search needs) (λ c. search needs) (λ c κs. search needs) (λ c. search needs) (λ c κs. search needs) (λ c. search needs)
-    (λ c. search needs) (λ c. search needs)
-    (λ c. let k = c .before .before .before .before in
-    ints-arm Div (k .before .args .a) (k .before .args .b) (k .both .ensures) (c .before .before .x .given .1) (c .int-div .ensures)
+    (λ c κs. tt) (λ c. c .match .keys1) (λ c κs. tt)
+    (λ c. ints-arm Div _ _ (c .before .before .before .before .both .ensures) (c .before .before .x .given .1) (c .int-div .ensures)
     (sfits-of (search needs)) (sfits-of (search needs)))
-    (λ c. c .float-div .ensures ∙ by (c .before .before .before .before) (c .before .before .x2 .given .1))
-    (λ c. by (c .before .before) (c .enum-told .given .1)) (λ c. by (c .before .before) (c .enum-told2 .given .1))
-    (λ c. by (c .before .before) (c .enum-told3 .given .1)))
+    (λ c. c .match .keys2) (λ c κs. tt)
+    (λ c. c .float-div .ensures ∙ arm Div _ _ (c .before .before .before .before .both .ensures) (c .before .before .x2 .given .1))
+    (λ c. worked-last _ _ (c .before .both .result) (c .match .keys3) ∙ arm Div _ _ (c .before .both .ensures) refl))

@@ -1,25 +1,18 @@
 -- `operators::operators::modulo` meets its contract: each arm is what the paper says of two such cells. Assumes nothing.
 use borrow.Author.Needs.{needs, sfits-of}
-use mathlib.Core.Path.{_≡_}
-use Rattle.operators.proofs.Arms.{arm, ints-arm}
-use Rattle.paper.specs.Operators.{worked, applied, pairCell}
+use mathlib.Core.Path.{refl, _∙_}
+use Rattle.operators.proofs.Arms.{arm, ints-arm, modulo-last}
+use Rattle.paper.specs.Operators.{worked, applied}
 use Rattle.paper.specs.declared.PairOp.the-variants.{Mod}
-use Rattle.paper.specs.declared.Two.{Two}
 use Rattle.operators.proofs.operators.modulo.Statement.{statement}
 use Rattle.operators.proofs.operators.modulo.Tie as tie
-
-by : (k : tie.After-both) {t : Two} → k .both .result ≡ t → applied Mod t (k .before .args .a) (k .before .args .b) ≡ pairCell Mod (k .before .args .a) (k .before .args .b)
-by k = arm Mod (k .before .args .a) (k .before .args .b) (k .both .ensures)
 
 pub modulo-spec : {M : Type 1} → statement M
 unfolding applied worked
 modulo-spec =
     tie.close
     (tie.spec
-    (λ c κs. search needs) (λ c. search needs) (λ c κs. search needs) (λ c. search needs) (λ c. search needs) (λ c. search needs)
-    (λ c. search needs)
-    (λ c. let k = c .before .before .before .before in
-    ints-arm Mod (k .before .args .a) (k .before .args .b) (k .both .ensures) (c .before .before .x .given .1) (c .int-mod .ensures)
+    (λ c κs. tt) (λ c. c .match .keys1) (λ c κs. tt)
+    (λ c. ints-arm Mod _ _ (c .before .before .before .before .both .ensures) (c .before .before .x .given .1) (c .int-mod .ensures)
     (sfits-of (search needs)) (sfits-of (search needs)))
-    (λ c. by (c .before .before) (c .enum-told .given .1)) (λ c. by (c .before .before) (c .enum-told2 .given .1))
-    (λ c. by (c .before .before) (c .enum-told3 .given .1)) (λ c. by (c .before .before) (c .enum-told4 .given .1)))
+    (λ c. modulo-last _ (c .before .both .result) (c .match .keys2) ∙ arm Mod _ _ (c .before .both .ensures) refl))

@@ -1,5 +1,4 @@
 -- `operators::types::takes_pair` meets its contract: each arm is its operator's row. Assumes nothing.
-use borrow.Author.Needs.{needs}
 use mathlib.Core.Path.{_≡_, sym, ap}
 use Rattle.paper.specs.Operators.{takes}
 use Rattle.paper.specs.declared.PairOp.{PairOp}
@@ -14,19 +13,13 @@ unfolding takes
 takes-pair-spec =
     tie.close
     (tie.spec
-    (λ c. search needs) (λ c. search needs) (λ c. search needs) (λ c. search needs) (λ c. search needs)
-    (λ c. search needs) (λ c. search needs) (λ c. search needs) (λ c. search needs) (λ c. search needs)
-    (λ c. search needs) (λ c. search needs) (λ c. search needs)
-    (λ c. taken (c .before .before) (c .enum-told .given .1))
-    (λ c. taken (c .before .before) (c .enum-told2 .given .1))
-    (λ c. taken (c .before .before) (c .enum-told3 .given .1))
-    (λ c. taken (c .before .before) (c .enum-told4 .given .1))
-    (λ c. taken (c .before .before) (c .enum-told5 .given .1))
-    (λ c. taken (c .before .before) (c .enum-told6 .given .1))
-    (λ c. taken (c .before .before) (c .enum-told7 .given .1))
-    (λ c. taken (c .before .before) (c .enum-told8 .given .1))
-    (λ c. taken (c .before .before) (c .enum-told9 .given .1))
-    (λ c. taken (c .before .before) (c .enum-told10 .given .1))
-    (λ c. taken (c .before .before) (c .enum-told11 .given .1))
-    (λ c. taken (c .before .before) (c .enum-told12 .given .1))
+    (λ c. c .match .keys1) (λ c. c .match .keys2) (λ c. c .match .keys3) (λ c. c .match .keys4) (λ c. c .match .keys5)
+    (λ c. c .match .keys6) (λ c. c .match .keys7) (λ c. c .match .keys8) (λ c. c .match .keys9) (λ c. c .match .keys10)
+    (λ c. c .match .keys11) (λ c. c .match .keys12) (λ c. c .match .keys13)
+    (λ c. taken (c .before .before) (c .enum-told .given .1)) (λ c. taken (c .before .before) (c .enum-told2 .given .1))
+    (λ c. taken (c .before .before) (c .enum-told3 .given .1)) (λ c. taken (c .before .before) (c .enum-told4 .given .1))
+    (λ c. taken (c .before .before) (c .enum-told5 .given .1)) (λ c. taken (c .before .before) (c .enum-told6 .given .1))
+    (λ c. taken (c .before .before) (c .enum-told7 .given .1)) (λ c. taken (c .before .before) (c .enum-told8 .given .1))
+    (λ c. taken (c .before .before) (c .enum-told9 .given .1)) (λ c. taken (c .before .before) (c .enum-told10 .given .1))
+    (λ c. taken (c .before .before) (c .enum-told11 .given .1)) (λ c. taken (c .before .before) (c .enum-told12 .given .1))
     (λ c. taken (c .before .before) (c .enum-told13 .given .1)))

@@ -1,5 +1,4 @@
 -- `operators::types::takes_single` meets its contract: each arm is its operator's row. Assumes nothing.
-use borrow.Author.Needs.{needs}
 use mathlib.Core.Path.{_≡_, sym, ap}
 use Rattle.paper.specs.Operators.{takesOne}
 use Rattle.paper.specs.declared.SingleOp.{SingleOp}
@@ -14,11 +13,9 @@ unfolding takesOne
 takes-single-spec =
     tie.close
     (tie.spec
-    (λ c. search needs) (λ c. search needs) (λ c. search needs) (λ c. search needs) (λ c. search needs)
-    (λ c. search needs) (λ c. search needs) (λ c. taken (c .before .before) (c .enum-told .given .1))
-    (λ c. taken (c .before .before) (c .enum-told2 .given .1))
-    (λ c. taken (c .before .before) (c .enum-told3 .given .1))
-    (λ c. taken (c .before .before) (c .enum-told4 .given .1))
-    (λ c. taken (c .before .before) (c .enum-told5 .given .1))
-    (λ c. taken (c .before .before) (c .enum-told6 .given .1))
+    (λ c. c .match .keys1) (λ c. c .match .keys2) (λ c. c .match .keys3) (λ c. c .match .keys4) (λ c. c .match .keys5)
+    (λ c. c .match .keys6) (λ c. c .match .keys7)
+    (λ c. taken (c .before .before) (c .enum-told .given .1)) (λ c. taken (c .before .before) (c .enum-told2 .given .1))
+    (λ c. taken (c .before .before) (c .enum-told3 .given .1)) (λ c. taken (c .before .before) (c .enum-told4 .given .1))
+    (λ c. taken (c .before .before) (c .enum-told5 .given .1)) (λ c. taken (c .before .before) (c .enum-told6 .given .1))
     (λ c. taken (c .before .before) (c .enum-told7 .given .1)))

@@ -14,10 +14,10 @@ use Rattle.pack.proofs.judge.form_judged.Tie as tie
 -- the type is one
 module _ (c : tie.Else1) where
   abbrev counted : tie.After-rank-of
-  counted = c .before .before
+  counted = c .before .before .before
 
   abbrev start : tie.Start
-  start = counted .before .before .before
+  start = counted .before .before
 
   typed : isType (start .args .form .kind) ≡ true
   typed = sym (c .before .in-range .ensures) ∙ not-false _ (c .if1 .left)
@@ -45,22 +45,24 @@ returns-2 c =
 
 returns-3 : tie.Need-returns-3
 returns-3 c =
-    let o = c .before .before .before .before in
+    let o = c .before .before .before in
     let t = kind (o .before) in
     rw (c .form-refused3 .ensures)
     (form-bad (typed t) (counted t .rank-of .ensures) (ranked (o .before)) (o .array-of .ensures) (c .before .if3 .taken))
 
 returns-4 : tie.Need-returns-4
 returns-4 c =
-    let o = c .before .before .before in
+    let o = c .before .before .before .before in
     let t = kind (o .before) in
-    form-got (typed t) (counted t .rank-of .ensures) (ranked (o .before)) (o .array-of .ensures) (start t .pre) (c .if3 .left)
+    form-got (typed t) (counted t .rank-of .ensures) (ranked (o .before)) (o .array-of .ensures) (start t .pre)
+    (c .before .before .if3 .left)
 
 pub form-judged-spec : {M : Type 1} → statement M
 form-judged-spec =
     tie.close
     (tie.spec
-    (λ c κs. search needs) (λ c. search needs) (λ c κs. search needs) (λ c κs. search needs) (λ c κs. search needs)
-    returns (λ c κs. search needs) (λ c κs. search needs) (λ c κs. search needs) returns-2 (λ c κs. search needs)
-    (λ c κs. search needs) returns-3 (λ c. search needs) (λ c. search needs)
-    (λ c. omega (arith, c .before .before .before .array-of .ensures .past (c .if3 .left))) (λ c. search needs) returns-4)
+    (λ c κs. tt) (λ c. search needs) (λ c κs. tt) (λ c κs. tt) (λ c κs. tt) returns (λ c κs. tt) (λ c κs. tt) (λ c κs. tt) returns-2
+    (λ c κs. search needs) (λ c κs. tt) returns-3 (λ c. search needs) (λ c. search needs)
+    (λ c. omega (arith, c .before .before .before .before .array-of .ensures .past (c .before .before .if3 .left)))
+    (λ c. let o = c .before .before .before .before in
+    omega (arith, o .array-of .ensures .end, counted (kind (o .before)) .rank-of .ensures .few, start (kind (o .before)) .good)) returns-4)

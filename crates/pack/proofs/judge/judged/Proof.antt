@@ -48,7 +48,7 @@ module _ (c : tie.In-loop Inv-loop μ-loop) where
 -- a form is judged
 module _ (c : tie.After-struct-known Inv-loop μ-loop) where
   abbrev one : tie.After-form-judged Inv-loop μ-loop
-  one = c .before .before
+  one = c .before
 
   abbrev turn : tie.In-loop Inv-loop μ-loop
   turn = one .before .before
@@ -94,7 +94,7 @@ pub judged-spec : {M : Type 1} → statement M
 judged-spec =
     tie.close
     (tie.spec
-    Inv-loop μ-loop (λ c κs. search needs) (λ c κs. search needs) (λ c κs. search needs) returns (λ c. judging-start _ _)
-    (λ c. omega (arith, few (p c))) (λ c. omega (arith, few (p c))) (λ c. omega arith) (λ c. omega (arith, few (p (c .before))))
-    (λ c κs. c .before .before .loop .inv .room) (λ c κs. search needs) returns-2 add-long (λ c. omega arith) (λ c. omega arith)
-    loop-again (λ c κs. search needs) (λ c κs. search needs) returns-3 (λ c κs. search needs) returns-4)
+    Inv-loop μ-loop (λ c κs. tt) (λ c κs. tt) (λ c κs. tt) returns (λ c. judging-start _ _) (λ c. omega arith)
+    (λ c. omega (arith, few (p c))) (λ c. omega (arith, few (p c))) (λ c. omega (arith, few (p c)))
+    (λ c κs. c .before .before .loop .inv .room) (λ c κs. tt) returns-2 add-long (λ c. omega arith) (λ c. omega arith) loop-again
+    (λ c κs. tt) (λ c κs. tt) returns-3 (λ c κs. tt) returns-4)

@@ -60,9 +60,9 @@ pub put-axes-spec : {M : Type 1} → statement M
 put-axes-spec =
     tie.close
     (tie.spec
-    Inv-loop μ-loop (λ c κs. search needs) (λ c. axes-start) (λ c. search needs) (λ c. omega (arith, p c .rank-of .ensures .few))
-    (λ c. search needs) (λ c. omega (arith, p (c .before) .rank-of .ensures .few))
-    (λ c. omega (arith, p (c .before .before .before) .rank-of .ensures .few))
-    (λ c. let q = p (c .before .before .before) in omega (arith, start q .pre .room, q .rank-of .ensures .number)) put-axis-requires
+    Inv-loop μ-loop (λ c κs. search needs) (λ c. axes-start) (λ c. omega (arith, p (c .before) .rank-of .ensures .few))
+    (λ c. let q = p (c .before) in omega (arith, start q .pre .room, q .rank-of .ensures .number)) (λ c. search needs)
+    (λ c. omega (arith, p (c .before) .rank-of .ensures .few)) (λ c. search needs)
+    (λ c. omega (arith, p (c .before .before) .rank-of .ensures .few)) put-axis-requires
     (λ c. omega (arith, p (turn (c .before .before)) .rank-of .ensures .few)) (λ c. omega arith) loop-again
     (λ c. c .before .loop .inv .long) returns)

@@ -9,7 +9,7 @@ use Rattle.pack.proofs.put.put_head.Tie as tie
 -- the axes are counted
 module _ (c : tie.After-rank-of) where
   abbrev start : tie.Start
-  start = c .before .before .before
+  start = c .before .before
 
 returns : tie.Need-returns
 returns c =

@@ -19,7 +19,7 @@ use Rattle.recipe.proofs.steps.judge.Tie as tie
 -- what is found for B
 module _ (c : tie.After-used-b) where
   abbrev start : tie.Start
-  start = c .before .before .before .before .before
+  start = c .before .before .before .before
 
   abbrev used : tie.After-used-by
   used = c .before
@@ -36,13 +36,13 @@ module _ (c : tie.After-used-b) where
 returns : tie.Need-returns
 returns c =
     let t = c .before .before in
-    let p = start (t .before .before .before) .args in
+    let p = start (t .before .before) .args in
     no-a (now (p .s)) (p .step) (p .a) (p .b) (p .at) (p .k .0) _ (c .refused-step .ensures ∙ ap stopped (c .before .refuse .ensures)) (not-true _ (t .if1 .taken))
 
 -- both are found
 module _ (c : tie.Else2) where
   abbrev its : tie.After-used-b
-  its = c .before .before .before .before .before
+  its = c .before .before .before .before
 
   found-a : start its .args .a .found ≡ true
   found-a = not-false _ (c .before .before .if1 .left)
@@ -65,7 +65,7 @@ module _ (c : tie.After-step-refusal) where
 returns-2 : tie.Need-returns-2
 returns-2 c =
     let t = c .before .before in
-    let x = t .before .before .before .before .before in
+    let x = t .before .before .before .before in
     let p = start x .args in
     no-b (now (p .s)) (p .step) (p .a) (p .b) (p .at) (p .k .0) _ (not-false _ (t .before .before .if1 .left)) (c .refused-step2 .ensures ∙ ap stopped (c .before .refuse2 .ensures))
     (ap (λ (o : Operand). o .found) (sym (second x)) ∙ not-true _ (t .if2 .taken))

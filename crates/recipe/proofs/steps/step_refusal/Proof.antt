@@ -6,7 +6,7 @@ use denote.Ref.{now}
 use lib.ListN.{length}
 use borrow.Author.Tests.{not-true, not-false}
 use borrow.Author.Needs.{needs}
-use Rattle.paper.specs.Refusals.{between}
+use Rattle.paper.specs.Refusals.{outside6, between, ensure}
 use Rattle.paper.specs.Axes.{Shape}
 use Rattle.paper.specs.Recipe.{Step, uses, unusedZero, axisIn, typesFit, agree, stepTests}
 use Rattle.paper.specs.Answers.{shapeOf}
@@ -32,7 +32,7 @@ module _ (c : tie.Start) where
 -- 4
 module _ (c : tie.After-unused-zero) where
   abbrev start : tie.Start
-  start = c .before .before .before
+  start = c .before .before
 
   unused-told : (b : Bool) → c .unused-zero .result ≡ b → unusedZero (uses (st start .operation)) (length (A start .axes)) (st start) ≡ b
   unused-told b e = sym (unused-by _ _ _ (uses-by start) (st start)) ∙ sym (c .unused-zero .ensures) ∙ e
@@ -81,8 +81,28 @@ module _ (c : tie.After-agrees) where
   agrees-told : (b : Bool) → c .agrees .result ≡ b → agree (st (in5 (past5 in7)) .operation) (st (in5 (past5 in7)) .axis) (A (in5 (past5 in7)) .axes) (B (in5 (past5 in7)) .axes) ≡ b
   agrees-told b e = sym (c .agrees .ensures) ∙ e
 
+-- 6, where the tests before it held
+module _ (c : tie.After-fits-in) where
+  abbrev in6 : tie.After-types-fit
+  in6 = in7 (c .before .before)
+
+  abbrev its : tie.Start
+  its = in5 (past5 in6)
+
+  fits-told : (b : Bool) → c .fits-in .result ≡ b
+      → stepTests (its .args .k .0) (st its) (A its) (B its) ≡ ensure b outside6 (its .args .k .0)
+  unfolding stepTests
+  fits-told b e =
+      rw (
+        held4 (past4 (past5 in6 .before)),
+        held5 (past5 in6),
+        types-told in6 true (not-false _ (past7 (c .before .before) .if3 .left)),
+        agrees-told (c .before .before) true (not-false _ (c .before .if4 .left)),
+        sym (c .fits-in .ensures) ∙ e,
+      )
+
 unused-zero-requires : tie.Need-unused-zero-requires
-unused-zero-requires c κs = let p = c .before .before in (uses-by p .few (axes-few (p .args .a .extent)), p .pre .1 .0)
+unused-zero-requires c κs = let p = c .before in (uses-by p .few (axes-few (p .args .a .extent)), p .pre .1 .0)
 
 returns : tie.Need-returns
 unfolding stepTests
@@ -117,34 +137,10 @@ returns-4 c =
     )
 
 returns-5 : tie.Need-returns-5
-unfolding stepTests
-returns-5 c =
-    let z = c .before .before in
-    let y = z .before .before in
-    let x = in7 y in
-    rw (
-      c .refuse5 .ensures,
-      held4 (past4 (past5 x .before)),
-      held5 (past5 x),
-      types-told x true (not-false _ (past7 y .if3 .left)),
-      agrees-told y true (not-false _ (z .before .if4 .left)),
-      sym (z .fits-in .ensures) ∙ not-true _ (c .before .if5 .taken),
-    )
+returns-5 c = rw (c .refuse5 .ensures, fits-told (c .before .before) false (not-true _ (c .before .if5 .taken)))
 
 returns-6 : tie.Need-returns-6
-unfolding stepTests
-returns-6 c =
-    let z = c .before .before in
-    let y = z .before .before in
-    let x = in7 y in
-    rw (
-      c .none .ensures,
-      held4 (past4 (past5 x .before)),
-      held5 (past5 x),
-      types-told x true (not-false _ (past7 y .if3 .left)),
-      agrees-told y true (not-false _ (z .before .if4 .left)),
-      sym (z .fits-in .ensures) ∙ not-false _ (c .before .if5 .left),
-    )
+returns-6 c = rw (c .none .ensures, fits-told (c .before .before) true (not-false _ (c .before .if5 .left)))
 
 pub step-refusal-spec : {M : Type 1} → statement M
 step-refusal-spec =

@@ -4,21 +4,11 @@ use borrow.Author.Needs.{needs}
 use Rattle.step.proofs.tests.takes_type.Statement.{statement}
 use Rattle.step.proofs.tests.takes_type.Tie as tie
 
-returns : tie.Need-returns
-unfolding takesType
-returns c = rw (c .before .before .w .given .1) (c .takes-pair .ensures)
-
-returns-2 : tie.Need-returns-2
-unfolding takesType
-returns-2 c = rw (c .before .before .w2 .given .1) (c .scalar-fits .ensures)
-
-returns-3 : tie.Need-returns-3
-unfolding takesType
-returns-3 c = rw (c .before .before .w3 .given .1) (c .takes-single .ensures)
-
 pub takes-type-spec : {M : Type 1} → statement M
+unfolding takesType
 takes-type-spec =
     tie.close
     (tie.spec
-    (λ c. search needs) (λ c κs. search needs) returns (λ c. search needs) (λ c κs. search needs) returns-2
-    (λ c. search needs) (λ c κs. search needs) returns-3)
+    (λ c. search needs) (λ c κs. tt) (λ c. rw (c .before .before .w .given .1) (c .takes-pair .ensures))
+    (λ c. search needs) (λ c κs. search needs) (λ c. rw (c .before .before .w2 .given .1) (c .scalar-fits .ensures))
+    (λ c. search needs) (λ c κs. tt) (λ c. rw (c .before .before .w3 .given .1) (c .takes-single .ensures)))
