@@ -91,10 +91,10 @@ fn scalars<T: Copy>(steps: [Scalar<T>; STEPS], word: fn(T) -> u64) -> Vec<u8> {
 }
 
 /// Xorshift: the same numbers in every run.
-struct Random(u64);
+pub struct Random(pub u64);
 
 impl Random {
-    fn next(&mut self) -> u64 {
+    pub fn next(&mut self) -> u64 {
         self.0 ^= self.0 << 13;
         self.0 ^= self.0 >> 7;
         self.0 ^= self.0 << 17;

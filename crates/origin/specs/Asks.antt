@@ -5,25 +5,27 @@ use mathlib.Core.Bool.{true}
 use mathlib.Core.List.{List}
 use native.Mathlib.Nat.{mul-le-mul-right, one-mul}
 use native.Mathlib.Omega.{arith}
-use lib.ListN.{length}
+use lib.ListN.{length, take, drop, length-append, length-take, length-drop}
 use Rattle.paper.specs.declared.Axis.{Axis}
 use Rattle.paper.specs.declared.Move.{Move}
 use Rattle.paper.specs.declared.Move.the-variants.{Slice, Update, Put, Glue}
-use Rattle.paper.specs.Limits.{reach, mostCells}
+use Rattle.paper.specs.Limits.{reach, mostCells, mostAxes}
 use Rattle.paper.specs.Refusals.{between}
 use Rattle.paper.specs.Numbers.{positionAt}
 use Rattle.paper.specs.Axes.{width, cells, sameName, noAxis, axisAt, onAxis, without}
 use Rattle.paper.specs.Recipe.{Step, uses, agree, fitsIn, resultAxes}
-use Rattle.laws.specs.Tests.{between-true}
+use Rattle.laws.specs.Tests.{and-left, between-true}
 use Rattle.laws.specs.Places.{onAxis-true}
 use Rattle.laws.specs.Limits.{sound-at}
 use Rattle.laws.specs.Alike.{alike-length}
 use Rattle.laws.specs.Joins.{cells-without, sound-without}
 use Rattle.laws.specs.Glue.{Gluable, gluable}
 use Rattle.extent.specs.Judged.{Small}
+use Rattle.extent.specs.Tests.{sound-axis}
 use Rattle.shape.specs.Renewed.{renewed, length-renewed}
 use Rattle.shape.specs.declared.Change.the-variants.{Limits}
 use Rattle.origin.specs.Origins.{Moving}
+use Rattle.origin.specs.Patches.{Insertable, length-in, spot, patch, small-patch}
 
 -- cell k of T, and another extent with as many axes
 pub record Beside (T E : List Axis) (k : ℕ) : Type 0 where
@@ -44,13 +46,6 @@ pub record Sliced (k : ℕ) (E : List Axis) (x j : ℕ) : Type 0 where
   pub low : axisAt k E .lo ≤ x
   pub high : x ≤ axisAt k E .hi
   pub lt : j < cells (without k E)
-
--- a cell of E, and a patch with E's axes but axis k
-pub record Patched (k : ℕ) (E F : List Axis) (j : ℕ) : Type 0 where
-  pub axial : Axial k E
-  pub patch : Small F
-  pub same : length F ≡ length (without k E)
-  pub lt : j < cells E
 
 -- numbers of cells in turn, and a cell of both
 pub record InTurns (m n j : ℕ) : Type 0 where
@@ -79,6 +74,9 @@ small-without k E a =
       few = omega (arith, a .small .few, cells-without k E one last, p, one-mul (cells (without k E)));
     }
 
+pub length-without : (k : ℕ) (E : List Axis) → 1 ≤ k → k ≤ length E → length (without k E) + 1 ≡ length E
+length-without k E one last = omega (arith, length-append (take (k - 1) E) (drop k E), length-take (k - 1) E, length-drop k E)
+
 -- ---- from a step's tests
 
 axial-in : {k : ℕ} {E : List Axis} → Small E → between 1 (length E) k ≡ true → Axial k E
@@ -103,11 +101,31 @@ module _ {st : Step} {E F G : List Axis} where
   update-asks M h =
       record { here = M .result; there = M .second; same = sym (ap length (M .axes) ∙ alike-length sameName E F (M .agrees)); lt = h }
 
-  pub put-asks : {k : ℕ} → Moving Put st E F G → k < cells G → Patched (st .axis) E F k
-  unfolding resultAxes uses agree
-  put-asks M h =
+  -- place: B has one axis fewer, and has room for it
+  pub put-axis : Moving Put st E F G → (1 ≤ st .axis) × (st .axis ≤ length E) × (length E ≡ length F + 1)
+  unfolding uses agree
+  put-axis M =
+      let a = axial-in (M .first) (M .axis) in
       let s = alike-length sameName (without (st .axis) E) F (M .agrees) in
-      record { axial = axial-in (M .first) (M .axis); patch = M .second; same = sym s; lt = rw (M .axes) at h }
+      (a .one, a .last, omega (arith, s, length-without (st .axis) E (a .one) (a .last)))
+
+  pub put-room : Moving Put st E F G → length E ≤ mostAxes → Insertable (st .axis) F
+  put-room M h = let a = put-axis M in record { one = a .0; last = omega (arith, a .1, a .2); room = omega (arith, a .2) }
+
+  pub put-asks : {k : ℕ} → Moving Put st E F G → k < cells G → length E ≤ mostAxes → Beside G (patch st F) k
+  unfolding resultAxes fitsIn
+  put-asks M h few =
+      let x = positionAt 0 (st .detail) in
+      let f : onAxis (axisAt (st .axis) E) x ≡ true = rw (← M .left-axes) (and-left _ _ (M .fits)) in
+      let l = onAxis-true (axisAt (st .axis) E) x f in
+      let r = sound-axis E (st .axis - 1) (M .first .sound) in
+      let n = length-in (put-room M few) (spot x) in
+      record {
+        here = M .result;
+        there = small-patch (st .axis) x F (M .second) (omega (arith, l .1, r .1));
+        same = omega (arith, n, put-axis M .2, ap length (M .axes));
+        lt = h;
+      }
 
   pub glue-asks : Moving Glue st E F G → Gluable (st .axis) E F
   unfolding uses

@@ -5,13 +5,11 @@ use mathlib.Core.Path.{_≡_, sym, ap, ap₂, _∙_}
 use mathlib.Core.List.{List, _∷_, _++_}
 use native.Mathlib.Nat.{mod-lt, div-lt-iff-lt-mul}
 use native.Mathlib.Omega.{arith}
-use lib.ListN.{length, getD, take, drop}
-use lib.Seq.{getD-at}
+use lib.ListN.{length, take, drop}
 use Rattle.paper.specs.declared.Axis.{Axis}
 use Rattle.paper.specs.Axes.{cells, offset, atOffset, axisAt, without, putIn}
 use Rattle.laws.specs.Places.{right-pos, offset-atOffset, atOffset-inside, inside-length}
-use Rattle.laws.specs.Limits.{sound-drop, cells-pos}
-use Rattle.laws.specs.Joins.{cells-append, offset-append, atOffset-append, axes-at, drop-index, length-before, without-at, putIn-at}
+use Rattle.laws.specs.Joins.{cells-append, offset-append, atOffset-append, axes-at, drop-index, length-before, putIn-at}
 use Rattle.laws.specs.Glue.{blockCells}
 use Rattle.origin.specs.Asks.{Axial}
 
@@ -63,39 +61,3 @@ module _ {k : ℕ} {E : List Axis} (x : Axial k E) where
       ∙ ap₂ offset parted (putIn-at k front y behind (x .one) (before _ (q .0)))
       ∙ offset-front pre (a ∷ post) (j / cells post) (y ∷ behind) (q .0)
       ∙ ap₂ (λ (m n : ℕ). j / cells post * m + ((y - a .lo) * cells post + n)) block (offset-atOffset post (j % cells post) (q .1))
-
-  -- cell j's position on the axis, and its cell among the other axes
-  module _ (j : ℕ) (h : j < cells E) where
-    abbrev w : ℕ
-    w = cells (a ∷ post)
-
-    here : j < cells (pre ++ a ∷ post)
-    here = omega (arith, ap cells parted)
-
-    abbrev front : List ℕ
-    front = atOffset pre (j / w)
-
-    abbrev behind : List ℕ
-    behind = atOffset post (j % w % cells post)
-
-    parts : atOffset E j ≡ front ++ (a .lo + j % w / cells post) ∷ behind
-    unfolding atOffset
-    parts = ap (λ (X : List Axis). atOffset X j) parted ∙ atOffset-append pre (a ∷ post) j here
-
-    first-lt : j / w < cells pre
-    first-lt = apart pre (a ∷ post) j here .0
-
-    pub position-on : getD (atOffset E j) (k - 1) 0 ≡ a .lo + j % blockCells k E / cells post
-    position-on =
-        ap (λ (p : List ℕ). getD p (k - 1) 0) parts
-        ∙ getD-at front (a .lo + j % w / cells post) behind 0 (k - 1) (before _ first-lt)
-        ∙ ap (λ (n : ℕ). a .lo + j % n / cells post) block
-
-    pub rest-offset : offset (without k E) (without k (atOffset E j)) ≡ j / blockCells k E * cells post + j % blockCells k E % cells post
-    rest-offset =
-        let l = mod-lt (j % w) (cells-pos post (sound-drop E k (x .small .sound))) in
-        ap (λ (p : List ℕ). offset (without k E) (without k p)) parts
-        ∙ ap (offset (without k E)) (without-at k front (a .lo + j % w / cells post) behind (x .one) (before _ first-lt))
-        ∙ offset-front pre post (j / w) behind first-lt
-        ∙ ap (λ (n : ℕ). j / w * cells post + n) (offset-atOffset post (j % w % cells post) l)
-        ∙ ap (λ (n : ℕ). j / n * cells post + j % n % cells post) block

@@ -1,29 +1,27 @@
 -- What the code counts, told as the definitions have it: blocks and layers around an axis, turns of two arrays. Names of the code's values
 -- stand for themselves, each with the fact that it was promised with.
 use Prim.Native.Nat.{ℕ, _+_, _-_, _*_, _/_, _%_, _≤_, _<_}
-use mathlib.Core.Path.{_≡_, refl, sym, ap, _∙_}
+use mathlib.Core.Path.{_≡_, refl, sym, ap}
 use mathlib.Core.Bool.{Bool, true, false}
 use mathlib.Core.List.{List}
 use native.Mathlib.Nat.{mul-le-mul, mod-lt, div-le-self}
 use native.Mathlib.Omega.{arith}
-use borrow.Author.Tests.{eq-eqb, ne-eqb, ltb-false}
+use borrow.Author.Tests.{ltb-false}
 use lib.Dec.{ltb}
-use lib.ListN.{drop, getD}
+use lib.ListN.{drop}
 use Rattle.paper.specs.declared.Axis.{Axis}
 use Rattle.paper.specs.Limits.{reach, mostCells}
 use Rattle.paper.specs.Refusals.{if_then_else_}
 use Rattle.paper.specs.Axes.{cells, offset, atOffset, axisAt, without, putIn}
 use Rattle.paper.specs.Recipe.{glued}
 use Rattle.paper.specs.Values.{fromA, fromB, inSecond}
-use Rattle.laws.specs.Places.{Inside, offset-lt, offset-atOffset, atOffset-offset, atOffset-inside}
-use Rattle.laws.specs.Joins.{inside-without}
 use Rattle.laws.specs.Glue.{gluedFrom, turn, inTurn, blockCells, Gluable, glued-side, glued-left, glued-right}
 use Rattle.extent.specs.Tests.{sound-axis}
 use Rattle.origin.specs.declared.Origin.{Origin}
 use Rattle.origin.specs.declared.Origin.the-variants.{FromA, FromB}
-use Rattle.origin.specs.Origins.{originAt, foundIn, overA, found-over, putFrom, turnOrigin}
-use Rattle.origin.specs.Asks.{Beside, Sliced, Patched, InTurns, Countable, small-without}
-use Rattle.origin.specs.Blocks.{slice-offset, position-on, rest-offset}
+use Rattle.origin.specs.Origins.{originAt, turnOrigin}
+use Rattle.origin.specs.Asks.{Sliced, InTurns, Countable, small-without}
+use Rattle.origin.specs.Blocks.{slice-offset}
 
 -- ---- blocks
 
@@ -66,51 +64,6 @@ module _ {k : ℕ} {E : List Axis} {block layer : ℕ} {a : Axis} (w : Around k 
       pub slice-told : {whole : ℕ} → whole ≡ j / layer * block + inner
           → FromA whole ≡ FromA (offset E (putIn k x (atOffset (without k E) j)))
       slice-told f = rw (f, e, w .axis, w .blocks .0, w .layers .0) (ap {B = Origin} FromA (sym (slice-offset (h .axial) x j (h .lt))))
-
-  -- ---- a patch
-
-  module _ {F : List Axis} {j : ℕ} (h : Patched k E F j) where
-    patch-few : j ≤ mostCells
-    patch-few = let l = h .lt in omega (arith, h .axial .small .few)
-
-    pub patch-countable : Countable (j / block) layer (j % block % layer)
-    patch-countable =
-        few (omega (arith, patch-few, div-le-self j block)) (w .layers .2)
-        (omega (arith, w .layers .2, mod-lt (j % block) (w .layers .1)))
-
-    -- cell j's position
-    pub position-few : j % block / layer ≤ mostCells
-    position-few = omega (arith, w .blocks .2, mod-lt j (w .blocks .1), div-le-self (j % block) layer)
-
-    position-told : getD (atOffset E j) (k - 1) 0 ≡ a .lo + j % block / layer
-    position-told = rw (w .axis, w .blocks .0, w .layers .0) (position-on (h .axial) j (h .lt))
-
-    own : offset E (atOffset E j) ≡ j
-    own = offset-atOffset E j (h .lt)
-
-    pub put-off : {x : ℕ} → (a .lo + j % block / layer ≡ x → ⊥) → FromA j ≡ originAt E F (putFrom k F x (atOffset E j))
-    unfolding originAt
-    put-off {x} n = rw (ne-eqb (getD (atOffset E j) (k - 1) 0) x (λ e. n (sym position-told ∙ e)), own)
-
-    module _ {R : List Axis} (g : R ≡ without k E) {i : ℕ} (f : i ≡ j / block * layer + j % block % layer) where
-      inside : Inside (without k E) (without k (atOffset E j))
-      inside = inside-without k E (h .axial .one) (h .axial .last) (atOffset E j) (atOffset-inside E j (h .lt))
-
-      rest-told : offset (without k E) (without k (atOffset E j)) ≡ i
-      rest-told = rw (f, w .blocks .0, w .layers .0) (rest-offset (h .axial) j (h .lt))
-
-      pub rest-beside : Beside R F i
-      rest-beside =
-          let l : i < cells (without k E) = rw (← rest-told) (offset-lt _ _ inside) in
-          rw g (record { here = small-without k E (h .axial); there = h .patch; same = h .same; lt = l })
-
-      pub put-on : {x : ℕ} {r : Origin} → a .lo + j % block / layer ≡ x → r ≡ overA j (foundIn F (atOffset R i))
-          → r ≡ originAt E F (putFrom k F x (atOffset E j))
-      put-on {x} {r} n e =
-          let p = atOffset E j in
-          let q : atOffset R i ≡ without k p = rw (g, ← rest-told) (atOffset-offset (without k E) (without k p) inside) in
-          e ∙ ap (λ (l : List ℕ). overA j (foundIn F l)) q ∙ found-over E p F (without k p) own
-          ∙ rw (eq-eqb (getD p (k - 1) 0) x (position-told ∙ n))
 
 -- ---- turns
 

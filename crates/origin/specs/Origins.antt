@@ -5,7 +5,7 @@ use mathlib.Core.Path.{_≡_, refl}
 use mathlib.Core.Bool.{Bool, true, false}
 use mathlib.Core.List.{List}
 use native.Mathlib.Omega.{arith}
-use lib.Dec.{eqb, ltb}
+use lib.Dec.{ltb}
 use lib.ListN.{length, getD}
 use Rattle.paper.specs.declared.Axis.{Axis}
 use Rattle.paper.specs.declared.Cell.{Cell}
@@ -13,7 +13,7 @@ use Rattle.paper.specs.declared.Cell.the-variants.{Empty}
 use Rattle.paper.specs.declared.Move.{Move}
 use Rattle.paper.specs.declared.Operation.the-variants.{Moves}
 use Rattle.paper.specs.Refusals.{if_then_else_}
-use Rattle.paper.specs.Axes.{cells, inside, offset, ordinality, without, Shape, Array, at}
+use Rattle.paper.specs.Axes.{cells, inside, offset, ordinality, Shape, Array, at}
 use Rattle.paper.specs.Recipe.{Step, uses, axisIn, agree, fitsIn, resultAxes}
 use Rattle.paper.specs.Values.{Whence, fromA, fromB, nowhere, overlaid, taken}
 use Rattle.laws.specs.Places.{Inside, true-inside, offset-lt}
@@ -130,11 +130,7 @@ module _ (E : List Axis) (p : List ℕ) where
         by true = refl
         by false = refl
 
--- ---- put and glue
-
--- with position x on axis k a coordinate comes of the patch F, where its other positions lie in it
-abbrev pub putFrom : ℕ → List Axis → ℕ → List ℕ → Whence
-putFrom k F x p = if eqb (getD p (k - 1) 0) x then overlaid F (without k p) p else fromA p
+-- ---- glue
 
 -- m cells of A and n of B in turn
 abbrev pub turnOrigin : ℕ → ℕ → ℕ → Origin

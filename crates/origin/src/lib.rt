@@ -4,16 +4,18 @@ ghost use mathlib.Core.Path.{_≡_};
 ghost use Prim.Native.Nat.{_+_, _*_, _≤_, _<_};
 ghost use lib.ListN.{length, drop};
 ghost use Rattle.paper.specs.Limits.{mostCells, detailBytes};
-ghost use Rattle.paper.specs.Axes.{cells, offset, atOffset, without, putIn};
-ghost use Rattle.paper.specs.Values.{whence};
+ghost use Rattle.paper.specs.Axes.{cells, offset, atOffset, axisAt, without, putIn};
 ghost use Rattle.paper.specs.Answers.{axesOf};
 ghost use Rattle.laws.specs.Glue.{blockCells};
 ghost use Rattle.positions.specs.Runs.{Holds};
 ghost use Rattle.extent.specs.Judged.{Small};
 ghost use Rattle.step.specs.Steps.{stepIn};
-ghost use Rattle.origin.specs.Origins.{Moving, originAt, foundIn, inA, overA, putFrom, turnOrigin};
-ghost use Rattle.origin.specs.Asks.{Beside, Axial, Sliced, Patched, InTurns, Countable};
+ghost use Rattle.origin.specs.Origins.{Moving, foundIn, inA, overA, turnOrigin};
+ghost use Rattle.origin.specs.Patches.{Insertable, spot};
+ghost use Rattle.origin.specs.Asks.{Beside, Axial, Sliced, InTurns, Countable};
+ghost use Rattle.origin.specs.Comes.{comes};
 ghost use Rattle.origin.specs.declared.Origin.the-variants.{FromA};
+use paper::Axis;
 use paper::AxisIndex;
 use paper::Extent;
 use paper::Move;
@@ -29,7 +31,7 @@ pub enum Origin {
 }
 
 // Where a coordinate is found in an extent: so many cells after the first, or outside.
-enum Found {
+pub enum Found {
     After(usize),
     Outside,
 }
@@ -73,10 +75,47 @@ fn laid_over(t: Extent, k: usize, f: Extent, j: usize) -> Origin
     }
 }
 
+// ---- a patch
+
+// The axis of index j, of an extent with an axis put in as its axis k.
+fn axis_in(f: Extent, k: AxisIndex, a: Axis, j: AxisIndex) -> Axis
+    requires { ⌜ Insertable (k .0) (axesOf f) ⌝ }
+    requires { ⌜ 1 ≤ j .0 ⌝ }
+    ensures { λ r. ⌜ r ≡ axisAt (j .0) (putIn (k .0) a (axesOf f)) ⌝ }
+{
+    if j.0 < k.0 {
+        return extent::axis_of(f, j);
+    }
+    if j.0 == k.0 {
+        return a;
+    }
+    extent::axis_of(f, AxisIndex(j.0 - 1))
+}
+
+// The extent with an axis of the one position x put in as its axis k.
+pub fn patch_of(f: Extent, k: AxisIndex, x: u32) -> Extent
+    requires { ⌜ Insertable (k .0) (axesOf f) ⌝ }
+    ensures { λ r. ⌜ axesOf r ≡ putIn (k .0) (spot x) (axesOf f) ⌝ }
+{
+    let a = Axis {
+        name: 0,
+        lo: x,
+        hi: x,
+    };
+    let n = extent::rank_of(f) + 1;
+    let mut new = shape::empty();
+    let mut i: usize = 0;
+    while i < n {
+        i += 1;
+        new = shape::with_axis(new, axis_in(f, k, a, AxisIndex(i as u32)));
+    }
+    new
+}
+
 // ---- by blocks
 
 // The cells of the axes after the first `before`.
-fn cells_after(e: Extent, before: usize) -> usize
+pub fn cells_after(e: Extent, before: usize) -> usize
     requires { ⌜ Small (axesOf e) ⌝ }
     requires { ⌜ before ≤ length (axesOf e) ⌝ }
     ensures { λ r. ⌜ (r ≡ cells (drop before (axesOf e))) × (1 ≤ r) × (r ≤ mostCells) ⌝ }
@@ -100,7 +139,7 @@ pub fn block_of(e: Extent, k: AxisIndex) -> usize
 }
 
 // The cells of a layer: of the axes after axis k.
-fn layer_of(e: Extent, k: AxisIndex) -> usize
+pub fn layer_of(e: Extent, k: AxisIndex) -> usize
     requires { ⌜ Axial (k .0) (axesOf e) ⌝ }
     ensures { λ r. ⌜ (r ≡ cells (drop (k .0) (axesOf e))) × (1 ≤ r) × (r ≤ mostCells) ⌝ }
 {
@@ -125,22 +164,6 @@ fn sliced(e: Extent, k: AxisIndex, x: u32, j: usize) -> Origin
     let a = extent::axis_of(e, k);
     let layers = (x - a.lo) as usize;
     Origin::FromA(counted(j / layer, block, counted(layers, layer, j % layer)))
-}
-
-// B's cell where cell j has position x on axis k and lies in B by its other positions, else A's.
-fn patched(e: Extent, f: Extent, k: AxisIndex, x: u32, j: usize) -> Origin
-    requires { ⌜ Patched (k .0) (axesOf e) (axesOf f) j ⌝ }
-    ensures { λ r. ⌜ r ≡ originAt (axesOf e) (axesOf f) (putFrom (k .0) (axesOf f) x (atOffset (axesOf e) j)) ⌝ }
-{
-    let block = block_of(e, k);
-    let layer = layer_of(e, k);
-    let a = extent::axis_of(e, k);
-    let inner = j % block;
-    if a.lo as usize + inner / layer != x as usize {
-        return Origin::FromA(j);
-    }
-    let rest = shape::removed(e, k);
-    laid_over(rest, counted(j / block, layer, inner % layer), f, j)
 }
 
 // m cells of A and n of B in turn: cell j of them.
@@ -171,8 +194,7 @@ pub fn origin_of(
     requires { ⌜ Holds (step .at) detailBytes (now s) ⌝ }
     requires { ⌜ Moving m (stepIn (now s) step) (axesOf a) (axesOf b) (axesOf t) ⌝ }
     requires { ⌜ k < cells (axesOf t) ⌝ }
-    ensures { λ r. ⌜ r ≡ originAt (axesOf a) (axesOf b)
-        (whence m (stepIn (now (s .entry)) step) (axesOf a) (axesOf b) (atOffset (axesOf t) k)) ⌝ }
+    ensures { λ r. ⌜ r ≡ comes m (stepIn (now (s .entry)) step) (axesOf a) (axesOf b) (axesOf t) k ⌝ }
 {
     let at = step.at;
     let axis = AxisIndex(step.axis as u32);
@@ -183,7 +205,7 @@ pub fn origin_of(
         Move::Shift => return Origin::FromA(k),
         Move::Rename => return Origin::FromA(k),
         Move::Update => return laid_over(t, k, b, k),
-        Move::Put => return patched(a, b, axis, position_at(s, at), k),
+        Move::Put => return laid_over(t, k, patch_of(b, axis, position_at(s, at)), k),
         Move::Glue => return in_turns(block_of(a, axis), block_of(b, axis), k),
     }
 }

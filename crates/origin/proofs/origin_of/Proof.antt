@@ -1,17 +1,16 @@
--- `origin::origin_of` meets its contract: each arm answers its own line of the paper's table.
+-- `origin::origin_of` meets its contract: each arm answers its own line of `Comes`.
 use Prim.Native.Nat.{ℕ}
-use mathlib.Core.Path.{_≡_, _∙_}
+use mathlib.Core.Path.{_≡_, sym, _∙_}
 use denote.Ref.{now}
 use borrow.Author.Needs.{needs}
 use Rattle.paper.specs.Limits.{detailBytes}
 use Rattle.paper.specs.Numbers.{part, positionAt}
 use Rattle.paper.specs.Recipe.{resultAxes}
-use Rattle.paper.specs.Values.{whence}
+use Rattle.laws.specs.Answers.{axes-few}
 use Rattle.step.specs.Steps.{position-there}
-use Rattle.origin.specs.Origins.{moving-as, originAt, found-first, found-inside, found-over}
-use Rattle.origin.specs.Asks.{limits-ask, slice-asks, update-asks, put-asks, glue-asks, axials}
-use Rattle.origin.specs.Lies.{own-offset, shift-own, rename-own, same-own, lies}
-use Rattle.origin.specs.Counts.{glue-origin}
+use Rattle.origin.specs.Origins.{moving-as}
+use Rattle.origin.specs.Asks.{limits-ask, slice-asks, update-asks, put-room, put-asks, axials}
+use Rattle.origin.specs.Comes.{trim-comes, slice-comes, reshape-comes, shift-comes, rename-comes, update-comes, put-comes, glue-comes}
 use Rattle.origin.proofs.origin_of.Statement.{statement}
 use Rattle.origin.proofs.origin_of.Tie as tie
 
@@ -28,11 +27,10 @@ in-first-requires c κs =
     limits-ask (now (s .args .s)) (s .args .step .at) M (s .pre .1 .1) (M .axes)
 
 returns : tie.Need-returns
-unfolding whence
 returns c =
     let s = c .before .before .before .before .before in
     let e = c .before .enum-told .given .1 in
-    rw e (c .in-first .ensures ∙ found-inside _ _ _ (lies (moving-as e (s .pre .1 .0)) (s .pre .1 .1)))
+    rw e (c .in-first .ensures ∙ sym (trim-comes (moving-as e (s .pre .1 .0)) (s .pre .1 .1)))
 
 sliced-requires : tie.Need-sliced-requires
 sliced-requires c κs =
@@ -40,11 +38,11 @@ sliced-requires c κs =
     rw (position s (c .position-at .ensures)) (slice-asks (moving-as (c .before .enum-told2 .given .1) (s .pre .1 .0)) (s .pre .1 .1))
 
 returns-2 : tie.Need-returns-2
-unfolding whence resultAxes originAt
 returns-2 c =
     let s = c .before .before .before .before .before .before in
     let e = c .before .before .enum-told2 .given .1 in
-    rw (e, moving-as e (s .pre .1 .0) .axes, ← position s (c .before .position-at .ensures)) (c .sliced .ensures)
+    rw e (c .sliced .ensures
+    ∙ rw (position s (c .before .position-at .ensures)) (sym (slice-comes (moving-as e (s .pre .1 .0)) (s .pre .1 .1))))
 
 in-first-requires-2 : tie.Need-in-first-requires-2
 unfolding resultAxes
@@ -54,22 +52,22 @@ in-first-requires-2 c κs =
     limits-ask (now (s .args .s)) (s .args .step .at) M (s .pre .1 .1) (M .axes)
 
 returns-3 : tie.Need-returns-3
-unfolding whence
-returns-3 c = rw (c .before .enum-told3 .given .1) (c .in-first2 .ensures ∙ found-first _ _ _)
+returns-3 c =
+    let s = c .before .before .before .before .before in
+    let e = c .before .enum-told3 .given .1 in
+    rw e (c .in-first2 .ensures ∙ sym (reshape-comes (moving-as e (s .pre .1 .0)) (s .pre .1 .1)))
 
 returns-4 : tie.Need-returns-4
-unfolding whence originAt
 returns-4 c =
     let s = c .before .before .before .before in
     let e = c .enum-told4 .given .1 in
-    rw (e, own-offset (shift-own (moving-as e (s .pre .1 .0)) (s .pre .1 .1)))
+    rw e (sym (shift-comes (moving-as e (s .pre .1 .0)) (s .pre .1 .1)))
 
 returns-5 : tie.Need-returns-5
-unfolding whence originAt
 returns-5 c =
     let s = c .before .before .before .before in
     let e = c .enum-told5 .given .1 in
-    rw (e, own-offset (rename-own (moving-as e (s .pre .1 .0)) (s .pre .1 .1)))
+    rw e (sym (rename-comes (moving-as e (s .pre .1 .0)) (s .pre .1 .1)))
 
 laid-over-requires : tie.Need-laid-over-requires
 laid-over-requires c κs =
@@ -77,23 +75,29 @@ laid-over-requires c κs =
     update-asks (moving-as (c .enum-told6 .given .1) (s .pre .1 .0)) (s .pre .1 .1)
 
 returns-6 : tie.Need-returns-6
-unfolding whence resultAxes
 returns-6 c =
     let s = c .before .before .before .before .before in
     let e = c .before .enum-told6 .given .1 in
-    rw e (c .laid-over .ensures ∙ found-over _ _ _ _ (own-offset (same-own (moving-as e (s .pre .1 .0) .axes) (s .pre .1 .1))))
+    rw e (c .laid-over .ensures ∙ sym (update-comes (moving-as e (s .pre .1 .0)) (s .pre .1 .1)))
 
-patched-requires : tie.Need-patched-requires
-patched-requires c κs =
+patch-of-requires : tie.Need-patch-of-requires
+patch-of-requires c κs =
     let s = c .before .before .before .before .before in
-    put-asks (moving-as (c .before .enum-told7 .given .1) (s .pre .1 .0)) (s .pre .1 .1)
+    put-room (moving-as (c .before .enum-told7 .given .1) (s .pre .1 .0)) (axes-few (s .args .a))
+
+laid-over-requires-2 : tie.Need-laid-over-requires-2
+laid-over-requires-2 c κs =
+    let s = c .before .before .before .before .before .before in
+    rw (c .patch-of .ensures, position s (c .before .position-at2 .ensures))
+    (put-asks (moving-as (c .before .before .enum-told7 .given .1) (s .pre .1 .0)) (s .pre .1 .1) (axes-few (s .args .a)))
 
 returns-7 : tie.Need-returns-7
-unfolding whence resultAxes
 returns-7 c =
-    let s = c .before .before .before .before .before .before in
-    let e = c .before .before .enum-told7 .given .1 in
-    rw (e, moving-as e (s .pre .1 .0) .axes, ← position s (c .before .position-at2 .ensures)) (c .patched .ensures)
+    let s = c .before .before .before .before .before .before .before in
+    let e = c .before .before .before .enum-told7 .given .1 in
+    rw e (c .laid-over2 .ensures
+    ∙ rw (c .before .patch-of .ensures, position s (c .before .before .position-at2 .ensures))
+    (sym (put-comes (moving-as e (s .pre .1 .0)) (s .pre .1 .1))))
 
 block-of-requires : tie.Need-block-of-requires
 block-of-requires c κs = axials (moving-as (c .enum-told8 .given .1) (c .before .before .before .before .pre .1 .0)) .0
@@ -102,13 +106,12 @@ block-of-requires-2 : tie.Need-block-of-requires-2
 block-of-requires-2 c κs = axials (moving-as (c .before .enum-told8 .given .1) (c .before .before .before .before .before .pre .1 .0)) .1
 
 returns-8 : tie.Need-returns-8
-unfolding whence resultAxes
 returns-8 c =
     let s = c .before .before .before .before .before .before .before in
     let e = c .before .before .before .enum-told8 .given .1 in
-    let M = moving-as e (s .pre .1 .0) in
-    let g = glue-origin (glue-asks M) (rw (M .axes) at (s .pre .1 .1)) in
-    rw (e, M .axes) (c .in-turns .ensures ∙ rw (c .before .before .block-of .ensures .0, c .before .block-of2 .ensures .0) g)
+    rw e (c .in-turns .ensures
+    ∙ rw (c .before .before .block-of .ensures .0, c .before .block-of2 .ensures .0)
+    (sym (glue-comes (moving-as e (s .pre .1 .0)) (s .pre .1 .1))))
 
 pub origin-of-spec : {M : Type 1} → statement M
 origin-of-spec =
@@ -117,5 +120,5 @@ origin-of-spec =
     (λ c. search needs) (λ c. search needs) in-first-requires returns (λ c. search needs) (λ c κs. search needs)
     sliced-requires returns-2 (λ c. search needs) in-first-requires-2 returns-3 (λ c. search needs) returns-4
     (λ c. search needs) returns-5 (λ c. search needs) laid-over-requires returns-6 (λ c. search needs)
-    (λ c κs. search needs) patched-requires returns-7 (λ c. search needs) block-of-requires block-of-requires-2
+    (λ c κs. search needs) patch-of-requires laid-over-requires-2 returns-7 (λ c. search needs) block-of-requires block-of-requires-2
     (λ c κs. search needs) returns-8)

@@ -1,0 +1,37 @@
+-- `rows::sides::lines_of` meets its contract: one line of the cells left, or as many lines as the axes before have cells side by side.
+use borrow.Author.Needs.{needs}
+use Rattle.rows.specs.Sides.{one-lined}
+use Rattle.rows.specs.Fronts.{first-beside, first-lined}
+use Rattle.rows.proofs.sides.lines_of.Statement.{statement}
+use Rattle.rows.proofs.sides.lines_of.Tie as tie
+
+returns : tie.Need-returns
+returns c = let s = c .before .before .before .before in one-lined _ _ (s .args .k) (c .one-line .ensures) (s .pre .lt)
+
+returns-2 : tie.Need-returns-2
+returns-2 c =
+    let s = c .before .before .before .before .before .before in
+    one-lined _ _ (s .args .k) (c .one-line2 .ensures) (s .pre .lt)
+
+side-by-side-requires : tie.Need-side-by-side-requires
+side-by-side-requires c κs =
+    let u = c .before .before .before .before .before .before in
+    rw (c .before .first-axes .ensures, c .first-axes2 .ensures, c .before .before .before .cells-after .ensures .0)
+    (first-beside (u .before .pre) (u .uneven .result) (u .uneven .ensures))
+
+returns-3 : tie.Need-returns-3
+returns-3 c =
+    let f = c .before .before in
+    let u = f .before .before .before .before .before .before in
+    let l = f .before .before .before .cells-after .ensures .0 in
+    let run = rw (f .before .first-axes .ensures, f .first-axes2 .ensures, l) at (c .before .side-by-side .ensures) in
+    let z = rw l at (f .before .before .if2 .left) in
+    rw (l, c .cells-after2 .ensures .0) (first-lined (u .before .pre) (u .uneven .result) (u .uneven .ensures) _ z run)
+
+pub lines-of-spec : {M : Type 1} → statement M
+lines-of-spec =
+    tie.close
+    (tie.spec
+    (λ c κs. search needs) (λ c κs. search needs) (λ c κs. search needs) returns (λ c κs. search needs) (λ c. search needs)
+    (λ c κs. search needs) returns-2 (λ c κs. search needs) (λ c. search needs) (λ c κs. search needs) side-by-side-requires
+    (λ c κs. search needs) returns-3)
