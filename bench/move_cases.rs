@@ -1,7 +1,7 @@
 //! What is timed: each move alone, over INT arrays with one cell in sixteen empty, and the eleven-hours recipe. For the engine a bundle and
 //! a recipe, for the plain program the same arrays as vectors.
 use crate::inputs::{Random, SIDE};
-use crate::move_plain::{self as plain, Arrays, Cells, AT, BEFORE};
+use crate::move_plain::{self as plain, Arrays, Cells, Hours, AT, BEFORE};
 
 /// How often a case's step stands in its recipe.
 pub const STEPS: usize = 13;
@@ -10,7 +10,7 @@ pub const STEPS: usize = 13;
 #[derive(Clone, Copy)]
 pub enum Plain {
     Step(fn(&Arrays, &mut Cells)),
-    Recipe,
+    Recipe(fn(&Arrays, &mut Hours)),
 }
 
 pub struct Case {
@@ -164,7 +164,7 @@ fn roster() -> [Cells; 2] {
 }
 
 /// Whose rest before the next turn is below eleven hours: the next turns' starts are moved onto the turns before them.
-fn eleven_hours() -> Case {
+fn eleven_hours(name: &'static str, program: fn(&Arrays, &mut Hours)) -> Case {
     let [a, b] = roster();
     let bundle = [b"RMA\x01\x00\x02".to_vec(), array(&[WHO, TURN], &a), array(&[WHO, TURN], &b)].concat();
     let below = [&[8, 0, 0, 0][..], &660i64.to_le_bytes()].concat();
@@ -178,10 +178,14 @@ fn eleven_hours() -> Case {
     .concat();
     let once = recipe.len();
     let arrays = Arrays { a, b, a_width: SIDE, b_width: SIDE };
-    Case { name: "eleven hours, the whole recipe", kind: "recipe", bundle, recipe, once, arrays, plain: Plain::Recipe }
+    Case { name, kind: "recipe", bundle, recipe, once, arrays, plain: Plain::Recipe(program) }
 }
 
 /// All cases; no name is the beginning of another.
 pub fn all() -> Vec<Case> {
-    [of_one(), of_two(), thin(), vec![eleven_hours()]].into_iter().flatten().collect()
+    let recipes = [
+        eleven_hours("eleven hours, the whole recipe", plain::eleven_hours),
+        eleven_hours("eleven hours, beside ready vectors", plain::eleven_hours_ready),
+    ];
+    [of_one(), of_two(), thin(), recipes.into()].into_iter().flatten().collect()
 }

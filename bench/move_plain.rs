@@ -158,18 +158,40 @@ pub struct Hours {
 }
 
 /// A: starts, B: ends of turns, in minutes. All five results are kept, so the shift copies too; a rest that doesn't fit ends the program.
+/// Cells are worked out one by one and pushed, as most would write it.
 pub fn eleven_hours(of: &Arrays, to: &mut Hours) {
+    moved_starts_and_ends(of, to);
+    to.rests.clear();
+    for (&start, &end) in to.moved.iter().zip(&to.ends) {
+        to.rests.push(rest_between(start, end));
+    }
+    to.below.clear();
+    for rest in &to.rests {
+        to.below.push(rest.map(|minutes| minutes < 660));
+    }
+}
+
+/// The same, written for speed: into vectors that have their length, so that the compiler has no test of room in its loops.
+pub fn eleven_hours_ready(of: &Arrays, to: &mut Hours) {
+    moved_starts_and_ends(of, to);
+    to.rests.resize(to.moved.len(), None);
+    for (rest, (&start, &end)) in to.rests.iter_mut().zip(to.moved.iter().zip(&to.ends)) {
+        *rest = rest_between(start, end);
+    }
+    to.below.clear();
+    to.below.extend(to.rests.iter().map(|rest| rest.map(|minutes| minutes < 660)));
+}
+
+fn moved_starts_and_ends(of: &Arrays, to: &mut Hours) {
     trim_column(of, &mut to.starts);
     to.moved.clear();
     to.moved.extend_from_slice(&to.starts);
     without_last(&of.b, of.b_width, &mut to.ends);
-    to.rests.resize(to.moved.len(), None);
-    for (rest, (&start, &end)) in to.rests.iter_mut().zip(to.moved.iter().zip(&to.ends)) {
-        *rest = match (start, end) {
-            (Some(start), Some(end)) => Some(start.checked_sub(end).expect("a rest that fits")),
-            _ => None,
-        };
+}
+
+fn rest_between(start: Option<i64>, end: Option<i64>) -> Option<i64> {
+    match (start, end) {
+        (Some(start), Some(end)) => Some(start.checked_sub(end).expect("a rest that fits")),
+        _ => None,
     }
-    to.below.clear();
-    to.below.extend(to.rests.iter().map(|rest| rest.map(|minutes| minutes < 660)));
 }

@@ -8,7 +8,7 @@ mod inputs;
 mod move_cases;
 mod move_plain;
 use move_cases::{nine, Case, Plain, STEPS};
-use move_plain::{eleven_hours, Cells, Hours};
+use move_plain::{Cells, Hours};
 use std::{env, fs, hint::black_box, time::Instant};
 
 extern "C" {
@@ -53,7 +53,7 @@ fn run(case: &Case, recipe: &[u8], work: &mut [u8]) -> usize {
 fn work_out(case: &Case, kept: &mut Kept, steps: usize) {
     match case.plain {
         Plain::Step(step) => kept.results[..steps].iter_mut().for_each(|to| step(black_box(&case.arrays), to)),
-        Plain::Recipe => eleven_hours(black_box(&case.arrays), &mut kept.hours),
+        Plain::Recipe(program) => program(black_box(&case.arrays), &mut kept.hours),
     }
 }
 
@@ -84,7 +84,7 @@ fn bytes_of(case: &Case, kept: &Kept) -> Vec<u8> {
     let hours = &kept.hours;
     match case.plain {
         Plain::Step(_) => kept.results.iter().flat_map(ints).collect(),
-        Plain::Recipe => {
+        Plain::Recipe(_) => {
             let moves = [&hours.starts, &hours.moved, &hours.ends, &hours.rests].map(ints).concat();
             [moves, nine(&hours.below, i64::from)].concat()
         }
@@ -141,7 +141,7 @@ fn round(reps: u32, case: &Case, kept: &mut Kept) -> [Times; 2] {
 fn one_more(case: &Case, [once, often]: Times) -> f64 {
     match case.plain {
         Plain::Step(_) => (often - once) / (STEPS - 1) as f64,
-        Plain::Recipe => once,
+        Plain::Recipe(_) => once,
     }
 }
 

@@ -1,6 +1,6 @@
 //! The library held against the paper: the same cases are put to both, and every answer and every byte that was lent must be
 //! equal. `RMA_SEED` gives the seed (else the clock), `RMA_CASES` the number of cases (else 240,000). From that many cases on, each
-//! thing that `cases::met` and `cases::met_json` count must have been met in a hundred of them.
+//! thing that `cases::met`, `cases::met_json` and `cases::met_moves` count must have been met in a hundred of them.
 //! What is reported goes straight to standard output, so that it is seen whether the test passes or not.
 
 mod cases;
@@ -10,6 +10,7 @@ use cases::answers::{library_answers, paper_answers};
 use cases::dice::Dice;
 use cases::met::Met;
 use cases::met_json::MetJson;
+use cases::met_moves::MetMoves;
 use cases::{printed, Answer, Case, Function, FUNCTIONS};
 use std::io::Write;
 use std::time::{Instant, SystemTime, UNIX_EPOCH};
@@ -31,6 +32,7 @@ struct Report {
     tallies: [Tally; FUNCTIONS.len()],
     met: Met,
     met_json: MetJson,
+    met_moves: MetMoves,
     cases: u64,
     differ: u64,
 }
@@ -69,6 +71,7 @@ impl Report {
         tally.ended[paper.number as usize] += 1;
         self.met.count(case, paper.number);
         self.met_json.count(case, paper.number);
+        self.met_moves.count(case, paper.number);
         let library = library_answers(case);
         if library.as_ref() != Ok(&paper) {
             self.differ += 1;
@@ -100,7 +103,8 @@ impl Report {
             let counts: Vec<String> = refused.map(|number| format!("{number}: {}", tally.ended[number])).collect();
             print(&format!("{name} {} cases: {} done, refused {}", tally.cases, tally.ended[0], counts.join(", ")));
         }
-        self.met.lines().iter().chain(&self.met_json.lines()).for_each(|line| print(line));
+        let lines = [self.met.lines(), self.met_json.lines(), self.met_moves.lines()].concat();
+        lines.iter().for_each(|line| print(line));
     }
 }
 
@@ -111,8 +115,8 @@ fn library_and_paper_answer_alike() {
     let wanted = setting("RMA_CASES").unwrap_or(CASES);
     print(&format!("seed {seed}"));
     let mut dice = Dice::new(seed);
-    let (met, met_json) = (Met::new(), MetJson::new());
-    let mut report = Report { seed, tallies: [Tally::default(); FUNCTIONS.len()], met, met_json, cases: 0, differ: 0 };
+    let (met, met_json, met_moves) = (Met::new(), MetJson::new(), MetMoves::new());
+    let mut report = Report { seed, tallies: [Tally::default(); FUNCTIONS.len()], met, met_json, met_moves, cases: 0, differ: 0 };
     while report.cases < wanted {
         for case in cases::of_function(&mut dice, report.next_function()) {
             report.compare(&case);
@@ -121,7 +125,7 @@ fn library_and_paper_answer_alike() {
     report.print_tallies();
     print(&format!("differential: {} cases, {} differ, {} s", report.cases, report.differ, began.elapsed().as_secs()));
     assert_eq!(report.differ, 0, "cases that differ, of {}", report.cases);
-    let seldom = [report.met.seldom(LEAST_MET), report.met_json.seldom(LEAST_MET)].concat();
+    let seldom = [report.met.seldom(LEAST_MET), report.met_json.seldom(LEAST_MET), report.met_moves.seldom(LEAST_MET)].concat();
     assert!(report.cases < CASES || seldom.is_empty(), "met in fewer than {LEAST_MET} cases: {seldom:?}");
 }
 

@@ -3,7 +3,7 @@ use paper::Cell;
 ghost use mathlib.Core.Path.{_≡_};
 ghost use mathlib.Core.List.{[], _∷_, _++_};
 ghost use Prim.Native.Nat.{_+_, _<_, _≤_};
-ghost use lib.ListN.{length, take, drop};
+ghost use lib.ListN.{length, take, drop, replicate};
 ghost use mir.Syntax.{w64};
 ghost use mir.Val.{toZ, ofZ};
 ghost use Rattle.paper.specs.Limits.{limitBytes, wordBytes, cellBytes};
@@ -125,6 +125,30 @@ pub fn copy_bytes(s: &[u8], from: usize, d: &mut [u8], at: usize, n: usize)
     let mut k = 0;
     while k < n {
         d[at + k] = s[from + k];
+        k += 1;
+    }
+}
+
+// The n bytes of d from `from` on, into d from `at` on, which is not before their end. The rest of d stays.
+pub fn copy_on(d: &mut [u8], from: usize, at: usize, n: usize)
+    requires { ⌜ (from + n ≤ at) × (at + n ≤ length (now d)) ⌝ }
+    ensures { λ _. ⌜ now (d .exit) ≡ put (now (d .entry)) at (part from n (now (d .entry))) ⌝ }
+{
+    let mut k = 0;
+    while k < n {
+        d[at + k] = d[from + k];
+        k += 1;
+    }
+}
+
+// n zeros, into d from `at` on. The rest of d stays.
+pub fn clear_bytes(d: &mut [u8], at: usize, n: usize)
+    requires { ⌜ at + n ≤ length (now d) ⌝ }
+    ensures { λ _. ⌜ now (d .exit) ≡ put (now (d .entry)) at (replicate n 0) ⌝ }
+{
+    let mut k = 0;
+    while k < n {
+        d[at + k] = 0;
         k += 1;
     }
 }

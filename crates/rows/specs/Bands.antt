@@ -16,6 +16,14 @@ use Rattle.rows.specs.declared.Pattern.{Pattern}
 abbrev pub pattern : ℕ → ℕ → ℕ → ℕ → Pattern
 pattern line lines a b = record { line = line; lines = lines; a = a; b = b }
 
+-- no run
+abbrev pub noRun : Run
+noRun = record { from = Nowhere; length = 0 }
+
+-- so many lines of three runs
+abbrev pub bandOf : Pattern → ℕ → Run → Run → Run → Band
+bandOf p lines x y z = record { lines = lines; a = p .a; b = p .b; first = x; second = y; third = z }
+
 -- so many cells later in A, or in B
 abbrev pub onward : ℕ → ℕ → Origin → Origin
 onward a b Nowhere = Nowhere
@@ -96,7 +104,7 @@ module _ {O : ℕ → Origin} {n k : ℕ} {p : Pattern} (g : Again O n k p) {one
     (x : Begins O k (p .line) one) (y : Begins O (k + one .length) (p .line - one .length) two)
     (z : Begins O (k + one .length + two .length) (p .line - one .length - two .length) three) where
   abbrev band : Band
-  band = record { lines = lines; a = p .a; b = p .b; first = one; second = two; third = three }
+  band = bandOf p lines one two three
 
   -- either way
   filled : {P : Type 0} → (lineOf band ≡ p .line → lines ≡ p .lines → P) → (lineOf band ≤ p .line → lines ≡ 1 → P) → P
@@ -134,3 +142,17 @@ module _ {O : ℕ → Origin} {n k : ℕ} {p : Pattern} (g : Again O n k p) {one
         two = runs (one .length) two y (omega arith);
         three = runs (one .length + two .length) three (rw (u, v) z) (omega arith);
       }
+
+-- ---- runs that fill a line before the third
+
+pub no-cells : {O : ℕ → Origin} {k most : ℕ} → most ≡ 0 → Begins O k most noRun
+no-cells e = record { fits = omega arith; some = λ h. absurd (omega arith); each = λ i h. absurd (omega arith) }
+
+module _ {O : ℕ → Origin} {n k : ℕ} {p : Pattern} (g : Again O n k p) {one : Run} (x : Begins O k (p .line) one) where
+  pub banded-one : p .line - one .length ≡ 0 → Banded O n k (bandOf p (p .lines) one noRun noRun)
+  banded-one e =
+      banded g (record { whole = λ h. refl; part = λ h. absurd (omega arith) }) x (no-cells e) (no-cells (omega arith))
+
+  pub banded-two : {two : Run} → Begins O (k + one .length) (p .line - one .length) two → p .line - one .length - two .length ≡ 0
+      → Banded O n k (bandOf p (p .lines) one two noRun)
+  banded-two y e = banded g (record { whole = λ h. refl; part = λ h. absurd (omega arith) }) x y (no-cells e)

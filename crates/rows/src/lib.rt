@@ -11,7 +11,7 @@ ghost use Rattle.positions.specs.Runs.{Holds};
 ghost use Rattle.step.specs.Steps.{stepIn};
 ghost use Rattle.origin.specs.Origins.{Moving};
 ghost use Rattle.origin.specs.Comes.{comes};
-ghost use Rattle.rows.specs.Bands.{pattern, Along, Again, Begins, Banded};
+ghost use Rattle.rows.specs.Bands.{pattern, noRun, bandOf, Along, Again, Begins, Banded};
 ghost use Rattle.rows.specs.Moves.{linesLeft, turnLeft};
 use origin::Origin;
 use origin::block_of;
@@ -90,7 +90,7 @@ fn run_length(m: Move, step: StepHead, a: Extent, b: Extent, t: Extent, k: usize
     }
 }
 
-// The run that begins with cell k, of at most so many cells.
+// The run that begins with cell k, of at most so many cells, one at least.
 fn run_at(
     m: Move,
     step: StepHead,
@@ -103,15 +103,9 @@ fn run_at(
 ) -> Run
     requires { ⌜ Holds (step .at) detailBytes (now s) ⌝ }
     requires { ⌜ Moving m (stepIn (now s) step) (axesOf a) (axesOf b) (axesOf t) ⌝ }
-    requires { ⌜ k + most ≤ cells (axesOf t) ⌝ }
+    requires { ⌜ (1 ≤ most) × (k + most ≤ cells (axesOf t)) ⌝ }
     ensures { λ r. ⌜ Begins (comes m (stepIn (now (s .entry)) step) (axesOf a) (axesOf b) (axesOf t)) k most r ⌝ }
 {
-    if most == 0 {
-        return Run {
-            from: Origin::Nowhere,
-            length: 0,
-        };
-    }
     let from = origin_of(m, step, a, b, t, k, s);
     let length = run_length(m, step, a, b, t, k, s);
     Run {
@@ -211,6 +205,30 @@ fn pattern_of(
 
 // ---- bands
 
+// No run.
+fn none() -> Run
+    ensures { λ r. ⌜ r ≡ noRun ⌝ }
+{
+    Run {
+        from: Origin::Nowhere,
+        length: 0,
+    }
+}
+
+// Lines of up to three runs.
+fn band_with(p: Pattern, lines: usize, first: Run, second: Run, third: Run) -> Band
+    ensures { λ r. ⌜ r ≡ bandOf p lines first second third ⌝ }
+{
+    Band {
+        lines,
+        a: p.a,
+        b: p.b,
+        first,
+        second,
+        third,
+    }
+}
+
 // The lines of a pattern, if its runs fill a line; else only this one, as far as they go.
 fn lines_filled(filled: usize, rest: usize, lines: usize) -> usize
     ensures { λ r. ⌜ (rest ≤ filled → r ≡ lines) × (filled < rest → r ≡ 1) ⌝ }
@@ -231,16 +249,15 @@ pub fn band_of(m: Move, step: StepHead, a: Extent, b: Extent, t: Extent, k: usiz
     let p = pattern_of(m, step, a, b, t, k, s);
     let first = run_at(m, step, a, b, t, k, p.line, s);
     let left = p.line - first.length;
+    if left == 0 {
+        return band_with(p, p.lines, first, none(), none());
+    }
     let second = run_at(m, step, a, b, t, k + first.length, left, s);
     let rest = left - second.length;
+    if rest == 0 {
+        return band_with(p, p.lines, first, second, none());
+    }
     let third = run_at(m, step, a, b, t, k + first.length + second.length, rest, s);
     let lines = lines_filled(third.length, rest, p.lines);
-    Band {
-        lines,
-        a: p.a,
-        b: p.b,
-        first,
-        second,
-        third,
-    }
+    band_with(p, lines, first, second, third)
 }

@@ -108,6 +108,22 @@ fn uneven(t: Extent, e: Extent) -> usize
     rank
 }
 
+// How many axes are left of t's first c without the last of them that have one position.
+fn past_single(t: Extent, c: usize) -> usize
+    requires { ⌜ c ≤ length (axesOf t) ⌝ }
+    ensures { λ r. ⌜ r ≤ length (axesOf t) ⌝ }
+{
+    let mut i = c;
+    while 0 < i {
+        let a = t.axes[i - 1];
+        if a.lo != a.hi {
+            return i;
+        }
+        i -= 1;
+    }
+    i
+}
+
 // The first c axes.
 fn first_axes(e: Extent, c: usize) -> Extent
     requires { ⌜ c ≤ length (axesOf e) ⌝ }
@@ -130,15 +146,17 @@ fn one_line(t: Extent, k: usize) -> Lines
     }
 }
 
-// Lines alike from cell k on. A line is the cells of the axes from the last uneven one on.
+// Lines alike from cell k on. A line is the cells of the axes from the last uneven one on; axes of one position before it make it no
+// longer, and are counted in.
 pub fn lines_of(t: Extent, k: usize, e: Extent) -> Lines
     requires { ⌜ Beside (axesOf t) (axesOf e) k ⌝ }
     ensures { λ r. ⌜ Lined (axesOf t) (axesOf e) k r ⌝ }
 {
-    let c = uneven(t, e);
-    if c == rank_of(t) {
+    let last = uneven(t, e);
+    if last == rank_of(t) {
         return one_line(t, k);
     }
+    let c = past_single(t, last);
     let line = cells_after(t, c);
     if k % line != 0 {
         return one_line(t, k);

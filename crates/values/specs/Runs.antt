@@ -1,8 +1,8 @@
 -- What the functions of the values ask and promise: the cells of a step begun, and the steps run. Then a turn of the loop over cells:
 -- what its calls ask, and what it leaves.
-use Prim.Native.Nat.{ℕ, zero, suc, _+_, _*_, _^_, _≤_, _<_}
+use Prim.Native.Nat.{ℕ, zero, suc, _+_, _*_, _≤_, _<_}
 use mathlib.Core.Path.{_≡_, refl, sym, ap, _∙_}
-use mathlib.Core.List.{List, [], _∷_, _++_}
+use mathlib.Core.List.{List, [], _++_}
 use mathlib.Core.Logic.{inl, inr}
 use native.Mathlib.Numerals.{add-one}
 use native.Mathlib.Omega.{arith}
@@ -16,27 +16,22 @@ use Rattle.paper.specs.declared.Operation.the-variants.{Moves, Works}
 use Rattle.paper.specs.declared.Refusal.{Refusal}
 use Rattle.paper.specs.Limits.{cellBytes, wordBytes, detailBytes, scalarAt, mostCells}
 use Rattle.paper.specs.Refusals.{refused, refusal}
-use Rattle.paper.specs.Numbers.{leOf, leBytes, part}
-use Rattle.paper.specs.Axes.{cells, atOffset, Array}
+use Rattle.paper.specs.Numbers.{leOf, part}
+use Rattle.paper.specs.Axes.{cells, Array}
 use Rattle.paper.specs.Cells.{encode}
 use Rattle.paper.specs.Recipe.{Step, Planned, scalarOf}
-use Rattle.paper.specs.Values.{whence, operandArray, values}
-use Rattle.paper.specs.Answers.{axesOf}
+use Rattle.paper.specs.Values.{operandArray, values}
 use Rattle.paper.specs.Listing.{resultBytes, bytesOfAll}
 use Rattle.laws.specs.Late.{Either, values-late}
 use Rattle.positions.specs.Runs.{part-part}
-use Rattle.step.specs.Steps.{stepIn}
-use Rattle.quick.specs.declared.operands.Source.{Source}
 use Rattle.quick.specs.declared.operands.Pairing.{Pairing}
 use Rattle.quick.specs.Cells.{answerAt, Workable, WorkedOut}
 use Rattle.recipe.specs.declared.Plan.{Plan}
 use Rattle.recipe.specs.Whole.{stepsOf}
-use Rattle.origin.specs.declared.Origin.{Origin}
-use Rattle.origin.specs.Origins.{Moving, originAt, originCell}
 use Rattle.values.specs.declared.Turn.{Turn}
 use Rattle.values.specs.declared.Begun.{Begun}
 use Rattle.values.specs.Done.{stepAt, begins, cellOver, answerTo, Done, CellsDone, StepsDone, step-room, cells-kept, earlier-there, rest-there, cell-stored, cell-refuses, step-ends}
-use Rattle.values.specs.Turns.{cellsAt, pairingOf, originMark, originWord, Fetches, Ready, cells-are, cell-typed, result-typed, Computes, computes, moving, moved-is, fetches, as-written}
+use Rattle.values.specs.Turns.{pairingOf, Ready, cells-are, cell-typed, result-typed, Computes, computes}
 use Rattle.values.specs.Found.{arraysAt, Setting}
 
 -- ---- what is asked and promised
@@ -135,35 +130,6 @@ module _ {B bs : List ℕ} {t : Turn} {As : List Array} {ps : List Planned} {W :
   -- the step ends
   pub ended : n ≤ k → k ≤ n → StepsDone As ps W (s + 1) work
   ended h l = step-ends f (omega (arith, counts)) (omega (arith, counts)) (result-typed (y .ready))
-
-  -- ---- cells moved
-
-  module _ (m : Move) (e : t .step .operation ≡ Moves m) where
-    moves : p .step .operation ≡ Moves m
-    moves = ap (λ (x : Step). x .operation) (y .ready .step) ∙ e
-
-    pub mover : Moving m (stepIn bs (t .step)) (axesOf (t .a .head .form .extent)) (axesOf (t .b .head .form .extent))
-        (axesOf (t .result .form .extent))
-    mover = moving (y .ready) m moves
-
-    module _ (h : k < n) (o : Origin)
-        (q : o ≡ originAt (axesOf (t .a .head .form .extent)) (axesOf (t .b .head .form .extent))
-        (whence m (stepIn bs (t .step)) (axesOf (t .a .head .form .extent)) (axesOf (t .b .head .form .extent)) (atOffset (axesOf (t .result .form .extent)) k))) where
-      here : k < cells (axesOf (t .result .form .extent))
-      here = omega (arith, y .ready .count)
-
-      pub fetched-there : Fetches B (take (t .result .at) work) (cellsAt (t .a)) (cellsAt (t .b)) o
-      fetched-there = rw earlier (fetches (y .ready) m moves k here o q)
-
-      pub moved-on : (x x' : Source) → x ≡ cellsAt (t .a) → x' ≡ cellsAt (t .b) → (i w : ℕ)
-          → i ≡ originMark B (take (t .result .at) work) x x' o
-          → w ≡ originWord B (take (t .result .at) work) x x' o → w < 2 ^ 64 → (after : List ℕ)
-          → after ≡ take (t .result .at + k * cellBytes) work ++ (i ∷ leBytes wordBytes w) ++ drop (t .result .at + k * cellBytes + cellBytes) work
-          → CellsDone d (k + 1) after
-      unfolding cellOver
-      moved-on x x' z z' i w u v l after e =
-          stored h (originCell o _ _) (moved-is (y .ready) m moves k here o q) after
-          (rw (← as-written (y .ready) m moves k here o q i w (rw (earlier, z, z') at u) (rw (earlier, z, z') at v) l) e)
 
   -- ---- cells worked out
 

@@ -1,9 +1,9 @@
 -- A step in its turn: where its operands' cells lie, and the cell that a mark and a word there are. Then what the step gives at a
--- coordinate: of cells moved, that the nine bytes fetched are those of the cell; of cells worked out, that the code gives the answer.
+-- coordinate: of cells moved, that the nine bytes where the cell comes from are its bytes; of cells worked out, that the code gives the answer.
 use Prim.Native.Nat.{ℕ, _+_, _*_, _^_, _<_}
 use mathlib.Core.Path.{_≡_, refl, sym, ap, subst, _∙_}
 use mathlib.Core.Bool.{true, false, _&&_}
-use mathlib.Core.List.{List, _∷_}
+use mathlib.Core.List.{List}
 use mathlib.Core.Option.{Option, none, some, Option·getD}
 use native.Mathlib.Omega.{arith}
 use borrow.Author.Tests.{eqb-true}
@@ -31,14 +31,15 @@ use Rattle.paper.specs.Recipe.{Step, Planned, scalarOf, uses, axisIn, isScalar,
 use Rattle.paper.specs.Values.{Whence, whence, taken, made, scalar, cellAt}
 use Rattle.paper.specs.Answers.{axesOf}
 use Rattle.laws.specs.Tests.{and-left, and-right}
-use Rattle.laws.specs.Cells.{OfKind}
+use Rattle.laws.specs.Cells.{OfKind, bytes-back}
+use Rattle.laws.specs.Numbers.{Bytes, bytes-take, bytes-drop}
 use Rattle.laws.specs.Places.{offset-atOffset, atOffset-inside}
 use Rattle.laws.specs.Arrays.{at-inside}
 use Rattle.laws.specs.Alike.{alike-true, cells-alike, atOffset-alike}
 use Rattle.laws.specs.Passed.{Tested}
 use Rattle.laws.specs.Steps.{Kept, cell-kept, result-type}
 use Rattle.coded.specs.Codes.{standing, NoNan, kindOf, pairCodeOf, singleCodeOf, codeCell}
-use Rattle.coded.proofs.Standing.{standing-is, no-nan-from, written}
+use Rattle.coded.proofs.Standing.{standing-is, no-nan-from}
 use Rattle.coded.proofs.Codes.{pair-code-kind, pair-code-cell, single-code-kind, single-code-cell}
 use Rattle.positions.specs.Runs.{Holds, part-part}
 use Rattle.extent.specs.Judged.{Small}
@@ -50,10 +51,12 @@ use Rattle.recipe.specs.declared.Operand.{Operand}
 use Rattle.recipe.specs.Operands.{shapeIn}
 use Rattle.origin.specs.declared.Origin.{Origin}
 use Rattle.origin.specs.declared.Origin.the-variants.{Nowhere, FromA, FromB}
-use Rattle.origin.specs.Origins.{Moving, originAt, originCell, inArray, origin-inside, taken-origin}
+use Rattle.origin.specs.Origins.{Moving, originCell, inArray, origin-inside, taken-origin}
+use Rattle.origin.specs.Comes.{comes}
 use Rattle.origin.specs.Lies.{lies, second-used}
 use Rattle.values.specs.declared.Turn.{Turn}
 use Rattle.values.specs.Lying.{Lies, Whole}
+use Rattle.values.specs.Lay.{spanOf, Spans, runBytes, bytes-in}
 
 -- ---- as the code carries them
 
@@ -70,22 +73,6 @@ pairingOf (Pair o) w a b = pairing (pairCodeOf (kindIn a) o) w (cellsAt a) (cell
 pairingOf (Scalar Right o) w a b = pairing (pairCodeOf (kindIn a) o) w (cellsAt a) (source scalarSide 0)
 pairingOf (Scalar Left o) w a b = pairing (pairCodeOf (kindIn a) o) w (source scalarSide 0) (cellsAt a)
 pairingOf (Single o) w a b = pairing (singleCodeOf (kindIn a) o) w (cellsAt a) (cellsAt a)
-
--- 1 to 8: a moved cell as it lies
-abbrev pub originMark : List ℕ → List ℕ → Source → Source → Origin → ℕ
-originMark B D a b Nowhere = 0
-originMark B D a b (FromA i) = markAt B D a i
-originMark B D a b (FromB i) = markAt B D b i
-
-abbrev pub originWord : List ℕ → List ℕ → Source → Source → Origin → ℕ
-originWord B D a b Nowhere = 0
-originWord B D a b (FromA i) = wordAt B D 0 a i
-originWord B D a b (FromB i) = wordAt B D 0 b i
-
--- it is there
-pub record Fetches (B D : List ℕ) (a b : Source) (o : Origin) : Type 0 where
-  pub first : (i : ℕ) → o ≡ FromA i → Reaches B D a i
-  pub second : (i : ℕ) → o ≡ FromB i → Reaches B D b i
 
 -- ---- the cell that a mark and a word are
 
@@ -122,6 +109,15 @@ module _ {B D : List ℕ} {o : Operand} {X : Array} (v : Stands B D o X) where
         reaches = record { room = λ g. omega (arith, v .lies .room) };
         is = rw (kind-is, ← m, ← n) (v .lies .cell k h);
       }
+
+  -- its nine bytes
+  pub as-it-lies : Bytes B → Bytes D → (k : ℕ) → k < length (X .cells) → spanOf B D (cellsAt o) k 1 ≡ encode (getD (X .cells) k Empty)
+  as-it-lies x y k h =
+      let bs = bytesIn (o .which) B D in
+      let i = o .head .at + k * cellBytes in
+      let n : length (part i cellBytes bs) ≡ cellBytes = length-take cellBytes (drop i bs) ∙ omega (arith, length-drop i bs, v .lies .room) in
+      sym (bytes-back (X .shape .type) (part i cellBytes bs) (getD (X .cells) k Empty) n
+      (bytes-take cellBytes (drop i bs) (bytes-drop i bs (bytes-in B D (o .which) x y))) (v .lies .cell k h))
 
 -- ---- a step ready: p as planned, t as the code has it, A and Z the arrays that the paper takes for A and B
 
@@ -294,7 +290,10 @@ module _ {B bs D : List ℕ} {A Z : Array} {p : Planned} {t : Turn} (y : Ready B
       axes = rw (← first-axes, ← second-axes) (sym result-axes ∙ ap (λ (x : Shape). x .axes) (y .result) ∙ ap (λ (op : Operation). resultAxes op (p .step) (S .axes) (U .axes)) e);
     })
 
-    module _ (k : ℕ) (h : k < cells G) (o : Origin) (is : o ≡ originAt E F (whence m (stepIn bs (t .step)) E F (atOffset G k))) where
+    module _ (k : ℕ) (h : k < cells G) where
+      abbrev o : Origin
+      o = comes m (stepIn bs (t .step)) E F G k
+
       abbrev from : Whence
       from = whence m (stepIn bs (t .step)) E F (atOffset G k)
 
@@ -307,37 +306,35 @@ module _ {B bs D : List ℕ} {A Z : Array} {p : Planned} {t : Turn} (y : Ready B
       moved-is =
           ap (λ (op : Operation). cellAt op (p .step) A Z (atOffset (p .shape .axes) k)) e
           ∙ (λ i. Is (taken A Z (whence m (y .step i) (first-axes i) (second-axes i) (atOffset (result-axes i) k))))
-          ∙ ap Is (taken-origin E F from A Z first-axes second-axes (lies moving h) ∙ ap (λ (o : Origin). originCell o (A .cells) (Z .cells)) (sym is))
+          ∙ ap Is (taken-origin E F from A Z first-axes second-axes (lies moving h))
 
-      inside : inArray o (cells E) (cells F)
-      inside = rw is (origin-inside E F from (lies moving h))
+      pub inside : inArray o (cells E) (cells F)
+      inside = origin-inside E F from (lies moving h)
 
       -- it is A's cell i, or B's
-      first-here : (i : ℕ) → o ≡ FromA i → CellHere B D 0 (cellsAt (t .a)) i (kindIn (t .a)) cell
-      first-here i q =
-          let l : i < cells E = rw q at inside in
-          rw q (cell-here (y .first) 0 i (omega (arith, y .first .whole .full, ap cells first-axes)))
+      first-in : (i : ℕ) → o ≡ FromA i → i < length (A .cells)
+      first-in i q = let l : i < cells E = rw q at inside in omega (arith, y .first .whole .full, ap cells first-axes)
 
-      second-here : (i : ℕ) → o ≡ FromB i → CellHere B D 0 (cellsAt (t .b)) i (kindIn (t .b)) cell
-      second-here i q =
-          let l : i < cells F = rw q at inside in
-          let u : uses (Moves m) .b ≡ true = second-used m (stepIn bs (t .step)) E F (atOffset G k) i (sym is ∙ q) in
-          let s = y .second (ap (λ (op : Operation). uses op .b) e ∙ u) in
-          rw q (cell-here s 0 i (omega (arith, s .whole .full, ap cells second-axes)))
+      second-stands : (i : ℕ) → o ≡ FromB i → Stands B D (t .b) Z
+      second-stands i q =
+          let u : uses (Moves m) .b ≡ true = second-used m (stepIn bs (t .step)) E F (atOffset G k) i q in
+          y .second (ap (λ (op : Operation). uses op .b) e ∙ u)
 
-      pub fetches : Fetches B D (cellsAt (t .a)) (cellsAt (t .b)) o
-      fetches = record { first = λ i q. first-here i q .reaches; second = λ i q. second-here i q .reaches }
+      second-in : (i : ℕ) → o ≡ FromB i → i < length (Z .cells)
+      second-in i q = let l : i < cells F = rw q at inside in omega (arith, second-stands i q .whole .full, ap cells second-axes)
 
-      -- its nine bytes, as they were fetched
-      pub as-written : (j n : ℕ) → j ≡ originMark B D (cellsAt (t .a)) (cellsAt (t .b)) o
-          → n ≡ originWord B D (cellsAt (t .a)) (cellsAt (t .b)) o → n < 2 ^ 64
-          → j ∷ leBytes wordBytes n ≡ encode cell
-      unfolding encode
-      as-written j n x z l = by o refl x z
+      pub reach-first : (i : ℕ) → o ≡ FromA i → Spans B D (cellsAt (t .a)) i 1
+      reach-first i q = omega (arith, first-in i q, y .first .lies .room)
+
+      pub reach-second : (i : ℕ) → o ≡ FromB i → Spans B D (cellsAt (t .b)) i 1
+      reach-second i q = omega (arith, second-in i q, second-stands i q .lies .room)
+
+      -- its nine bytes are those that lie there
+      pub as-they-lie : Bytes B → Bytes D → runBytes B D (cellsAt (t .a)) (cellsAt (t .b)) o 1 ≡ encode cell
+      unfolding runBytes encode leBytes
+      as-they-lie x z = by o refl
         where
-          by : (r : Origin) → o ≡ r → j ≡ originMark B D (cellsAt (t .a)) (cellsAt (t .b)) r
-              → n ≡ originWord B D (cellsAt (t .a)) (cellsAt (t .b)) r
-              → j ∷ leBytes wordBytes n ≡ encode cell
-          by Nowhere q x z = rw (q, x, z)
-          by (FromA i) q x z = written (kindIn (t .a)) j n cell l (rw (x, z) (first-here i q .is))
-          by (FromB i) q x z = written (kindIn (t .b)) j n cell l (rw (x, z) (second-here i q .is))
+          by : (r : Origin) → o ≡ r → runBytes B D (cellsAt (t .a)) (cellsAt (t .b)) r 1 ≡ encode (originCell r (A .cells) (Z .cells))
+          by Nowhere q = refl
+          by (FromA i) q = as-it-lies (y .first) x z i (first-in i q)
+          by (FromB i) q = as-it-lies (second-stands i q) x z i (second-in i q)

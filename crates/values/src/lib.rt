@@ -1,21 +1,21 @@
-// The values of a recipe's steps, one after the other in the work area, nine bytes a cell. Operations 1 to 8 move cells in a loop of
-// their own; 9 to 12 work them out, first in a quick loop that ends at a cell that refuses, then in the loop over steps and cells, which
-// begins where that ended and which a label leaves at the first cell that refuses.
+// The values of a recipe's steps, one after the other in the work area, nine bytes a cell. Operations 1 to 8 move runs of cells, a
+// band of lines at a time (lay); 9 to 12 work cells out, first in a quick loop that ends at a cell that refuses, then in the loop over
+// steps and cells, which begins where that ended and which a label leaves at the first cell that refuses.
+mod lay;
+
 ghost use mathlib.Core.Path.{_≡_};
 ghost use Prim.Native.Nat.{_+_, _<_};
 ghost use Rattle.paper.specs.Limits.{mostSteps, mostCells};
 ghost use Rattle.paper.specs.Refusals.{refusal};
 ghost use Rattle.quick.specs.Operands.{pairing as pairedAs};
-ghost use Rattle.values.specs.Turns.{cellsAt, pairingOf, originMark, originWord, Fetches};
+ghost use Rattle.values.specs.Turns.{cellsAt, pairingOf};
 ghost use Rattle.values.specs.Runs.{Asked, AskedToMove, Filled, Started, Running, Valued};
-use cell::bytes::put9;
+use crate::lay::lay_band;
 use cell::bytes::word;
 use cell::bytes::write_cell;
 use coded::computed;
 use coded::pair_code;
 use coded::single_code;
-use origin::Origin;
-use origin::origin_of;
 use paper::Answer;
 use paper::CELL_BYTES;
 use paper::Hand;
@@ -30,7 +30,6 @@ use paper::StepNumber;
 use paper::Work;
 use quick::codes::ahead;
 use quick::operands::Pairing;
-use quick::operands::Raw;
 use quick::operands::SCALAR;
 use quick::operands::Source;
 use quick::operands::raw_of;
@@ -38,6 +37,7 @@ use recipe::Operand;
 use recipe::Plan;
 use refusals::none;
 use refusals::refuse_at;
+use rows::band_of;
 use step::StepHead;
 
 // A step in its turn: what it names, and its result.
@@ -101,20 +101,7 @@ fn pairing_of(w: Work, scalar: u64, a: Operand, b: Operand) -> Pairing
 
 // ---- operations 1 to 8
 
-// A moved cell, from where it lies.
-fn fetched<'a>(bundle: &'a [u8], done: &'a [u8], a: Source, b: Source, o: Origin) -> Raw
-    requires { ⌜ Fetches (now bundle) (now done) a b o ⌝ }
-    ensures { λ r. ⌜ (r .mark ≡ originMark (now (bundle .entry)) (now (done .entry)) a b o)
-        × (r .bits ≡ originWord (now (bundle .entry)) (now (done .entry)) a b o) ⌝ }
-{
-    match o {
-        Origin::Nowhere => return Raw { mark: 0, bits: 0 },
-        Origin::FromA(i) => return raw_of(bundle, done, a, 0, i),
-        Origin::FromB(i) => return raw_of(bundle, done, b, 0, i),
-    }
-}
-
-// The cells that a step moves, nine bytes each as they lie.
+// The cells that a step moves, as they lie, band after band.
 fn move_cells(bundle: &[u8], recipe: &[u8], work: &mut [u8], m: Move, turn: Turn)
     requires { ⌜ AskedToMove (now bundle) (now recipe) (now work) m turn ⌝ }
     ensures { λ _. ⌜ Filled (now (bundle .entry)) (now (recipe .entry)) (now (work .entry)) turn (turn .result .cells)
@@ -126,7 +113,7 @@ fn move_cells(bundle: &[u8], recipe: &[u8], work: &mut [u8], m: Move, turn: Turn
     let n = turn.result.cells;
     let mut k: usize = 0;
     while k < n {
-        let o = origin_of(
+        let band = band_of(
             m,
             turn.step,
             turn.a.head.form.extent,
@@ -135,9 +122,9 @@ fn move_cells(bundle: &[u8], recipe: &[u8], work: &mut [u8], m: Move, turn: Turn
             k,
             recipe,
         );
-        let raw = fetched(bundle, &work[..base], a, b, o);
-        put9(work, base + k * CELL_BYTES, raw.mark, raw.bits);
-        k += 1;
+        lay_band(bundle, work, base + k * CELL_BYTES, a, b, band);
+        let line = band.first.length + (band.second.length + band.third.length);
+        k += band.lines * line;
     }
 }
 

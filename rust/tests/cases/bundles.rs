@@ -106,7 +106,7 @@ pub fn any_mood(dice: &mut Dice) -> Mood {
     dice.pick(&cells::MOODS)
 }
 
-/// An array of any type with a new extent: mostly small, now and then as large as may be.
+/// An array of any type with a new extent: mostly small, now and then thin, seldom as large as may be.
 fn fresh(dice: &mut Dice) -> RawArray {
     let of = dice.pick(&[1, 1, 1, 1, 2, 2, 2, 3, 3]);
     let widths: Vec<i32> = match dice.below(400) {
@@ -115,12 +115,25 @@ fn fresh(dice: &mut Dice) -> RawArray {
         2 => vec![dice.between(2, 9), dice.between(2, 9), dice.between(2, 8), dice.between(2, 6)],
         3 => vec![8, 8, 8, 8],
         4..=12 => vec![dice.between(1, 60)],
+        13..=60 => thin(dice),
         _ => {
             let count = dice.pick(&[1, 2, 2, 2, 2, 3, 3, 4]);
             (0..count).map(|_| dice.pick(&[1, 2, 2, 2, 3, 3, 4])).collect()
         }
     };
     RawArray { of, count: widths.len() as u8, axes: axes_of_widths(dice, &widths), cells: vec![] }
+}
+
+/// The widths of one cell, one row or one column, on two to four axes.
+fn thin(dice: &mut Dice) -> Vec<i32> {
+    let mut widths = vec![1; dice.pick(&[2, 2, 3, 3, 4])];
+    let last = widths.len() - 1;
+    match dice.below(4) {
+        0 => widths[last] = dice.between(2, 6),
+        1 => widths[0] = dice.between(2, 6),
+        _ => {}
+    }
+    widths
 }
 
 /// Axes of these widths, with different names; mostly about zero, now and then at an end of the range. Their maximum is `*`.
@@ -155,7 +168,7 @@ fn related(dice: &mut Dice, other: &RawArray) -> RawArray {
         array.of = dice.pick(&[1, 2, 3]);
     }
     let which = dice.index(array.axes.len());
-    match dice.below(10) {
+    match dice.below(11) {
         0..=3 => {}
         4 => array.axes.iter_mut().for_each(|axis| part(dice, axis)),
         5 if dice.one_in(2) => nudge(dice, &mut array.axes),
@@ -165,10 +178,12 @@ fn related(dice: &mut Dice, other: &RawArray) -> RawArray {
             array.axes[which].lower = (array.axes[which].lower + by).clamp(-1_000_000, 999_990);
             array.axes[which].upper = array.axes[which].lower + dice.between(0, 2);
         }
-        7 | 8 if array.axes.len() > 1 => {
+        7 | 8 | 10 if array.axes.len() > 1 => {
             array.axes.remove(which);
-            if dice.one_in(3) {
-                nudge(dice, &mut array.axes);
+            match dice.below(6) {
+                0 | 1 => nudge(dice, &mut array.axes),
+                2 => array.axes.iter_mut().for_each(|axis| part(dice, axis)),
+                _ => {}
             }
         }
         9 if array.axes.len() < 4 && other.cells.len() < 200 => {
@@ -193,8 +208,12 @@ fn nudge(dice: &mut Dice, axes: &mut [RawAxis]) {
     }
 }
 
-/// An axis cut to a part of itself.
+/// An axis cut to a part of itself, now and then to all but its two ends.
 fn part(dice: &mut Dice, axis: &mut RawAxis) {
+    if axis.width() > 2 && dice.one_in(4) {
+        (axis.lower, axis.upper) = (axis.lower + 1, axis.upper - 1);
+        return;
+    }
     let lower = dice.between(axis.lower, axis.upper);
     axis.upper = dice.between(lower, axis.upper);
     axis.lower = lower;

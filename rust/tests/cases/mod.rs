@@ -9,6 +9,7 @@ pub mod faults;
 pub mod json;
 pub mod met;
 pub mod met_json;
+pub mod met_moves;
 pub mod packs;
 pub mod printed;
 pub mod questions;

@@ -72,7 +72,7 @@ impl Kitchen<'_> {
     fn proposed(&self, dice: &mut Dice, truth: bool) -> Option<StepBytes> {
         let with_empty = match dice.below(16) {
             0..=2 => self.on_unknown(dice),
-            3 => self.one_empty(dice),
+            3 | 4 => self.one_empty(dice),
             _ => None,
         };
         let any = |dice: &mut Dice| if truth { steps::truth(dice, &self.shapes) } else { steps::fitting(dice, &self.shapes) };

@@ -47,6 +47,8 @@ pub fn fitting(dice: &mut Dice, shapes: &Shapes) -> Option<StepBytes> {
         3 => Some(step(3, a, 0, 0, &reshaped(dice, shape))),
         4 => Some(step(4, a, 0, 0, &amounts(dice, shape))),
         5 => Some(step(5, a, 0, 0, &names(dice, shape))),
+        6 if dice.one_in(2) => patch(dice, shapes, 6).or_else(|| two_operands(dice, shapes, 6, a)),
+        7 => patch(dice, shapes, 7),
         operation @ 6..=9 => two_operands(dice, shapes, operation, a),
         operation @ 10..=11 => Some(scalar_step(dice, operation, a, shape)),
         _ => Some(step(12, a, 0, 0, &[single_operator(dice, shape.of)])),
@@ -107,10 +109,12 @@ fn pairs(dice: &mut Dice, shape: &Shape, of_axis: fn(&mut Dice, &Axis) -> [i32; 
     numbers(&pairs)
 }
 
-/// A part of an axis, often the whole.
+/// A part of an axis, often the whole, now and then all but its two ends.
 fn part(dice: &mut Dice, axis: &Axis) -> [i32; 2] {
-    if dice.one_in(2) {
-        return [axis.lower, axis.upper];
+    match dice.below(16) {
+        0..=7 => return [axis.lower, axis.upper],
+        8 if axis.width() > 2 => return [axis.lower + 1, axis.upper - 1],
+        _ => {}
     }
     let lower = dice.between(axis.lower, axis.upper);
     [lower, dice.between(lower, axis.upper)]
@@ -161,7 +165,22 @@ fn slice(dice: &mut Dice, a: u8, shape: &Shape) -> Option<StepBytes> {
     (shape.extent.axes.len() > 1).then(|| step(2, a, 0, axis as u8 + 1, &numbers(&[position])))
 }
 
-/// Update, place, glue or pair with one of the operands that fit, if any does; seldom with A itself.
+/// Update or place with an operand of another extent, in any that it fits.
+fn patch(dice: &mut Dice, shapes: &Shapes, operation: u8) -> Option<StepBytes> {
+    let (all, fewer) = (operands(shapes), usize::from(operation == 7));
+    let mut list = vec![];
+    for (a, b) in all.iter().flat_map(|&a| all.iter().map(move |&b| (a, b))) {
+        let (whole, patch) = (shapes.operand(a)?, shapes.operand(b)?);
+        let axes_fit = whole.extent.axes.len() == patch.extent.axes.len() + fewer;
+        if axes_fit && whole.of == patch.of && whole.extent != patch.extent {
+            list.extend(with_b(dice, whole, operation, a, b, inside));
+        }
+    }
+    list.retain(|bytes| judge(bytes, shapes).is_ok());
+    (!list.is_empty()).then(|| list.swap_remove(dice.index(list.len())))
+}
+
+/// Update, glue or pair with one of the operands that fit, if any does; seldom with A itself.
 fn two_operands(dice: &mut Dice, shapes: &Shapes, operation: u8, a: u8) -> Option<StepBytes> {
     let mut fitting = candidates(dice, shapes, operation, a, inside);
     fitting.retain(|bytes| judge(bytes, shapes).is_ok());
@@ -171,21 +190,27 @@ fn two_operands(dice: &mut Dice, shapes: &Shapes, operation: u8, a: u8) -> Optio
 }
 
 /// The operation with A and each operand as B, on each axis, at a position drawn for it.
-fn candidates(dice: &mut Dice, shapes: &Shapes, operation: u8, a: u8, at: fn(&mut Dice, &Axis) -> i32) -> Vec<StepBytes> {
+fn candidates(dice: &mut Dice, shapes: &Shapes, operation: u8, a: u8, at: At) -> Vec<StepBytes> {
     let shape = shapes.operand(a).expect("an operand at hand");
-    let mut candidates = vec![];
-    for b in operands(shapes) {
-        for (index, axis) in (1..).zip(&shape.extent.axes) {
-            let position = at(dice, axis);
-            candidates.push(match operation {
-                7 => step(7, a, b, index, &numbers(&[position])),
-                8 => step(8, a, b, index, &[]),
-                9 => step(9, a, b, 0, &[pair_operator(dice, shape.of)]),
-                _ => step(6, a, b, 0, &[]),
-            });
-        }
+    operands(shapes).into_iter().flat_map(|b| with_b(dice, shape, operation, a, b, at)).collect()
+}
+
+/// How a position is drawn for an axis.
+type At = fn(&mut Dice, &Axis) -> i32;
+
+/// The operation with A, which has that shape, and B, on each axis, at a position drawn for it.
+fn with_b(dice: &mut Dice, shape: &Shape, operation: u8, a: u8, b: u8, at: At) -> Vec<StepBytes> {
+    let mut steps = vec![];
+    for (index, axis) in (1..).zip(&shape.extent.axes) {
+        let position = at(dice, axis);
+        steps.push(match operation {
+            7 => step(7, a, b, index, &numbers(&[position])),
+            8 => step(8, a, b, index, &[]),
+            9 => step(9, a, b, 0, &[pair_operator(dice, shape.of)]),
+            _ => step(6, a, b, 0, &[]),
+        });
     }
-    candidates
+    steps
 }
 
 /// A step that is refused with a number drawn beforehand, if one is found in a few tries; else a loose one.

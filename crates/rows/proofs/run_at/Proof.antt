@@ -1,4 +1,4 @@
--- `rows::run_at` meets its contract: no run of no cells; else the cells from k on, as many as are asked for.
+-- `rows::run_at` meets its contract: the cells from k on, as many as are asked for.
 use Prim.Native.Nat.{_<_}
 use mathlib.Core.Path.{ap, sym, _∙_}
 use native.Mathlib.Omega.{arith}
@@ -8,22 +8,17 @@ use Rattle.rows.specs.Bands.{onward}
 use Rattle.rows.proofs.run_at.Statement.{statement}
 use Rattle.rows.proofs.run_at.Tie as tie
 
-returns : tie.Need-returns
-returns c = record { fits = omega arith; some = λ h. absurd (omega (arith, c .if1 .taken)); each = λ i h. absurd (omega arith) }
-
 origin-of-requires : tie.Need-origin-of-requires
-origin-of-requires c κs = let s = c .before .before in (s .pre .0, (s .pre .1 .0, omega (arith, s .pre .1 .1, c .if1 .left)))
+origin-of-requires c κs = let s = c .before in (s .pre .0, (s .pre .1 .0, omega (arith, s .pre .1 .1)))
 
 run-length-requires : tie.Need-run-length-requires
-run-length-requires c κs =
-    let s = c .before .before .before in
-    (s .pre .0, (s .pre .1 .0, omega (arith, s .pre .1 .1, c .before .if1 .left)))
+run-length-requires c κs = let s = c .before .before in (s .pre .0, (s .pre .1 .0, omega (arith, s .pre .1 .1)))
 
-returns-2 : tie.Need-returns-2
-returns-2 c =
+returns : tie.Need-returns
+returns c =
     let r = c .before in
     let o = r .before in
-    let s = o .before .before .before in
+    let s = o .before .before in
     let l = c .least .ensures in
     record {
       fits = l .1;
@@ -34,4 +29,4 @@ returns-2 c =
     }
 
 pub run-at-spec : {M : Type 1} → statement M
-run-at-spec = tie.close (tie.spec returns origin-of-requires run-length-requires (λ c κs. search needs) returns-2)
+run-at-spec = tie.close (tie.spec origin-of-requires run-length-requires (λ c κs. search needs) returns)

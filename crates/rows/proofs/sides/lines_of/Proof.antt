@@ -10,28 +10,35 @@ returns c = let s = c .before .before .before .before in one-lined _ _ (s .args 
 
 returns-2 : tie.Need-returns-2
 returns-2 c =
-    let s = c .before .before .before .before .before .before in
+    let s = c .before .before .before .before .before .before .before in
     one-lined _ _ (s .args .k) (c .one-line2 .ensures) (s .pre .lt)
+
+-- a line, cut
+module _ (c : tie.After-past-single) where
+  abbrev start : tie.Start
+  start = c .before .before .before .before
 
 side-by-side-requires : tie.Need-side-by-side-requires
 side-by-side-requires c κs =
-    let u = c .before .before .before .before .before .before in
-    rw (c .before .first-axes .ensures, c .first-axes2 .ensures, c .before .before .before .cells-after .ensures .0)
-    (first-beside (u .before .pre) (u .uneven .result) (u .uneven .ensures))
+    let l = c .before .before .before in
+    let u = l .before in
+    rw (c .before .first-axes .ensures, c .first-axes2 .ensures, l .cells-after .ensures .0)
+    (first-beside (start u .pre) (u .past-single .result) (u .past-single .ensures))
 
 returns-3 : tie.Need-returns-3
 returns-3 c =
     let f = c .before .before in
-    let u = f .before .before .before .before .before .before in
-    let l = f .before .before .before .cells-after .ensures .0 in
+    let t = f .before .before in
+    let u = t .before .before in
+    let l = t .before .cells-after .ensures .0 in
     let run = rw (f .before .first-axes .ensures, f .first-axes2 .ensures, l) at (c .before .side-by-side .ensures) in
-    let z = rw l at (f .before .before .if2 .left) in
-    rw (l, c .cells-after2 .ensures .0) (first-lined (u .before .pre) (u .uneven .result) (u .uneven .ensures) _ z run)
+    let z = rw l at (t .if2 .left) in
+    rw (l, c .cells-after2 .ensures .0) (first-lined (start u .pre) (u .past-single .result) (u .past-single .ensures) _ z run)
 
 pub lines-of-spec : {M : Type 1} → statement M
 lines-of-spec =
     tie.close
     (tie.spec
-    (λ c κs. search needs) (λ c κs. search needs) (λ c κs. search needs) returns (λ c κs. search needs) (λ c. search needs)
+    (λ c κs. search needs) (λ c κs. search needs) (λ c κs. search needs) returns (λ c κs. search needs) (λ c κs. search needs) (λ c. search needs)
     (λ c κs. search needs) returns-2 (λ c κs. search needs) (λ c. search needs) (λ c κs. search needs) side-by-side-requires
     (λ c κs. search needs) returns-3)
