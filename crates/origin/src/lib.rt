@@ -39,7 +39,7 @@ pub enum Found {
 // ---- by coordinate
 
 // Where the coordinate of cell k of an extent is found in another.
-fn found_at(t: Extent, k: usize, e: Extent) -> Found
+pub fn found_at(t: Extent, k: usize, e: Extent) -> Found
     requires { ⌜ Beside (axesOf t) (axesOf e) k ⌝ }
     ensures { λ r. ⌜ r ≡ foundIn (axesOf e) (atOffset (axesOf t) k) ⌝ }
 {

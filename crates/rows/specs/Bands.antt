@@ -54,7 +54,7 @@ Runs O k w before run =
 -- a band in a result of n cells
 pub record Banded (O : ℕ → Origin) (n k : ℕ) (w : Band) : Type 0 where
   pub some : 1 ≤ w .lines
-  pub long : 1 ≤ lineOf w
+  pub long : 1 ≤ w .first .length
   pub room : k + w .lines * lineOf w ≤ n
   pub one : Runs O k w 0 (w .first)
   pub two : Runs O k w (w .first .length) (w .second)
@@ -136,7 +136,7 @@ module _ {O : ℕ → Origin} {n k : ℕ} {p : Pattern} (g : Again O n k p) {one
       let v : p .line - (one .length + two .length) ≡ p .line - one .length - two .length = omega arith in
       record {
         some = filled (λ c w. omega (arith, w, g .some)) (λ c w. omega (arith, w));
-        long = omega (arith, x .some (g .long));
+        long = x .some (g .long);
         room = filled (λ c w. rw (c, w) (g .room)) (λ c w. rw w (omega (arith, line-room g, one-mul (lineOf band))));
         one = runs 0 one (rw (e, d) x) (omega arith);
         two = runs (one .length) two y (omega arith);

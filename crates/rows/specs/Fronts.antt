@@ -1,10 +1,10 @@
 -- The first axes of an extent and those after, as the code takes them: of its array, by an index from 0. What is known of axes put
 -- together is so known of two extents beside each other.
-use Prim.Native.Nat.{ℕ, suc, _+_, _*_, _/_, _%_, _≤_, _<_}
+use Prim.Native.Nat.{ℕ, suc, _+_, _-_, _*_, _/_, _%_, _≤_, _<_}
 use mathlib.Core.Path.{_≡_, sym, ap, _∙_}
 use mathlib.Core.Bool.{true}
 use mathlib.Core.List.{List, _∷_, _++_}
-use native.Mathlib.Nat.{mul-le-mul-right, div-lt-iff-lt-mul, one-mul, mul-comm}
+use native.Mathlib.Nat.{mul-le-mul-right, div-lt-iff-lt-mul, mod-lt, one-mul, mul-comm, add-mul}
 use native.Mathlib.Numerals.{add-one}
 use native.Mathlib.Omega.{arith}
 use borrow.Author.Tests.{eqb-true, le-leb}
@@ -14,7 +14,7 @@ use lib.Seq.{length-take-le, drop-cons, getD-take, take-take}
 use Rattle.paper.specs.declared.Axis.{Axis}
 use Rattle.paper.specs.declared.Extent.{Extent}
 use Rattle.paper.specs.Limits.{mostAxes}
-use Rattle.paper.specs.Axes.{cells, noAxis}
+use Rattle.paper.specs.Axes.{cells, atOffset, noAxis}
 use Rattle.paper.specs.Recipe.{sameLimits}
 use Rattle.paper.specs.Answers.{axisCount, axesOf}
 use Rattle.laws.specs.Tests.{and-left, and-right}
@@ -25,7 +25,9 @@ use Rattle.laws.specs.Joins.{cells-append}
 use Rattle.extent.specs.Rank.{axisNo}
 use Rattle.extent.specs.Judged.{Small}
 use Rattle.origin.specs.Asks.{Beside}
-use Rattle.rows.specs.Sides.{SideBySide, SideLeft, Lined, uneven-side, lined-on}
+use Rattle.origin.specs.declared.Found.the-variants.{Outside}
+use Rattle.origin.specs.Origins.{foundIn}
+use Rattle.rows.specs.Sides.{SideBySide, SideLeft, Lined, uneven-side, outside-side, lined-on}
 
 -- ---- in the array
 
@@ -83,6 +85,22 @@ module _ {G E : List Axis} {k : ℕ} (b : Beside G E k) where
     first-lined n z run =
         rw (take-append-drop c G, take-append-drop c E) at
         (lined-on (take c G) (drop c G) (take c E) (drop c E) k n (same-take G E c (b .same) few) some-after z run)
+
+    -- outside by the first c axes
+    module _ (n : ℕ) (run : SideBySide (take c G) (take c E) (k / cells (drop c G)) n) where
+      pub around-few : (n * cells (drop c G) ≤ cells G) × (k % cells (drop c G) ≤ n * cells (drop c G))
+      around-few =
+          let m = cells (drop c G) in
+          let top : (k / m + n) * m ≤ cells (take c G) * m = mul-le-mul-right m (run .room) in
+          let one : 1 * m ≤ n * m = mul-le-mul-right m (run .some) in
+          (omega (arith, add-mul (k / m) n m, cells-parted G c), omega (arith, mod-lt k some-after, one-mul m))
+
+      pub around-side : foundIn (take c E) (atOffset (take c G) (k / cells (drop c G))) ≡ Outside
+          → SideBySide G E k (n * cells (drop c G) - k % cells (drop c G))
+      around-side out =
+          rw (take-append-drop c G, take-append-drop c E) at
+          (outside-side (take c G) (drop c G) (take c E) (drop c E) k n (same-take G E c (b .same) few) some-after
+          (omega (arith, b .lt, ap cells (take-append-drop c G))) run out)
 
   -- axis i is the last on which they differ
   pub side-here : (i n : ℕ) (x y : Axis) → i < length G → drop i G ≡ x ∷ drop (i + 1) G → drop i E ≡ y ∷ drop (i + 1) E

@@ -233,6 +233,34 @@ module _ (P Q X Y : List Axis) (a b : Axis) (same : length Q ≡ length P) (s : 
             ∙ found-digits P (a ∷ X) Q (b ∷ Y) f (q * m + r) same (omega arith) (omega arith)));
       }
 
+-- outside by the axes before: the cells left of all lines that are so
+pub outside-side : (G X E Y : List Axis) (k n : ℕ) → length E ≡ length G → 0 < cells X → k < cells (G ++ X)
+    → SideBySide G E (k / cells X) n → foundIn E (atOffset G (k / cells X)) ≡ Outside
+    → SideBySide (G ++ X) (E ++ Y) k (n * cells X - k % cells X)
+outside-side G X E Y k n same pos lt run out =
+    let m = cells X in
+    let q = k / m in
+    let u = mod-lt k pos in
+    let c = div-add-mod' k m in
+    let one : 1 * m ≤ n * m = mul-le-mul-right m (run .some) in
+    let top : (q + n) * m ≤ cells G * m = mul-le-mul-right m (run .room) in
+    let room : k + (n * m - k % m) ≤ cells (G ++ X) = omega (arith, add-mul q n m, one-mul m, cells-append G X) in
+    let outside : (i : ℕ) → i < n * m - k % m → foundIn (E ++ Y) (atOffset (G ++ X) (k + i)) ≡ Outside = λ i h.
+    let d = (k % m + i) / m in
+    let r = (k % m + i) % m in
+    let w = mod-lt (k % m + i) pos in
+    let D : d < n = div-lt-iff-lt-mul {x = k % m + i} {y = n} pos .1 (omega arith) in
+    let e : k + i ≡ (q + d) * m + r = omega (arith, add-mul q d m, div-add-mod' (k % m + i) m) in
+    ap (λ (x : ℕ). foundIn (E ++ Y) (atOffset (G ++ X) x)) e
+    ∙ found-digits G X E Y (q + d) r same w (omega arith)
+    ∙ ap (λ (f : Found). joined (cells Y) f (foundIn Y (atOffset X r))) (run .each d D ∙ ap (later d) out) in
+    let z : k + 0 ≡ k = omega arith in
+    record {
+      some = omega (arith, one-mul m);
+      room = room;
+      each = λ i h. outside i h ∙ sym (ap (later i) (rw z at (outside 0 (omega (arith, one-mul m)))));
+    }
+
 -- ---- lines
 
 later-none : (i : ℕ) (f : Found) → i ≡ 0 → later i f ≡ f

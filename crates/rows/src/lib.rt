@@ -26,6 +26,7 @@ use positions::position_at;
 use sides::Lines;
 use sides::least;
 use sides::lines_of;
+use sides::side_around;
 use sides::side_by_side;
 use step::StepHead;
 
@@ -84,8 +85,8 @@ fn run_length(m: Move, step: StepHead, a: Extent, b: Extent, t: Extent, k: usize
         Move::Reshape => return side_by_side(t, k, a),
         Move::Shift => return cells_after(t, 0),
         Move::Rename => return cells_after(t, 0),
-        Move::Update => return side_by_side(t, k, b),
-        Move::Put => return side_by_side(t, k, patch_of(b, axis, position_at(s, step.at))),
+        Move::Update => return side_around(t, k, b),
+        Move::Put => return side_around(t, k, patch_of(b, axis, position_at(s, step.at))),
         Move::Glue => return turn_left(block_of(a, axis), block_of(b, axis), k),
     }
 }

@@ -11,9 +11,12 @@ ghost use Rattle.extent.specs.Judged.{Small};
 ghost use Rattle.extent.specs.Tests.{Ranged};
 ghost use Rattle.origin.specs.Asks.{Beside};
 ghost use Rattle.rows.specs.Sides.{SideBySide, Lined, oneLine, OneSide, SideLeft};
+use extent::on_axis;
 use extent::rank_of;
 use extent::width_of;
+use origin::Found;
 use origin::cells_after;
+use origin::found_at;
 use paper::Axis;
 use paper::Extent;
 
@@ -124,6 +127,31 @@ fn past_single(t: Extent, c: usize) -> usize
     i
 }
 
+// Where lines are cut: at the last uneven axis, or before axes of one position in front of it. Where its positions lie all inside e's, so
+// that a row is one run, up to three rows make a line.
+fn cut(t: Extent, e: Extent, last: usize) -> usize
+    requires { ⌜ Small (axesOf t) ⌝ }
+    requires { ⌜ last < length (axesOf t) ⌝ }
+    ensures { λ r. ⌜ r ≤ length (axesOf t) ⌝ }
+{
+    let c = past_single(t, last);
+    if c == 0 {
+        return c;
+    }
+    let a = t.axes[last];
+    let b = e.axes[last];
+    if !on_axis(b, a.lo) {
+        return c;
+    }
+    if !on_axis(b, a.hi) {
+        return c;
+    }
+    if 3 * cells_after(t, c) < cells_after(t, c - 1) {
+        return c;
+    }
+    past_single(t, c - 1)
+}
+
 // The first c axes.
 fn first_axes(e: Extent, c: usize) -> Extent
     requires { ⌜ c ≤ length (axesOf e) ⌝ }
@@ -131,6 +159,22 @@ fn first_axes(e: Extent, c: usize) -> Extent
 {
     let axes = e.axes;
     Extent { rank: c, axes }
+}
+
+// The same as `side_by_side`, but what is outside by the axes before the last uneven one is taken as one, over all lines that are so.
+pub fn side_around(t: Extent, k: usize, e: Extent) -> usize
+    requires { ⌜ Beside (axesOf t) (axesOf e) k ⌝ }
+    ensures { λ r. ⌜ SideBySide (axesOf t) (axesOf e) k r ⌝ }
+{
+    let c = uneven(t, e);
+    let line = cells_after(t, c);
+    let first = first_axes(t, c);
+    let other = first_axes(e, c);
+    let found = found_at(first, k / line, other);
+    match found {
+        Found::After(_) => return side_by_side(t, k, e),
+        Found::Outside => return side_by_side(first, k / line, other) * line - k % line,
+    }
 }
 
 // One line of the cells left.
@@ -146,8 +190,7 @@ fn one_line(t: Extent, k: usize) -> Lines
     }
 }
 
-// Lines alike from cell k on. A line is the cells of the axes from the last uneven one on; axes of one position before it make it no
-// longer, and are counted in.
+// Lines alike from cell k on.
 pub fn lines_of(t: Extent, k: usize, e: Extent) -> Lines
     requires { ⌜ Beside (axesOf t) (axesOf e) k ⌝ }
     ensures { λ r. ⌜ Lined (axesOf t) (axesOf e) k r ⌝ }
@@ -156,7 +199,7 @@ pub fn lines_of(t: Extent, k: usize, e: Extent) -> Lines
     if last == rank_of(t) {
         return one_line(t, k);
     }
-    let c = past_single(t, last);
+    let c = cut(t, e, last);
     let line = cells_after(t, c);
     if k % line != 0 {
         return one_line(t, k);

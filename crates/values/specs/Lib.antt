@@ -1,6 +1,5 @@
 -- What the values' code leans on, from the cells where they lie up to the run of all steps.
 pub mod Lying
-pub mod Lay
 pub mod Done
 pub mod Turns
 pub mod Found

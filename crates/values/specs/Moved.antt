@@ -29,7 +29,7 @@ use Rattle.rows.specs.declared.Band.{Band}
 use Rattle.rows.specs.Bands.{onward, lineOf, Runs, Banded}
 use Rattle.values.specs.declared.Turn.{Turn}
 use Rattle.values.specs.Done.{stepAt, cellOver, Done, CellsDone}
-use Rattle.values.specs.Lay.{runBytes, run-more, run-none, spans-end, Lays, RunLaid}
+use Rattle.lay.specs.Lay.{runBytes, run-more, run-none, spans-end, Lays, RunLaid}
 use Rattle.values.specs.Turns.{cellsAt, moving, moved-is, inside, reach-first, reach-second, as-they-lie}
 use Rattle.values.specs.Runs.{InTurn, Asked, keeps, room-all, earlier, room, stored}
 
@@ -166,7 +166,7 @@ module _ {B work₀ : List ℕ} {at : ℕ} {a b : Source} {w : Band} (v : Laying
       omega (arith, lines-upto r (w .lines) line h, v .band .room, v .place, room-all y (v .sofar), keeps y (v .sofar) fits)
 
   pub lines-few : (r : ℕ) → r < w .lines → r + 1 ≤ length work₀
-  lines-few r h = omega (arith, lines-room r h, le-mul-of-pos-right (r + 1) (v .band .long))
+  lines-few r h = omega (arith, lines-room r h, le-mul-of-pos-right {m = line} (r + 1) (omega (arith, v .band .long)))
 
   -- none is there
   pub lines-begin : CellsDone (v .asked .done) (v .k + 0 * line) work₀
@@ -211,7 +211,8 @@ module _ {B work₀ : List ℕ} {at : ℕ} {a b : Source} {w : Band} {v : Laying
       let n = inside (it .ready) (v .move) so (c + i) (here it (v .move) (v .moves-so) (c + i) (omega (arith, all-in))) in
       let f = it .ready .small-first .few in
       let s = it .ready .small-second .few in
-      q ∙ rw (g .first, g .second) (onward-wrapped (run .from) (r * w .a) (r * w .b) i _ _ (omega (arith, f)) (omega (arith, s)) (rw q at n))
+      q ∙ rw (g .first, g .second) (onward-wrapped (run .from) (r * w .a) (r * w .b) i _ _ (omega (arith, f))
+      (omega (arith, s)) (rw q at n))
 
   module _ {work : List ℕ} (f : CellsDone (v .asked .done) c work) {place : ℕ} (p : place ≡ at + (r * lineOf w + before) * cellBytes) where
     its-place : place ≡ t .result .at + c * cellBytes
@@ -233,9 +234,11 @@ module _ {B work₀ : List ℕ} {at : ℕ} {a b : Source} {w : Band} {v : Laying
       low = omega (arith, its-place);
       room = omega (arith, its-place, all-in, room-all it f, keeps it f (omega (arith, all-in)));
       first = λ i q m.
-          spans-end B (v .first) (earlier it f) (i + x) (run .length) m (reach-first (it .ready) (v .move) so _ (last-here m) _ (last-cell m q));
+          spans-end B (v .first) (earlier it f) (i + x) (run .length) m
+          (reach-first (it .ready) (v .move) so _ (last-here m) _ (last-cell m q));
       second = λ i q m.
-          spans-end B (v .second) (earlier it f) (i + y) (run .length) m (reach-second (it .ready) (v .move) so _ (last-here m) _ (last-cell m q));
+          spans-end B (v .second) (earlier it f) (i + y) (run .length) m
+          (reach-second (it .ready) (v .move) so _ (last-here m) _ (last-cell m q));
     }
 
     pub run-asks : Lays B work place a b run x y

@@ -56,7 +56,7 @@ use Rattle.origin.specs.Comes.{comes}
 use Rattle.origin.specs.Lies.{lies, second-used}
 use Rattle.values.specs.declared.Turn.{Turn}
 use Rattle.values.specs.Lying.{Lies, Whole}
-use Rattle.values.specs.Lay.{spanOf, Spans, runBytes, bytes-in}
+use Rattle.lay.specs.Lay.{spanOf, Spans, runBytes, bytes-in}
 
 -- ---- as the code carries them
 

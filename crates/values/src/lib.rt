@@ -1,7 +1,7 @@
 // The values of a recipe's steps, one after the other in the work area, nine bytes a cell. Operations 1 to 8 move runs of cells, a
 // band of lines at a time (lay); 9 to 12 work cells out, first in a quick loop that ends at a cell that refuses, then in the loop over
 // steps and cells, which begins where that ended and which a label leaves at the first cell that refuses.
-mod lay;
+mod bands;
 
 ghost use mathlib.Core.Path.{_≡_};
 ghost use Prim.Native.Nat.{_+_, _<_};
@@ -10,7 +10,7 @@ ghost use Rattle.paper.specs.Refusals.{refusal};
 ghost use Rattle.quick.specs.Operands.{pairing as pairedAs};
 ghost use Rattle.values.specs.Turns.{cellsAt, pairingOf};
 ghost use Rattle.values.specs.Runs.{Asked, AskedToMove, Filled, Started, Running, Valued};
-use crate::lay::lay_band;
+use crate::bands::lay_band;
 use cell::bytes::word;
 use cell::bytes::write_cell;
 use coded::computed;

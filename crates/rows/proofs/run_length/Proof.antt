@@ -85,8 +85,8 @@ returns-5 c =
     let e = c .before .enum-told5 .given .1 in
     (c .cells-after2 .ensures .1, rw e (own-along _ (λ j h. rename-comes (moving-as e (s .pre .1 .0)) h)))
 
-side-by-side-requires-3 : tie.Need-side-by-side-requires-3
-side-by-side-requires-3 c κs =
+side-around-requires : tie.Need-side-around-requires
+side-around-requires c κs =
     let s = c .before .before .before .before in
     update-asks (moving-as (c .enum-told6 .given .1) (s .pre .1 .0)) (s .pre .1 .1)
 
@@ -94,7 +94,7 @@ returns-6 : tie.Need-returns-6
 returns-6 c =
     let s = c .before .before .before .before .before in
     let e = c .before .enum-told6 .given .1 in
-    let r = c .side-by-side3 .ensures in
+    let r = c .side-around .ensures in
     (r .some, rw e (over-along (λ j h. update-comes (moving-as e (s .pre .1 .0)) h) r))
 
 patch-of-requires : tie.Need-patch-of-requires
@@ -102,8 +102,8 @@ patch-of-requires c κs =
     let s = c .before .before .before .before .before in
     put-room (moving-as (c .before .enum-told7 .given .1) (s .pre .1 .0)) (axes-few (s .args .a))
 
-side-by-side-requires-4 : tie.Need-side-by-side-requires-4
-side-by-side-requires-4 c κs =
+side-around-requires-2 : tie.Need-side-around-requires-2
+side-around-requires-2 c κs =
     let s = c .before .before .before .before .before .before in
     rw (c .patch-of .ensures, position s (c .before .position-at .ensures))
     (put-asks (moving-as (c .before .before .enum-told7 .given .1) (s .pre .1 .0)) (s .pre .1 .1) (axes-few (s .args .a)))
@@ -112,7 +112,7 @@ returns-7 : tie.Need-returns-7
 returns-7 c =
     let s = c .before .before .before .before .before .before .before in
     let e = c .before .before .before .enum-told7 .given .1 in
-    let r = rw (c .before .patch-of .ensures, position s (c .before .before .position-at .ensures)) at (c .side-by-side4 .ensures) in
+    let r = rw (c .before .patch-of .ensures, position s (c .before .before .position-at .ensures)) at (c .side-around2 .ensures) in
     (r .some, rw e (over-along (λ j h. put-comes (moving-as e (s .pre .1 .0)) h) r))
 
 block-of-requires : tie.Need-block-of-requires
@@ -139,6 +139,6 @@ run-length-spec =
     (tie.spec
     (λ c. search needs) (λ c. search needs) side-by-side-requires returns (λ c. search needs) layer-of-requires (λ c. search needs)
     sub-result returns-2 (λ c. search needs) side-by-side-requires-2 returns-3 (λ c. search needs) cells-after-requires returns-4
-    (λ c. search needs) cells-after-requires-2 returns-5 (λ c. search needs) side-by-side-requires-3 returns-6 (λ c. search needs)
-    (λ c κs. search needs) patch-of-requires side-by-side-requires-4 returns-7 (λ c. search needs) block-of-requires block-of-requires-2
+    (λ c. search needs) cells-after-requires-2 returns-5 (λ c. search needs) side-around-requires returns-6 (λ c. search needs)
+    (λ c κs. search needs) patch-of-requires side-around-requires-2 returns-7 (λ c. search needs) block-of-requires block-of-requires-2
     turn-left-requires returns-8)

@@ -92,7 +92,8 @@ module _ (c : tie.After-band-of Inv-loop μ-loop) where
     move = p .args .m;
     moves-so = p .pre .moves;
     bytes = bytes turn;
-    bytes-before = subst Bytes (earlier (a .in-turn) (a .none)) (bytes-take (p .args .turn .result .at) (now (p .args .work)) (work-bytes turn));
+    bytes-before = subst Bytes (earlier (a .in-turn) (a .none))
+        (bytes-take (p .args .turn .result .at) (now (p .args .work)) (work-bytes turn));
     first = turn .before .before .before .cells-of .ensures;
     second = turn .before .before .cells-of2 .ensures;
     k = k;
@@ -105,7 +106,7 @@ module _ (c : tie.After-band-of Inv-loop μ-loop) where
   next = banded .room
 
   more : 1 ≤ w .lines * lineOf w
-  more = omega (arith, banded .some, banded .long, le-mul-of-pos-right (w .lines) (banded .long))
+  more = omega (arith, banded .some, banded .long, le-mul-of-pos-right {m = lineOf w} (w .lines) (omega (arith, banded .long)))
 
   line-short : lineOf w ≤ w .lines * lineOf w
   line-short = omega (arith, mul-le-mul-right (lineOf w) (banded .some))
@@ -117,7 +118,9 @@ add-line : tie.Need-add-line Inv-loop μ-loop
 add-line c = let h = c .before .before .before .before .before in omega (arith, next h, line-short h, turn h .before .loop .inv .1)
 
 add-line-2 : tie.Need-add-line-2 Inv-loop μ-loop
-add-line-2 c = let h = c .before .before .before .before .before .before in omega (arith, next h, line-short h, turn h .before .loop .inv .1)
+add-line-2 c =
+    let h = c .before .before .before .before .before .before in
+    omega (arith, next h, line-short h, turn h .before .loop .inv .1)
 
 mul-k : tie.Need-mul-k Inv-loop μ-loop
 mul-k c = let h = c .before .before .before .before .before .before .before in omega (arith, next h, turn h .before .loop .inv .1)

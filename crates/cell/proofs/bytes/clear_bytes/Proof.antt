@@ -36,7 +36,8 @@ module _ (d₀ : List ℕ) (at k : ℕ) (d : List ℕ) (h : at + k ≤ length d�
 
 -- so at the head of the loop
 kept : (c : tie.At-loop Inv-loop μ-loop) → length (c .loop .d) ≡ length (now (c .before .args .d))
-kept c = long (now (c .before .args .d)) (c .before .args .at) (c .loop .k) (c .loop .d) (omega (arith, c .before .pre, c .loop .inv .0)) (c .loop .inv .1)
+kept c =
+    long (now (c .before .args .d)) (c .before .args .at) (c .loop .k) (c .loop .d) (omega (arith, c .before .pre, c .loop .inv .0)) (c .loop .inv .1)
 
 loop-holds : tie.Need-loop-holds Inv-loop μ-loop
 loop-holds c = (omega arith, sym (put-none (now (c .args .d)) (c .args .at)))

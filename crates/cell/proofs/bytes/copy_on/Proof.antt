@@ -40,7 +40,8 @@ loop-again c =
     let at = p .args .at in
     let from = p .args .from in
     let n = p .args .n in (
-      subst (λ (x : ℕ). Copying d from d at n (set (l .d) (at + l .k) x) (l .k + 1)) (sym (still (l .d) d at (from + l .k) (omega (arith, p .pre .0)) (l .inv .1)))
+      subst (λ (x : ℕ). Copying d from d at n (set (l .d) (at + l .k) x) (l .k + 1))
+          (sym (still (l .d) d at (from + l .k) (omega (arith, p .pre .0)) (l .inv .1)))
           (copy-more d from d at n (omega (arith, p .pre)) (p .pre .1) (l .d) (l .k) (l .inv .0) (c .before .loop-test .taken)),
       take-set-le at (l .d) (at + l .k) _ (omega arith) ∙ l .inv .1,
     )
@@ -53,7 +54,8 @@ returns c =
     let l = c .before .loop in
     let p = c .before .before in
     let d = now (p .args .d) in
-    copy-ends d (p .args .from) d (p .args .at) (p .args .n) (omega (arith, p .pre)) (p .pre .1) (l .d) (l .k) (l .inv .0) (c .loop-test .left)
+    copy-ends d (p .args .from) d (p .args .at) (p .args .n) (omega (arith, p .pre)) (p .pre .1) (l .d) (l .k)
+    (l .inv .0) (c .loop-test .left)
 
 pub copy-on-spec : {M : Type 1} → statement M
 copy-on-spec =

@@ -3,17 +3,18 @@
 use Prim.Native.Nat.{ℕ, suc, _+_, _-_, _*_, _≤_}
 use mathlib.Core.Path.{_≡_, refl, sym, ap, _∙_}
 use mathlib.Core.Bool.{Bool, true, false}
-use mathlib.Core.List.{List, [], _++_}
+use mathlib.Core.List.{List, [], _∷_, _++_}
+use native.Mathlib.Numerals.{add-one}
 use native.Mathlib.Omega.{arith}
 use borrow.Author.Tests.{eq-eqb, ne-eqb}
 use lib.Dec.{eqb}
-use lib.ListN.{length, take, drop, replicate, length-take, replicate-append-replicate}
-use lib.Seq.{take-add, drop-drop}
-use Rattle.paper.specs.Limits.{cellBytes}
+use lib.ListN.{length, getD, take, drop, replicate, length-take, length-drop, replicate-append-replicate}
+use lib.Seq.{take-add, drop-drop, drop-cons, length-take-le}
+use Rattle.paper.specs.Limits.{cellBytes, wordBytes}
 use Rattle.paper.specs.Refusals.{if_then_else_}
-use Rattle.paper.specs.Numbers.{part}
+use Rattle.paper.specs.Numbers.{part, leOf, leBytes}
 use Rattle.laws.specs.Put.{put, put-none}
-use Rattle.laws.specs.Numbers.{Bytes}
+use Rattle.laws.specs.Numbers.{Bytes, leBytes-leOf, bytes-take, bytes-drop}
 use Rattle.positions.specs.Runs.{part-part}
 use Rattle.quick.specs.declared.operands.Source.{Source}
 use Rattle.quick.specs.Operands.{workSide, bytesIn}
@@ -31,7 +32,8 @@ abbrev pub Spans : List ℕ → List ℕ → Source → ℕ → ℕ → Type 0
 Spans B D f i n = f .at + (i + n) * cellBytes ≤ length (bytesIn (f .which) B D)
 
 -- so they are where the last of them is
-pub spans-end : (B : List ℕ) {D D' : List ℕ} {f f' : Source} → f' ≡ f → D' ≡ D → (i n : ℕ) → 1 ≤ n → Spans B D f (i + (n - 1)) 1 → Spans B D' f' i n
+pub spans-end : (B : List ℕ) {D D' : List ℕ} {f f' : Source} → f' ≡ f → D' ≡ D → (i n : ℕ) → 1 ≤ n
+    → Spans B D f (i + (n - 1)) 1 → Spans B D' f' i n
 spans-end B e d i n m h = rw (e, d) (omega (arith, h))
 
 -- n cells that come from the cells from an origin on; a and b tell where A's and B's lie
@@ -60,7 +62,8 @@ module _ (B D : List ℕ) where
       ∙ ap (λ (l : List ℕ). part p cellBytes bs ++ take (n * cellBytes) l) (drop-drop cellBytes p bs)
       ∙ ap (λ (j : ℕ). part p cellBytes bs ++ part j (n * cellBytes) bs) q
 
-  pub run-more : (a b : Source) (o : Origin) (n : ℕ) → runBytes B D a b o (suc n) ≡ runBytes B D a b o 1 ++ runBytes B D a b (onward 1 1 o) n
+  pub run-more : (a b : Source) (o : Origin) (n : ℕ)
+      → runBytes B D a b o (suc n) ≡ runBytes B D a b o 1 ++ runBytes B D a b (onward 1 1 o) n
   unfolding runBytes
   run-more a b Nowhere n =
       let e : suc n * cellBytes ≡ cellBytes + n * cellBytes = omega arith in
@@ -143,10 +146,25 @@ module _ {B work : List ℕ} {at : ℕ} {a b : Source} {run : Run} {x y : ℕ} (
     blank-run e q = rw e q
 
     module _ (l : 1 ≤ run .length) (i : ℕ) where
-      pub first-run : run .from ≡ FromA i → Brought B work at a (i + x) (run .length) after → after ≡ there (onward x y (run .from)) (run .length)
+      pub first-run : run .from ≡ FromA i → Brought B work at a (i + x) (run .length) after
+          → after ≡ there (onward x y (run .from)) (run .length)
       unfolding runBytes
       first-run e q = rw e (q (record { base = v .base; low = v .low; room = v .room; there = v .first i e l }))
 
-      pub second-run : run .from ≡ FromB i → Brought B work at b (i + y) (run .length) after → after ≡ there (onward x y (run .from)) (run .length)
+      pub second-run : run .from ≡ FromB i → Brought B work at b (i + y) (run .length) after
+          → after ≡ there (onward x y (run .from)) (run .length)
       unfolding runBytes
       second-run e q = rw e (q (record { base = v .base; low = v .low; room = v .room; there = v .second i e l }))
+
+-- ---- one cell
+
+-- its mark and its word are its nine bytes
+pub nine-bytes : (s : List ℕ) (i : ℕ) → Bytes s → i + cellBytes ≤ length s
+    → getD s i 0 ∷ leBytes wordBytes (leOf (part (i + 1) wordBytes s)) ≡ part i cellBytes s
+nine-bytes s i h l =
+    let w = part (i + 1) wordBytes s in
+    let n : length w ≡ wordBytes = length-take-le wordBytes (drop (i + 1) s) (omega (arith, length-drop (i + 1) s)) in
+    let e : leBytes wordBytes (leOf w) ≡ w =
+    ap (λ (m : ℕ). leBytes m (leOf w)) (sym n) ∙ leBytes-leOf w (bytes-take wordBytes (drop (i + 1) s) (bytes-drop (i + 1) s h)) in
+    ap (λ (q : List ℕ). getD s i 0 ∷ q) e
+    ∙ sym (ap (take cellBytes) (drop-cons s i 0 (omega arith)) ∙ ap (λ (j : ℕ). getD s i 0 ∷ take wordBytes (drop j s)) (sym (add-one i)))

@@ -1,4 +1,4 @@
--- `values::lay::lay_band` meets its contract: line after line, each by three runs.
+-- `values::bands::lay_band` meets its contract: line after line, each by three runs.
 use Prim.Native.Nat.{ℕ, _+_, _-_, _*_, _%_, _^_, _≤_}
 use mathlib.Core.Path.{_≡_, refl, subst}
 use mathlib.Core.List.{List}
@@ -11,8 +11,8 @@ use Rattle.rows.specs.declared.Band.{Band}
 use Rattle.rows.specs.Bands.{lineOf}
 use Rattle.values.specs.Done.{CellsDone}
 use Rattle.values.specs.Moved.{Laying, BandLaid, LineAt, lines-room, lines-few, run-asks, run-leaves, lines-begin, lines-kept, added-up}
-use Rattle.values.proofs.lay.lay_band.Statement.{statement}
-use Rattle.values.proofs.lay.lay_band.Tie as tie
+use Rattle.values.proofs.bands.lay_band.Statement.{statement}
+use Rattle.values.proofs.bands.lay_band.Tie as tie
 
 abbrev Inv-loop : tie.InvT-loop
 Inv-loop bundle work₀ at a b band lines first second third one two line r₀ place₀ x₀ y₀ work r place x y =
@@ -73,11 +73,13 @@ module _ (c : tie.In-loop Inv-loop μ-loop) where
   first-begins : Upto 0 (c .before .loop .work)
   first-begins v = let e : v .k + r * lineOf w ≡ v .k + (r * lineOf w + 0) = omega arith in rw e at (c .before .loop .inv .5 v)
 
-lay-run-requires : tie.Need-lay-run-requires Inv-loop μ-loop
-lay-run-requires c κs =
+lay-cells-requires : tie.Need-lay-cells-requires Inv-loop μ-loop
+lay-cells-requires c κs =
     let i = c .before in
-    let v = start i .pre in
-    run-asks (line-at i v) 0 (w i .first) (v .band .one) (omega arith) (first-begins i v) (omega (arith, i .before .loop .inv .2))
+    let v = start i .pre in (
+      run-asks (line-at i v) 0 (w i .first) (v .band .one) (omega arith) (first-begins i v) (omega (arith, i .before .loop .inv .2)),
+      v .band .long,
+    )
 
 add-lay-run : tie.Need-add-lay-run Inv-loop μ-loop
 add-lay-run c =
@@ -85,21 +87,22 @@ add-lay-run c =
     omega (arith, room i, i .before .loop .inv .2, start i .good)
 
 -- the first run is laid down
-module _ (c : tie.After-lay-run Inv-loop μ-loop) where
+module _ (c : tie.After-lay-cells Inv-loop μ-loop) where
   abbrev i1 : tie.In-loop Inv-loop μ-loop
   i1 = c .before .before
 
-  second-begins : Upto i1 (w i1 .first .length) (c .lay-run .last .1 .0)
+  second-begins : Upto i1 (w i1 .first .length) (c .lay-cells .last .1 .0)
   second-begins v =
       run-leaves (line-at i1 v) 0 (w i1 .first) (v .band .one) (omega arith) (first-begins i1 v) (omega (arith, i1 .before .loop .inv .2))
-      (c .lay-run .ensures) (omega arith)
+      (c .lay-cells .ensures) (omega arith)
 
-lay-run-requires-2 : tie.Need-lay-run-requires-2 Inv-loop μ-loop
-lay-run-requires-2 c κs =
+lay-run-requires : tie.Need-lay-run-requires Inv-loop μ-loop
+lay-run-requires c κs =
     let h = c .before .before .before in
     let i = i1 h in
     let v = start i .pre in
-    run-asks (line-at i v) (w i .first .length) (w i .second) (v .band .two) (omega arith) (second-begins h v) (omega (arith, i .before .loop .inv .2))
+    run-asks (line-at i v) (w i .first .length) (w i .second) (v .band .two) (omega arith) (second-begins h v)
+    (omega (arith, i .before .loop .inv .2))
 
 add-lay-run-2 : tie.Need-add-lay-run-2 Inv-loop μ-loop
 add-lay-run-2 c =
@@ -107,20 +110,20 @@ add-lay-run-2 c =
     omega (arith, room i, i .before .loop .inv .2, start i .good)
 
 -- the second
-module _ (c : tie.After-lay-run2 Inv-loop μ-loop) where
-  abbrev h2 : tie.After-lay-run Inv-loop μ-loop
+module _ (c : tie.After-lay-run Inv-loop μ-loop) where
+  abbrev h2 : tie.After-lay-cells Inv-loop μ-loop
   h2 = c .before .before .before .before
 
   abbrev i2 : tie.In-loop Inv-loop μ-loop
   i2 = i1 h2
 
-  third-begins : Upto i2 (w i2 .first .length + w i2 .second .length) (c .lay-run2 .last .1 .0)
+  third-begins : Upto i2 (w i2 .first .length + w i2 .second .length) (c .lay-run .last .1 .0)
   third-begins v =
       run-leaves (line-at i2 v) (w i2 .first .length) (w i2 .second) (v .band .two) (omega arith) (second-begins h2 v)
-      (omega (arith, i2 .before .loop .inv .2)) (c .lay-run2 .ensures) (omega arith)
+      (omega (arith, i2 .before .loop .inv .2)) (c .lay-run .ensures) (omega arith)
 
-lay-run-requires-3 : tie.Need-lay-run-requires-3 Inv-loop μ-loop
-lay-run-requires-3 c κs =
+lay-run-requires-2 : tie.Need-lay-run-requires-2 Inv-loop μ-loop
+lay-run-requires-2 c κs =
     let h = c .before .before .before in
     let i = i2 h in
     let v = start i .pre in
@@ -128,17 +131,18 @@ lay-run-requires-3 c κs =
     (omega (arith, i .before .loop .inv .2))
 
 -- the third, and with it the line
-module _ (c : tie.After-lay-run3 Inv-loop μ-loop) where
-  abbrev h3 : tie.After-lay-run2 Inv-loop μ-loop
+module _ (c : tie.After-lay-run2 Inv-loop μ-loop) where
+  abbrev h3 : tie.After-lay-run Inv-loop μ-loop
   h3 = c .before .before .before .before
 
   abbrev i3 : tie.In-loop Inv-loop μ-loop
   i3 = i2 h3
 
-  line-done : (v : Asked i3) → CellsDone (v .asked .done) (v .k + (r i3 + 1) * lineOf (w i3)) (c .lay-run3 .last .1 .0)
+  line-done : (v : Asked i3) → CellsDone (v .asked .done) (v .k + (r i3 + 1) * lineOf (w i3)) (c .lay-run2 .last .1 .0)
   line-done v =
-      run-leaves (line-at i3 v) (w i3 .first .length + w i3 .second .length) (w i3 .third) (v .band .three) (omega arith) (third-begins h3 v)
-      (omega (arith, i3 .before .loop .inv .2)) (c .lay-run3 .ensures) (omega arith)
+      run-leaves (line-at i3 v) (w i3 .first .length + w i3 .second .length) (w i3 .third) (v .band .three) (omega arith)
+      (third-begins h3 v)
+      (omega (arith, i3 .before .loop .inv .2)) (c .lay-run2 .ensures) (omega arith)
 
 add-place : tie.Need-add-place Inv-loop μ-loop
 add-place c =
@@ -172,5 +176,5 @@ pub lay-band-spec : {M : Type 1} → statement M
 lay-band-spec =
     tie.close
     (tie.spec
-    Inv-loop μ-loop mul-one mul-two add-two mul-line add-line loop-holds lay-run-requires add-lay-run lay-run-requires-2 add-lay-run-2
-    lay-run-requires-3 add-place (λ c κs. tt) (λ c κs. tt) add-r (λ c. search needs) loop-again (λ c. search needs) returns)
+    Inv-loop μ-loop mul-one mul-two add-two mul-line add-line loop-holds lay-cells-requires add-lay-run lay-run-requires add-lay-run-2
+    lay-run-requires-2 add-place (λ c κs. tt) (λ c κs. tt) add-r (λ c. search needs) loop-again (λ c. search needs) returns)

@@ -1,4 +1,4 @@
--- `values::lay::lay_cells` meets its contract: zeros, A's cells or B's.
+-- `lay::lay_cells` meets its contract: zeros, A's cells or B's.
 use Prim.Native.Nat.{ℕ, _+_, _^_, _≤_, _<_}
 use mathlib.Core.List.{List}
 use native.Mathlib.Omega.{arith}
@@ -7,9 +7,9 @@ use borrow.Author.Needs.{needs}
 use lib.ListN.{take, length-take}
 use Rattle.quick.specs.declared.operands.Source.{Source}
 use Rattle.quick.specs.Operands.{bytes-most}
-use Rattle.values.specs.Lay.{Spans, blank-run, first-run, second-run}
-use Rattle.values.proofs.lay.lay_cells.Statement.{statement}
-use Rattle.values.proofs.lay.lay_cells.Tie as tie
+use Rattle.lay.specs.Lay.{Spans, blank-run, first-run, second-run}
+use Rattle.lay.proofs.lay_cells.Statement.{statement}
+use Rattle.lay.proofs.lay_cells.Tie as tie
 
 module _ (c : tie.Start) where
   abbrev D : List ℕ

@@ -1,4 +1,4 @@
--- `values::lay::bring` meets its contract: from the work area, or from the bundle.
+-- `lay::bring_one` meets its contract: from the work area, or from the bundle.
 use Prim.Native.Nat.{_+_, _*_, _^_, _<_}
 use mathlib.Core.Path.{ap, _∙_}
 use native.Mathlib.Omega.{arith}
@@ -8,11 +8,11 @@ use lib.ListN.{take, length-take}
 use Rattle.paper.specs.Limits.{cellBytes}
 use Rattle.laws.specs.Put.{put}
 use Rattle.quick.specs.Operands.{bytes-most}
-use Rattle.values.specs.Lay.{ends-before, brought-on, lies-there, brought-over}
-use Rattle.values.proofs.lay.bring.Statement.{statement}
-use Rattle.values.proofs.lay.bring.Tie as tie
+use Rattle.lay.specs.Lay.{ends-before, brought-on, lies-there, brought-over}
+use Rattle.lay.proofs.bring_one.Statement.{statement}
+use Rattle.lay.proofs.bring_one.Tie as tie
 
-fits : (c : tie.Start) → c .args .from .at + (c .args .i + c .args .n) * cellBytes < 2 ^ 64
+fits : (c : tie.Start) → c .args .from .at + (c .args .i + 1) * cellBytes < 2 ^ 64
 fits c =
     let w = now (c .args .work) in
     let d = take (c .pre .base) w in
@@ -26,11 +26,8 @@ mul-start c = omega (arith, fits (c .before .before))
 add-start : tie.Need-add-start
 add-start c = omega (arith, fits (c .before .before .before))
 
-mul-long : tie.Need-mul-long
-mul-long c = omega (arith, fits (c .before .before .before))
-
-copy-on-requires : tie.Need-copy-on-requires
-copy-on-requires c κs =
+nine-on-requires : tie.Need-nine-on-requires
+nine-on-requires c κs =
     let p = c .before .before .before .before .before .before in
     (ends-before (p .pre) (c .before .if1 .taken), p .pre .room)
 
@@ -38,10 +35,10 @@ returns : tie.Need-returns
 returns c v =
     let h = c .before .before in
     let p = h .before .before .before .before .before .before .before in
-    h .copy-on .ensures ∙ ap (put (now (p .args .work)) (p .args .at)) (brought-on v (h .before .before .if1 .taken))
+    h .nine-on .ensures ∙ ap (put (now (p .args .work)) (p .args .at)) (brought-on v (h .before .before .if1 .taken))
 
-copy-bytes-requires : tie.Need-copy-bytes-requires
-copy-bytes-requires c κs =
+copy-nine-requires : tie.Need-copy-nine-requires
+copy-nine-requires c κs =
     let p = c .before .before .before .before .before .before in
     (lies-there (p .pre) (c .before .if1 .left), p .pre .room)
 
@@ -49,9 +46,9 @@ returns-2 : tie.Need-returns-2
 returns-2 c v =
     let h = c .before .before in
     let p = h .before .before .before .before .before .before .before in
-    h .copy-bytes .ensures ∙ ap (put (now (p .args .work)) (p .args .at)) (brought-over v (h .before .before .if1 .left))
+    h .copy-nine .ensures ∙ ap (put (now (p .args .work)) (p .args .at)) (brought-over v (h .before .before .if1 .left))
 
-pub bring-spec : {M : Type 1} → statement M
-bring-spec =
+pub bring-one-spec : {M : Type 1} → statement M
+bring-one-spec =
     tie.close
-    (tie.spec mul-start add-start mul-long copy-on-requires (λ c. search needs) returns copy-bytes-requires (λ c. search needs) returns-2)
+    (tie.spec mul-start add-start nine-on-requires (λ c. search needs) returns copy-nine-requires (λ c. search needs) returns-2)

@@ -1,9 +1,9 @@
--- `values::lay::lay_run` meets its contract: no cell, or those that `lay_cells` lays.
+-- `lay::lay_run` meets its contract: no cell, or those that `lay_cells` lays.
 use native.Mathlib.Omega.{arith}
 use borrow.Author.Needs.{needs}
-use Rattle.values.specs.Lay.{no-run}
-use Rattle.values.proofs.lay.lay_run.Statement.{statement}
-use Rattle.values.proofs.lay.lay_run.Tie as tie
+use Rattle.lay.specs.Lay.{no-run}
+use Rattle.lay.proofs.lay_run.Statement.{statement}
+use Rattle.lay.proofs.lay_run.Tie as tie
 
 returns : tie.Need-returns
 returns c v = no-run v (c .if1 .taken)
