@@ -73,10 +73,16 @@ module _ {B W : List ℕ} {base : ℕ} {q : Pairing} {n : ℕ} where
   pub begins : Upto B W base q n 0 W
   begins = record { k = 0; at = refl; ahead = none-yet }
 
-  pub counted : {off : ℕ} {work : List ℕ} → Upto B W base q n off work → Ahead B W base q n (off / cellBytes) work
-  counted {off} {work} u =
-      let e : off / cellBytes ≡ u .k = omega (arith, u .at) in
-      subst (λ (m : ℕ). Ahead B W base q n m work) (sym e) (u .ahead)
+  module _ {off : ℕ} {work : List ℕ} (u : Upto B W base q n off work) where
+    pub counted : Ahead B W base q n (off / cellBytes) work
+    counted =
+        let e : off / cellBytes ≡ u .k = omega (arith, u .at) in
+        subst (λ (m : ℕ). Ahead B W base q n m work) (sym e) (u .ahead)
+
+    pub all-counted : n * cellBytes ≤ off → Ahead B W base q n n work
+    all-counted h =
+        let e : n ≡ u .k = omega (arith, u .at, u .ahead .most) in
+        subst (λ (m : ℕ). Ahead B W base q n m work) (sym e) (u .ahead)
 
 -- ---- a turn
 

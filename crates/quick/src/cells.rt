@@ -65,5 +65,5 @@ pub fn quick_cells(
         }
         off += CELL_BYTES;
     }
-    off / CELL_BYTES
+    n
 }

@@ -1,7 +1,7 @@
 -- Cells moved: a run of them laid down is so many more of the step's cells, by one cell after the other over imagined work areas; and so
 -- is a line of a band, run after run.
 use Prim.Native.Nat.{ℕ, zero, suc, _+_, _-_, _*_, _%_, _^_, _≤_, _<_}
-use mathlib.Core.Path.{_≡_, refl, sym, ap, _∙_}
+use mathlib.Core.Path.{_≡_, refl, sym, ap, subst, _∙_}
 use mathlib.Core.List.{List}
 use native.Mathlib.Nat.{mul-le-mul-right, le-mul-of-pos-right}
 use native.Mathlib.Omega.{arith}
@@ -253,5 +253,44 @@ module _ {B work₀ : List ℕ} {at : ℕ} {a b : Source} {w : Band} {v : Laying
         (q asks ∙ (λ i. put work (its-place i) (runBytes B (earlier it f i) (v .first i) (v .second i) from (run .length)))))
 
 -- sums that wrap
-pub added-up : (r a x z : ℕ) → x ≡ (r * a) % 2 ^ 64 → z ≡ (x + a) % 2 ^ 64 → z ≡ ((r + 1) * a) % 2 ^ 64
+added-up : (r a x z : ℕ) → x ≡ (r * a) % 2 ^ 64 → z ≡ (x + a) % 2 ^ 64 → z ≡ ((r + 1) * a) % 2 ^ 64
 added-up r a x z e h = omega arith
+
+-- ---- line after line
+
+-- r lines are there; the next begins at byte `place`, and comes from x cells later in A, y in B
+abbrev pub LinesLaid : List ℕ → List ℕ → ℕ → Source → Source → Band → ℕ → ℕ → ℕ → ℕ → List ℕ → Type 0
+LinesLaid B work₀ at a b w r place x y work =
+    (r ≤ w .lines) × (length work ≡ length work₀) × (place ≡ at + r * lineOf w * cellBytes) × (x ≡ (r * w .a) % 2 ^ 64)
+    × (y ≡ (r * w .b) % 2 ^ 64)
+    × BandLaid B work₀ at a b w r work
+
+module _ {B work₀ : List ℕ} {at : ℕ} {a b : Source} {w : Band} where
+  pub no-line : LinesLaid B work₀ at a b w 0 at 0 0 work₀
+  no-line = (omega arith, refl, omega arith, omega arith, omega arith, λ v. lines-begin v)
+
+  module _ {r place x y : ℕ} {work : List ℕ} (l : LinesLaid B work₀ at a b w r place x y work) where
+    pub line-laid : Laying B work₀ at a b w → r < w .lines → {p u z : ℕ} {after : List ℕ}
+        → p ≡ place + lineOf w * cellBytes → u ≡ (x + w .a) % 2 ^ 64 → z ≡ (y + w .b) % 2 ^ 64 → BandLaid B work₀ at a b w (r + 1) after
+        → LinesLaid B work₀ at a b w (r + 1) p u z after
+    line-laid v less p u z done = (
+      omega arith,
+      lines-kept v (r + 1) (omega arith) (done v),
+      omega (arith, l .2),
+      added-up r (w .a) _ _ (l .3) u,
+      added-up r (w .b) _ _ (l .4) z,
+      done,
+    )
+
+    pub all-lines : w .lines ≤ r → BandLaid B work₀ at a b w (w .lines) work
+    all-lines h v =
+        let e : r ≡ w .lines = omega (arith, l .0) in
+        subst (λ (r : ℕ). CellsDone (v .asked .done) (v .k + r * lineOf w) work) e (l .5 v)
+
+    -- the next line
+    module _ (v : Laying B work₀ at a b w) (less : r < w .lines) where
+      pub next-line : LineAt v r x y
+      next-line = record { less = less; first = l .3; second = l .4 }
+
+      pub line-begins : CellsDone (v .asked .done) (v .k + (r * lineOf w + 0)) work
+      line-begins = let e : v .k + r * lineOf w ≡ v .k + (r * lineOf w + 0) = omega arith in rw e at (l .5 v)

@@ -5,7 +5,7 @@ use native.Mathlib.Omega.{arith}
 use denote.Ref.{now}
 use borrow.Author.Needs.{needs}
 use lib.Seq.{length-take-le}
-use Rattle.quick.specs.Cells.{Upto, Turn, begins, counted, place-there, first-there, second-there, no-nan, one-more}
+use Rattle.quick.specs.Cells.{Upto, Turn, begins, counted, all-counted, place-there, first-there, second-there, no-nan, one-more}
 use Rattle.quick.proofs.cells.quick_cells.Statement.{statement}
 use Rattle.quick.proofs.cells.quick_cells.Tie as tie
 
@@ -64,4 +64,4 @@ quick-cells-spec =
     (λ c. search needs) add-write-cell write-cell-requires (λ c. search needs)
     (λ c. c .before .before .before .before .before .before .before .loop .inv .ahead .long)
     (λ c. counted (c .before .before .before .before .before .before .before .loop .inv)) add-off loop-less loop-again
-    (λ c. c .before .loop .inv .ahead .long) (λ c. counted (c .before .loop .inv)))
+    (λ c. c .before .loop .inv .ahead .long) (λ c. all-counted (c .before .loop .inv) (omega (arith, c .loop-test .left))))

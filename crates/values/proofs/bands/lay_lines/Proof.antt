@@ -1,6 +1,5 @@
--- `values::bands::lay_band` meets its contract: line after line, each by three runs.
-use Prim.Native.Nat.{ℕ, _+_, _-_, _*_, _%_, _^_, _≤_}
-use mathlib.Core.Path.{_≡_, refl, subst}
+-- `values::bands::lay_lines` meets its contract: line after line, each by three runs.
+use Prim.Native.Nat.{ℕ, _+_, _-_, _*_, _≤_}
 use mathlib.Core.List.{List}
 use native.Mathlib.Omega.{arith}
 use denote.Ref.{now}
@@ -10,15 +9,13 @@ use Rattle.paper.specs.Limits.{cellBytes}
 use Rattle.rows.specs.declared.Band.{Band}
 use Rattle.rows.specs.Bands.{lineOf}
 use Rattle.values.specs.Done.{CellsDone}
-use Rattle.values.specs.Moved.{Laying, BandLaid, LineAt, lines-room, lines-few, run-asks, run-leaves, lines-begin, lines-kept, added-up}
-use Rattle.values.proofs.bands.lay_band.Statement.{statement}
-use Rattle.values.proofs.bands.lay_band.Tie as tie
+use Rattle.values.specs.Moved.{Laying, LineAt, LinesLaid, lines-room, lines-few, run-asks, run-leaves, no-line, line-laid, all-lines, next-line, line-begins}
+use Rattle.values.proofs.bands.lay_lines.Statement.{statement}
+use Rattle.values.proofs.bands.lay_lines.Tie as tie
 
 abbrev Inv-loop : tie.InvT-loop
 Inv-loop bundle work₀ at a b band lines first second third one two line r₀ place₀ x₀ y₀ work r place x y =
-    (r ≤ lines) × (length work ≡ length work₀) × (place ≡ at + r * lineOf band * cellBytes) × (x ≡ (r * band .a) % 2 ^ 64)
-    × (y ≡ (r * band .b) % 2 ^ 64)
-    × BandLaid bundle work₀ at a b band r work
+    LinesLaid bundle work₀ at a b band r place x y work
 
 abbrev μ-loop : tie.MeasureT-loop
 μ-loop bundle work₀ at a b band lines first second third one two line r₀ place₀ x₀ y₀ work r place x y = lines - r
@@ -42,9 +39,6 @@ mul-line c = let p = c .before .before .before .before .before .before .before .
 add-line : tie.Need-add-line Inv-loop μ-loop
 add-line c = let p = c .before .before .before .before .before .before .before .before in omega (arith, line-fits p, p .good)
 
-loop-holds : tie.Need-loop-holds Inv-loop μ-loop
-loop-holds c = (omega arith, refl, omega arith, omega arith, omega arith, λ v. lines-begin v)
-
 -- a turn
 module _ (c : tie.In-loop Inv-loop μ-loop) where
   abbrev start : tie.Start Inv-loop μ-loop
@@ -65,13 +59,13 @@ module _ (c : tie.In-loop Inv-loop μ-loop) where
 
   -- the line, for each run of it
   line-at : (v : Asked) → LineAt v r (c .before .loop .x) (c .before .loop .y)
-  line-at v = let l = c .before .loop .inv in record { less = c .loop-test .taken; first = l .3; second = l .4 }
+  line-at v = next-line (c .before .loop .inv) v (c .loop-test .taken)
 
   room : start .args .at + (r * lineOf w + lineOf w) * cellBytes ≤ length (now (start .args .work))
   room = lines-room (start .pre) r (c .loop-test .taken)
 
   first-begins : Upto 0 (c .before .loop .work)
-  first-begins v = let e : v .k + r * lineOf w ≡ v .k + (r * lineOf w + 0) = omega arith in rw e at (c .before .loop .inv .5 v)
+  first-begins v = line-begins (c .before .loop .inv) v (c .loop-test .taken)
 
 lay-cells-requires : tie.Need-lay-cells-requires Inv-loop μ-loop
 lay-cells-requires c κs =
@@ -158,23 +152,13 @@ loop-again : tie.Need-loop-again Inv-loop μ-loop
 loop-again c =
     let h = c .before .before .before .before in
     let i = i3 h in
-    let l = i .before .loop .inv in
-    let v = start i .pre in
-    let k = lines-kept v (r i + 1) (omega (arith, i .loop-test .taken)) (line-done h v) in
-    let x = added-up (r i) (w i .a) _ _ (l .3) (c .before .wrapping-add-usize .ensures) in
-    let y = added-up (r i) (w i .b) _ _ (l .4) (c .wrapping-add-usize2 .ensures) in
-    (omega (arith, i .loop-test .taken), k, omega (arith, l .2), x, y, line-done h)
+    line-laid (i .before .loop .inv) (start i .pre) (i .loop-test .taken) (omega arith) (c .before .wrapping-add-usize .ensures)
+    (c .wrapping-add-usize2 .ensures) (line-done h)
 
-returns : tie.Need-returns Inv-loop μ-loop
-returns c v =
-    let l = c .before .loop in
-    let b = c .before .before .before .before .before .before .before .before .before .before .args .band in
-    let e : l .r ≡ b .lines = omega (arith, l .inv .0, c .loop-test .left) in
-    subst (λ (r : ℕ). CellsDone (v .asked .done) (v .k + r * lineOf b) (l .work)) e (l .inv .5 v)
-
-pub lay-band-spec : {M : Type 1} → statement M
-lay-band-spec =
+pub lay-lines-spec : {M : Type 1} → statement M
+lay-lines-spec =
     tie.close
     (tie.spec
-    Inv-loop μ-loop mul-one mul-two add-two mul-line add-line loop-holds lay-cells-requires add-lay-run lay-run-requires add-lay-run-2
-    lay-run-requires-2 add-place (λ c κs. tt) (λ c κs. tt) add-r (λ c. search needs) loop-again (λ c. search needs) returns)
+    Inv-loop μ-loop mul-one mul-two add-two mul-line add-line (λ c. no-line) lay-cells-requires add-lay-run lay-run-requires add-lay-run-2
+    lay-run-requires-2 add-place (λ c κs. tt) (λ c κs. tt) add-r (λ c. search needs) loop-again (λ c. search needs)
+    (λ c. all-lines (c .before .loop .inv) (omega (arith, c .loop-test .left))))
