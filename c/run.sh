@@ -31,7 +31,7 @@ prints() {
 # three BEFORE..: the three runs, each after the words BEFORE: none, or valgrind's.
 three() {
     prints crates/rests/stdout "$@" "$built/example" example
-    prints crates/rests_no_shift/stdout "$@" "$built/example" example/no-shift
+    prints example/no-shift/stdout "$@" "$built/example" example/no-shift
     prints "$built/asked" "$@" "$built/example"
 }
 

@@ -1,6 +1,6 @@
 #!/usr/bin/env python3
-"""Writes paper 01's example, "Eleven hours, whole": roster.rma and recipe.bin for the programs `rests` (here and in its data/) and
-`rests_no_shift` (the same without the shift). Run it in this folder; it takes no argument."""
+"""Writes paper 01's example, "Eleven hours, whole": roster.rma and recipe.bin for the program `rests` (its data/, which this folder shows),
+and in no-shift/ the recipe that forgot the shift. Run it in this folder; it takes no argument."""
 import struct
 
 STAR = (-1000000, 1000000)
@@ -37,7 +37,7 @@ def rests_below_660(starts, ends, rests):
 
 recipe = next_starts + moved + ends + rests_below_660(STEP + 2, STEP + 3, STEP + 4)
 no_shift = next_starts + ends + rests_below_660(STEP + 1, STEP + 2, STEP + 3)
-for folder, steps in ("../crates/rests/data", recipe), ("../crates/rests_no_shift/data", no_shift):
-    for name, content in ("roster.rma", roster), ("recipe.bin", steps):
-        with open(folder + "/" + name, "wb") as file:
-            file.write(content)
+data = "../crates/rests/data/"
+for path, content in (data + "roster.rma", roster), (data + "recipe.bin", recipe), ("no-shift/recipe.bin", no_shift):
+    with open(path, "wb") as file:
+        file.write(content)

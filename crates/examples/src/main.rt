@@ -1,16 +1,52 @@
-// The examples of the report's clauses 5 and 6, and the papers' cases of trims, glued arrays and numbers: a line says which it is, and
-// what the engine gave.
-// `ask` has the calls, `say` the printing; each other module is a story. The other stories are those of the program `calls`.
+// The printed examples of the report and the papers, run. Standard input has them as a script, a line a command, that says what to print
+// and what to call; what the calls give is printed beside it. A new case is a line of the script and one of what it must print.
 mod ask;
-mod created;
-mod kernels;
-mod numbers;
-mod planes;
-mod say;
+mod obey;
+
+use crate::obey::obey;
+use libc::STDIN_FILENO;
+use script::desk::BUNDLE;
+use script::desk::CELLS;
+use script::desk::HEADS;
+use script::desk::STEPS;
+use script::desk::blank;
+use script::line::ARGS;
+use script::line::read_line;
+use script::parts::first;
+
+// Room for the script.
+const SCRIPT: usize = 16384;
+
+// Each line of the script in turn.
+fn follow(script: &[u8]) {
+    let mut args = [0u64; ARGS];
+    let mut kinds = [0u8; ARGS];
+    let mut heads = [0u8; HEADS];
+    let mut cells = [0u8; CELLS];
+    let mut steps = [0u8; STEPS];
+    let mut bundle = [0u8; BUNDLE];
+    let mut desk = blank();
+    let mut at: usize = 0;
+    while at < script.len() {
+        let line = read_line(script, at, &mut args, &mut kinds);
+        desk = obey(
+            desk,
+            &script[at..],
+            line.next - at,
+            line.count,
+            &args,
+            &kinds,
+            &mut heads,
+            &mut cells,
+            &mut steps,
+            &mut bundle,
+        );
+        at = line.next;
+    }
+}
 
 fn main() {
-    created::show();
-    kernels::show();
-    planes::show();
-    numbers::show();
+    let mut script = [0u8; SCRIPT];
+    let n = io::read_full(STDIN_FILENO, &mut script);
+    follow(first(&script, n));
 }
