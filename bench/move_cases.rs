@@ -146,9 +146,10 @@ fn thin() -> Vec<Case> {
     ]
 }
 
-/// Starts and ends of everybody's turns in minutes, one turn in sixteen not entered; a rest is 400 to 999 minutes.
-fn roster() -> [Cells; 2] {
-    let mut random = Random(88172645463325252);
+/// Starts and ends of everybody's turns in minutes, one turn in sixteen not entered; a rest is 400 to 999 minutes. Other numbers, other
+/// rosters.
+fn roster(number: u64) -> [Cells; 2] {
+    let mut random = Random(88172645463325252 ^ number);
     let mut roster = [vec![], vec![]];
     for _ in 0..SIDE {
         let mut now = 0;
@@ -164,8 +165,8 @@ fn roster() -> [Cells; 2] {
 }
 
 /// Whose rest before the next turn is below eleven hours: the next turns' starts are moved onto the turns before them.
-fn eleven_hours(name: &'static str, program: fn(&Arrays, &mut Hours)) -> Case {
-    let [a, b] = roster();
+fn eleven_hours(name: &'static str, program: fn(&Arrays, &mut Hours), number: u64) -> Case {
+    let [a, b] = roster(number);
     let bundle = [b"RMA\x01\x00\x02".to_vec(), array(&[WHO, TURN], &a), array(&[WHO, TURN], &b)].concat();
     let below = [&[8, 0, 0, 0][..], &660i64.to_le_bytes()].concat();
     let recipe = [
@@ -184,8 +185,13 @@ fn eleven_hours(name: &'static str, program: fn(&Arrays, &mut Hours)) -> Case {
 /// All cases; no name is the beginning of another.
 pub fn all() -> Vec<Case> {
     let recipes = [
-        eleven_hours("eleven hours, the whole recipe", plain::eleven_hours),
-        eleven_hours("eleven hours, beside ready vectors", plain::eleven_hours_ready),
+        eleven_hours("eleven hours, the whole recipe", plain::eleven_hours, 0),
+        eleven_hours("eleven hours, beside ready vectors", plain::eleven_hours_ready, 0),
     ];
     [of_one(), of_two(), thin(), recipes.into()].into_iter().flatten().collect()
+}
+
+/// The eleven-hours recipe on so many rosters: called in turn, so that no call finds the blanks where the last one had them.
+pub fn rosters(count: u64) -> Vec<Case> {
+    (0..count).map(|number| eleven_hours("eleven hours, 64 rosters in turn", plain::eleven_hours, number)).collect()
 }

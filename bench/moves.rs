@@ -171,6 +171,18 @@ fn write_files(folder: &str, case: &Case, result: &[u8]) {
     }
 }
 
+/// The recipe on many rosters in turn: a round is one call on each, and its time is told for a call.
+fn time_in_turn(rounds: u32, rosters: &[Case], kept: &mut Kept) {
+    let cells = rosters.iter().map(|case| compare(case, kept).len() / 9).max().unwrap_or(0);
+    let mut timed = |call: Call| {
+        let start = Instant::now();
+        rosters.iter().for_each(|case| call(case, kept));
+        start.elapsed().as_nanos() as f64 / 1000.0 / rosters.len() as f64
+    };
+    let times: Vec<[Times; 2]> = (0..rounds).map(|_| [engine_once, plain_once].map(|call: Call| [timed(call), 0.0])).collect();
+    print_times(&rosters[0], cells, &times);
+}
+
 fn time_rounds(rounds: u32, reps: u32, cases: &[Case], cells: &[usize], kept: &mut Kept) {
     let mut times = vec![vec![]; cases.len()];
     for _ in 0..rounds {
@@ -198,5 +210,9 @@ fn main() {
         cases.iter().for_each(|case| count(&which, case, &mut kept));
     } else if !cases.is_empty() {
         time_rounds(arg(1, 60).max(1), arg(2, 10).max(1), &cases, &cells, &mut kept);
+        let rosters: Vec<Case> = move_cases::rosters(64).into_iter().filter(chosen).collect();
+        if !rosters.is_empty() {
+            time_in_turn(arg(1, 60).max(1), &rosters, &mut kept);
+        }
     }
 }

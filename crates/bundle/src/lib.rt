@@ -26,7 +26,6 @@ use refusals::refuse_at;
 use shape::empty;
 
 pub mod axes;
-pub mod judged;
 pub mod mark;
 
 // An array read: its head, and the byte after it.

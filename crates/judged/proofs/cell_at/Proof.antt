@@ -1,10 +1,10 @@
--- `bundle::judged::cell_at` meets its contract: what reading the cell tells.
+-- `judged::cell_at` meets its contract: what reading the cell tells.
 use mathlib.Core.Path.{sym, ap, _∙_}
 use Rattle.laws.specs.Judged.{is?}
 use Rattle.cell.specs.Reads.{told}
 use borrow.Author.Needs.{needs}
-use Rattle.bundle.proofs.judged.cell_at.Statement.{statement}
-use Rattle.bundle.proofs.judged.cell_at.Tie as tie
+use Rattle.judged.proofs.cell_at.Statement.{statement}
+use Rattle.judged.proofs.cell_at.Tie as tie
 
 returns : tie.Need-returns
 returns c = ap is? (sym (ap told (c .enum-told .given .1)) ∙ c .before .before .read-cell .ensures)
