@@ -1,5 +1,5 @@
 -- Cells seen without a branch: marks and numbers of some cells joined bit by bit. What the joined figures rule out, each cell's rule out.
-use Prim.Native.Nat.{ℕ, zero, suc, _+_, _-_, _*_, _%_, _^_, _≤_, _<_}
+use Prim.Native.Nat.{ℕ, zero, suc, _+_, _-_, _*_, _/_, _%_, _^_, _≤_, _<_}
 use mathlib.Core.Path.{_≡_, refl, sym, ap, _∙_}
 use mathlib.Core.Bool.{Bool, true, false, _&&_}
 use mathlib.Core.List.{List}
@@ -33,6 +33,10 @@ pub record FourAt (t : ℕ) (s : List ℕ) (at : ℕ) : Type 0 where
   pub two : isCell t s (at + cellBytes)
   pub three : isCell t s (at + 2 * cellBytes)
   pub four : isCell t s (at + 3 * cellBytes)
+
+pub record EightAt (t : ℕ) (s : List ℕ) (at : ℕ) : Type 0 where
+  pub first : FourAt t s at
+  pub second : FourAt t s (at + 4 * cellBytes)
 
 -- i of n cells are cells: the first that is none is among the others
 pub record Ahead (t : ℕ) (s : List ℕ) (at n i : ℕ) : Type 0 where
@@ -99,22 +103,22 @@ both-sound a b v = (
   },
 )
 
-pub sound-told : (l : Look) → ((leb (l .marks) 1 && eqb (l .left) 0) && l .fit) ≡ true → Sound l
+pub sound-told : (l : Look) → (eqb (bitOr (l .marks / 2) (l .left)) 0 && l .fit) ≡ true → Sound l
 sound-told l e =
-    let f = and-left (leb (l .marks) 1 && eqb (l .left) 0) (l .fit) e in
+    let none : bitOr (l .marks / 2) (l .left) ≡ 0 = eqb-true _ _ (and-left (eqb (bitOr (l .marks / 2) (l .left)) 0) (l .fit) e) in
     record {
-      marked = leb-true _ _ (and-left (leb (l .marks) 1) _ f);
-      none-left = eqb-true _ _ (and-right (leb (l .marks) 1) _ f);
-      fits = and-right (leb (l .marks) 1 && eqb (l .left) 0) (l .fit) e;
+      marked = omega (arith, none, or-left (l .marks / 2) (l .left));
+      none-left = omega (arith, none, or-right (l .marks / 2) (l .left));
+      fits = and-right (eqb (bitOr (l .marks / 2) (l .left)) 0) (l .fit) e;
     }
 
--- ---- four, and so on
+-- ---- four, eight, and so on
 
 module _ (t : ℕ) (s : List ℕ) (at n : ℕ) where
   pub none-ahead : Ahead t s at n 0
   none-ahead = record { few = omega arith; left = bad-start s at t n }
 
-  pub four-ahead : (i : ℕ) → i + 4 ≤ n → Ahead t s at n i → FourAt t s (at + i * cellBytes) → Ahead t s at n (i + 4)
+  four-ahead : (i : ℕ) → i + 4 ≤ n → Ahead t s at n i → FourAt t s (at + i * cellBytes) → Ahead t s at n (i + 4)
   four-ahead i h a f =
       let e : at + (i + 1) * cellBytes ≡ at + i * cellBytes + cellBytes = omega arith in
       let g : at + (i + 1 + 1) * cellBytes ≡ at + i * cellBytes + 2 * cellBytes = omega arith in
@@ -129,3 +133,9 @@ module _ (t : ℕ) (s : List ℕ) (at n : ℕ) where
             ∙ bad-more s at t n i (omega arith) (f .one)
             ∙ a .left);
       }
+
+  pub eight-ahead : (k : ℕ) → k * 8 + 8 ≤ n → Ahead t s at n (k * 8) → EightAt t s (at + k * 8 * cellBytes) → Ahead t s at n ((k + 1) * 8)
+  eight-ahead k h a e =
+      let p : at + (k * 8 + 4) * cellBytes ≡ at + k * 8 * cellBytes + 4 * cellBytes = omega arith in
+      let q : k * 8 + 4 + 4 ≡ (k + 1) * 8 = omega arith in
+      rw q at (four-ahead (k * 8 + 4) (omega arith) (four-ahead (k * 8) (omega arith) a (e .first)) (rw p (e .second)))

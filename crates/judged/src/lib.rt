@@ -1,4 +1,4 @@
-// An array's cells judged: four at a time while all are cells, without a branch on what they hold, so that blanks among them cost no time;
+// An array's cells judged: eight at a time while all are cells, without a branch on what they hold, so that blanks among them cost no time;
 // then one after the other up to the first that is none.
 ghost use mathlib.Core.Bool.{true};
 ghost use mathlib.Core.Path.{_≡_};
@@ -8,7 +8,7 @@ ghost use Rattle.paper.specs.Limits.{cellBytes};
 ghost use Rattle.paper.specs.Numbers.{part};
 ghost use Rattle.paper.specs.Cells.{cellOf, filled};
 ghost use Rattle.laws.specs.Judged.{is?, firstBad};
-ghost use Rattle.judged.specs.Looks.{Sound, FourAt, Ahead};
+ghost use Rattle.judged.specs.Looks.{Sound, FourAt, EightAt, Ahead};
 use cell::bytes::Got;
 use cell::bytes::read_cell;
 use cell::bytes::word;
@@ -73,39 +73,48 @@ fn joined(a: Look, b: Look) -> Look
     }
 }
 
-// All of them are cells.
+// All of them are cells: no mark is over 1, and nothing is left of a number.
 fn is_sound(l: Look) -> bool
     ensures { λ r. ⌜ (r ≡ true → Sound l) ⌝ }
 {
-    (l.marks <= 1) & (l.left == 0) & l.fit
+    ((l.marks / 2 | l.left) == 0) & l.fit
 }
 
-// The four cells from `at` on are cells of the type `kind`.
-fn four_at(s: &[u8], at: usize, kind: u8) -> bool
+// The four cells from `at` on.
+fn four_at(s: &[u8], at: usize, kind: u8) -> Look
     requires { ⌜ at + 4 * cellBytes ≤ length (now s) ⌝ }
-    ensures { λ r. ⌜ (r ≡ true → FourAt kind (now (s .entry)) at) ⌝ }
+    ensures { λ r. ⌜ (Sound r → FourAt kind (now (s .entry)) at) ⌝ }
 {
     let first = joined(look_at(s, at, kind), look_at(s, at + CELL_BYTES, kind));
     let second = joined(
         look_at(s, at + 2 * CELL_BYTES, kind),
         look_at(s, at + 3 * CELL_BYTES, kind),
     );
-    is_sound(joined(first, second))
+    joined(first, second)
 }
 
-// How many of n cells from `at` on are cells, in fours, up to one that may be none.
-fn fours_ahead(s: &[u8], at: usize, kind: u8, n: usize) -> usize
+// The eight cells from `at` on are cells of the type `kind`.
+fn eight_at(s: &[u8], at: usize, kind: u8) -> bool
+    requires { ⌜ at + 8 * cellBytes ≤ length (now s) ⌝ }
+    ensures { λ r. ⌜ (r ≡ true → EightAt kind (now (s .entry)) at) ⌝ }
+{
+    is_sound(joined(four_at(s, at, kind), four_at(s, at + 4 * CELL_BYTES, kind)))
+}
+
+// How many of n cells from `at` on are cells, in eights, up to one that may be none.
+fn eights_ahead(s: &[u8], at: usize, kind: u8, n: usize) -> usize
     requires { ⌜ at + n * cellBytes ≤ length (now s) ⌝ }
     ensures { λ r. ⌜ Ahead kind (now (s .entry)) at n r ⌝ }
 {
-    let mut i: usize = 0;
-    while i + 3 < n {
-        if !four_at(s, at + i * CELL_BYTES, kind) {
-            return i;
+    let turns = n / 8;
+    let mut t: usize = 0;
+    while t < turns {
+        if !eight_at(s, at + t * 8 * CELL_BYTES, kind) {
+            return t * 8;
         }
-        i += 4;
+        t += 1;
     }
-    i
+    t * 8
 }
 
 // The same, with a loop of its own for each type: the compiler then has no test of it in the loop.
@@ -114,9 +123,9 @@ fn ahead(s: &[u8], at: usize, kind: u8, n: usize) -> usize
     ensures { λ r. ⌜ Ahead kind (now (s .entry)) at n r ⌝ }
 {
     match kind {
-        1 => fours_ahead(s, at, 1, n),
-        2 => fours_ahead(s, at, 2, n),
-        3 => fours_ahead(s, at, 3, n),
+        1 => eights_ahead(s, at, 1, n),
+        2 => eights_ahead(s, at, 2, n),
+        3 => eights_ahead(s, at, 3, n),
         _ => 0,
     }
 }

@@ -9,6 +9,6 @@ pub ahead-spec : {M : Type 1} → statement M
 ahead-spec =
     tie.close
     (tie.spec
-    (λ c κs. search needs) (λ c κs. search needs) (λ c κs. search needs) (λ c. rw (c .before .match .keys1) (c .fours-ahead .ensures))
-    (λ c. rw (c .before .match .keys2) (c .fours-ahead2 .ensures)) (λ c. rw (c .before .match .keys3) (c .fours-ahead3 .ensures))
+    (λ c κs. search needs) (λ c κs. search needs) (λ c κs. search needs) (λ c. rw (c .before .match .keys1) (c .eights-ahead .ensures))
+    (λ c. rw (c .before .match .keys2) (c .eights-ahead2 .ensures)) (λ c. rw (c .before .match .keys3) (c .eights-ahead3 .ensures))
     (λ c. let a = c .before .before .args in none-ahead (a .kind) (now (a .s)) (a .at) (a .n)))
