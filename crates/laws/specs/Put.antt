@@ -1,11 +1,12 @@
 -- Bytes put into a buffer at a place, and what writers cite: two parts put one after the other are put as one, and a buffer keeps its
--- length. A loop that copies keeps it true that what is left, put where it now stands, gives what the whole gave at the start.
+-- length; bytes copied twice are copied. A loop that copies keeps it true that what is left, put where it now stands, gives what the whole
+-- gave at the start.
 use Prim.Native.Nat.{ℕ, suc, _+_, _-_, _≤_, _<_}
 use mathlib.Core.Path.{_≡_, refl, sym, ap, _∙_}
 use mathlib.Core.List.{List, [], _∷_, _++_, append-assoc, append-nil}
 use native.Mathlib.Omega.{arith}
 use lib.ListN.{length, getD, take, drop, set, length-append, length-drop, take-append-drop}
-use lib.Seq.{length-take-le, take-at, drop-at, drop-drop, drop-cons, sets-eq}
+use lib.Seq.{length-take-le, take-at, drop-at, drop-drop, drop-cons, sets-eq, take-add}
 use Rattle.paper.specs.Numbers.{part}
 
 -- x stands in d from byte `at` on; the rest stays
@@ -26,13 +27,30 @@ module _ (d : List ℕ) (at : ℕ) (x : List ℕ) (h : at + length x ≤ length 
   pub length-put : length (put d at x) ≡ length d
   length-put = length-append (take at d ++ x) (drop (at + length x) d) ∙ omega (arith, front, length-drop (at + length x) d)
 
+  -- what stands before and behind is as it was
+  pub before-put : take at (put d at x) ≡ take at d
+  before-put =
+      ap (take at) (append-assoc (take at d) x (drop (at + length x) d))
+      ∙ take-at (take at d) (x ++ drop (at + length x) d) at (length-take-le at d (omega arith))
+
+  behind-put : (n : ℕ) → drop (at + length x + n) (put d at x) ≡ drop (at + length x + n) d
+  behind-put n =
+      sym (drop-drop n (at + length x) (put d at x))
+      ∙ ap (drop n) (drop-at (take at d ++ x) (drop (at + length x) d) _ front)
+      ∙ drop-drop n (at + length x) d
+
   -- one part after the other
   pub put-put : (n : ℕ) (y : List ℕ) → n ≡ at + length x → put (put d at x) n y ≡ put d at (x ++ y)
   put-put n y e =
       let f : at + length (x ++ y) ≡ at + length x + length y = omega (arith, length-append x y) in
       let t : take (at + length x) (put d at x) ≡ take at d ++ x = take-at (take at d ++ x) (drop (at + length x) d) _ front in
-      let r : drop (at + length x) (put d at x) ≡ drop (at + length x) d = drop-at (take at d ++ x) (drop (at + length x) d) _ front in
-      rw (e, f, t, append-assoc (take at d) x y, ← drop-drop (length y) (at + length x) (put d at x), r, drop-drop (length y) (at + length x) d)
+      rw (e, f, t, append-assoc (take at d) x y, behind-put (length y))
+
+  -- a part at the same place, over one that is no longer
+  put-again : (y : List ℕ) → length x ≤ length y → put (put d at x) at y ≡ put d at y
+  put-again y l =
+      let n : at + length y ≡ at + length x + (length y - length x) = omega arith in
+      rw (before-put, n, behind-put (length y - length x))
 
 -- a part after another, each put by a call of its own
 pub after : (d : List ℕ) (at : ℕ) (x w y z : List ℕ) (n : ℕ) → at + length x ≤ length d → n ≡ at + length x → y ≡ put d at x → z ≡ put y n w
@@ -40,6 +58,33 @@ pub after : (d : List ℕ) (at : ℕ) (x w y z : List ℕ) (n : ℕ) → at + le
 after d at x w y z n h e p q = q ∙ ap (λ (u : List ℕ). put u n w) p ∙ put-put d at x h n w e
 
 -- ---- bytes copied from another buffer
+
+-- n bytes, and those after them
+pub part-add : (s : List ℕ) (from n m : ℕ) → part from (n + m) s ≡ part from n s ++ part (from + n) m s
+part-add s from n m = take-add n m (drop from s) ∙ ap (λ (l : List ℕ). part from n s ++ take m l) (drop-drop n from s)
+
+pub length-part : (s : List ℕ) (from n : ℕ) → from + n ≤ length s → length (part from n s) ≡ n
+length-part s from n h = length-take-le n (drop from s) (omega (arith, length-drop from s))
+
+-- w bytes are copied, then m from byte n on, which is not behind their end, by a call each: all k are there
+pub copied : (s : List ℕ) (from : ℕ) (d : List ℕ) (at n w m k : ℕ) {d₁ d₂ : List ℕ} → k ≡ n + m → n ≤ w → w ≤ k → from + k ≤ length s
+    → at + k ≤ length d → d₁ ≡ put d at (part from w s) → d₂ ≡ put d₁ (at + n) (part (from + n) m s) → d₂ ≡ put d at (part from k s)
+copied s from d at n w m k e a b hs hd p q =
+    let x = part from n s in
+    let y = part (from + n) (w - n) s in
+    let z = part (from + n) m s in
+    let lx = length-part s from n (omega arith) in
+    let ly = length-part s (from + n) (w - n) (omega arith) in
+    let lz = length-part s (from + n) m (omega arith) in
+    let f : w ≡ n + (w - n) = omega arith in
+    let h : at + length x ≤ length d = omega arith in
+    let g : at + n ≡ at + length x = omega arith in
+    let r : part from w s ≡ x ++ y = ap (λ (v : ℕ). part from v s) f ∙ part-add s from n (w - n) in
+    let u = p ∙ ap (put d at) r ∙ sym (put-put d at x h (at + n) y g) in
+    q ∙ ap (λ (v : List ℕ). put v (at + n) z) u
+    ∙ put-again (put d at x) (at + n) y (omega (arith, length-put d at x h)) z (omega arith)
+    ∙ put-put d at x h (at + n) z g
+    ∙ ap (put d at) (sym (ap (λ (v : ℕ). part from v s) e ∙ part-add s from n m))
 
 -- k of n bytes are copied
 pub record Copying (s : List ℕ) (from : ℕ) (d₀ : List ℕ) (at n : ℕ) (d : List ℕ) (k : ℕ) : Type 0 where

@@ -8,12 +8,12 @@ use native.Mathlib.Numerals.{add-one}
 use native.Mathlib.Omega.{arith}
 use borrow.Author.Tests.{eq-eqb, ne-eqb}
 use lib.Dec.{eqb}
-use lib.ListN.{length, getD, take, drop, replicate, length-take, length-drop, replicate-append-replicate}
-use lib.Seq.{take-add, drop-drop, drop-cons, length-take-le}
+use lib.ListN.{length, getD, take, drop, replicate, length-take, replicate-append-replicate}
+use lib.Seq.{drop-cons}
 use Rattle.paper.specs.Limits.{cellBytes, wordBytes}
 use Rattle.paper.specs.Refusals.{if_then_else_}
 use Rattle.paper.specs.Numbers.{part, leOf, leBytes}
-use Rattle.laws.specs.Put.{put, put-none}
+use Rattle.laws.specs.Put.{put, put-none, before-put, part-add, length-part, copied}
 use Rattle.laws.specs.Numbers.{Bytes, leBytes-leOf, bytes-take, bytes-drop}
 use Rattle.positions.specs.Runs.{part-part}
 use Rattle.quick.specs.declared.operands.Source.{Source}
@@ -22,6 +22,31 @@ use Rattle.origin.specs.declared.Origin.{Origin}
 use Rattle.origin.specs.declared.Origin.the-variants.{Nowhere, FromA, FromB}
 use Rattle.rows.specs.declared.Run.{Run}
 use Rattle.rows.specs.Bands.{onward}
+
+-- a row of cells is copied by whole turns of so many bytes, then its last cells one by one
+abbrev pub turnBytes : ℕ
+turnBytes = 32
+
+abbrev pub lastCells : ℕ
+lastCells = 4
+
+-- ---- bytes copied on in their own buffer
+
+-- a part that ends among the first w bytes
+pub part-take : (s : List ℕ) (w i n : ℕ) → i + n ≤ w → part i n (take w s) ≡ part i n s
+part-take s w i n h = let z : 0 + i ≡ i = omega arith in part-part s 0 w i n h ∙ ap (λ (j : ℕ). part j n s) z
+
+-- w bytes are copied, then m from byte n on, which is not behind their end: the first copy left these as they were
+pub copied-on : (d : List ℕ) (from at n w m k : ℕ) {d₁ d₂ : List ℕ} → k ≡ n + m → n ≤ w → w ≤ k → from + k ≤ at → at + k ≤ length d
+    → d₁ ≡ put d at (part from w d) → d₂ ≡ put d₁ (at + n) (part (from + n) m d₁) → d₂ ≡ put d at (part from k d)
+copied-on d from at n w m k {d₁} e a b h l p q =
+    let x = part from w d in
+    let t : take at d₁ ≡ take at d = ap (take at) p ∙ before-put d at x (omega (arith, length-part d from w (omega arith))) in
+    let r : part (from + n) m d₁ ≡ part (from + n) m d =
+    sym (part-take d₁ at (from + n) m (omega arith)) ∙ ap (part (from + n) m) t ∙ part-take d at (from + n) m (omega arith) in
+    copied d from d at n w m k e a b (omega arith) l p (q ∙ ap (put d₁ (at + n)) r)
+
+-- ---- cells of an operand
 
 -- n cells of an operand, from its cell i on
 abbrev pub spanOf : List ℕ → List ℕ → Source → ℕ → ℕ → List ℕ
@@ -57,9 +82,8 @@ module _ (B D : List ℕ) where
       let p = f .at + i * cellBytes in
       let e : suc n * cellBytes ≡ cellBytes + n * cellBytes = omega arith in
       let q : p + cellBytes ≡ f .at + (i + 1) * cellBytes = omega arith in
-      ap (λ (m : ℕ). take m (drop p bs)) e
-      ∙ take-add cellBytes (n * cellBytes) (drop p bs)
-      ∙ ap (λ (l : List ℕ). part p cellBytes bs ++ take (n * cellBytes) l) (drop-drop cellBytes p bs)
+      ap (λ (m : ℕ). part p m bs) e
+      ∙ part-add bs p cellBytes (n * cellBytes)
       ∙ ap (λ (j : ℕ). part p cellBytes bs ++ part j (n * cellBytes) bs) q
 
   pub run-more : (a b : Source) (o : Origin) (n : ℕ)
@@ -114,19 +138,19 @@ module _ {B work : List ℕ} {at : ℕ} {f : Source} {i n : ℕ} (v : Brings B w
     pub ends-before : start + n * cellBytes ≤ at
     ends-before = omega (arith, before, v .low)
 
-    pub brought-on : part start (n * cellBytes) work ≡ spanOf B (take (v .base) work) f i n
-    brought-on =
-        let z : 0 + start ≡ start = omega arith in
-        rw (eq-eqb (f .which) workSide e)
-        (ap (λ (j : ℕ). part j (n * cellBytes) work) (sym z) ∙ sym (part-part work 0 (v .base) start (n * cellBytes) before))
+    pub brought-on : {after : List ℕ} → after ≡ put work at (part start (n * cellBytes) work)
+        → after ≡ put work at (spanOf B (take (v .base) work) f i n)
+    brought-on q =
+        q ∙ ap (put work at) (rw (eq-eqb (f .which) workSide e) (sym (part-take work (v .base) start (n * cellBytes) before)))
 
   -- in the bundle
   module _ (e : f .which ≡ workSide → ⊥) where
     pub lies-there : start + n * cellBytes ≤ length B
     lies-there = let h = rw (ne-eqb (f .which) workSide e) at (v .there) in omega (arith, h)
 
-    pub brought-over : part start (n * cellBytes) B ≡ spanOf B (take (v .base) work) f i n
-    brought-over = rw (ne-eqb (f .which) workSide e)
+    pub brought-over : {after : List ℕ} → after ≡ put work at (part start (n * cellBytes) B)
+        → after ≡ put work at (spanOf B (take (v .base) work) f i n)
+    brought-over q = rw (ne-eqb (f .which) workSide e) q
 
 -- a run laid down: none of its cells, empty ones, A's cells, B's
 module _ {B work : List ℕ} {at : ℕ} {a b : Source} {run : Run} {x y : ℕ} (v : Lays B work at a b run x y) where
@@ -163,7 +187,7 @@ pub nine-bytes : (s : List ℕ) (i : ℕ) → Bytes s → i + cellBytes ≤ leng
     → getD s i 0 ∷ leBytes wordBytes (leOf (part (i + 1) wordBytes s)) ≡ part i cellBytes s
 nine-bytes s i h l =
     let w = part (i + 1) wordBytes s in
-    let n : length w ≡ wordBytes = length-take-le wordBytes (drop (i + 1) s) (omega (arith, length-drop (i + 1) s)) in
+    let n = length-part s (i + 1) wordBytes (omega arith) in
     let e : leBytes wordBytes (leOf w) ≡ w =
     ap (λ (m : ℕ). leBytes m (leOf w)) (sym n) ∙ leBytes-leOf w (bytes-take wordBytes (drop (i + 1) s) (bytes-drop (i + 1) s h)) in
     ap (λ (q : List ℕ). getD s i 0 ∷ q) e

@@ -25,7 +25,7 @@ fn lay_lines(bundle: &[u8], work: &mut [u8], at: usize, a: Source, b: Source, ba
     let mut x: usize = 0;
     let mut y: usize = 0;
     while r < lines {
-        lay_cells(bundle, work, place, a, b, first, x, y);
+        lay_cells(bundle, work, place, a, b, first, x, y, false);
         lay_run(bundle, work, place + one, a, b, second, x, y);
         lay_run(bundle, work, place + two, a, b, third, x, y);
         place += line;
@@ -49,7 +49,7 @@ fn lay_one_run(bundle: &[u8], work: &mut [u8], at: usize, a: Source, b: Source, 
     let mut later_a: usize = 0;
     let mut later_b: usize = 0;
     while r < lines {
-        lay_cells(bundle, work, place, a, b, run, later_a, later_b);
+        lay_cells(bundle, work, place, a, b, run, later_a, later_b, true);
         place += line;
         later_a = std::num::wrapping_add_usize(later_a, band.a);
         later_b = std::num::wrapping_add_usize(later_b, band.b);

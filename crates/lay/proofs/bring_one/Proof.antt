@@ -1,12 +1,10 @@
 -- `lay::bring_one` meets its contract: from the work area, or from the bundle.
 use Prim.Native.Nat.{_+_, _*_, _^_, _<_}
-use mathlib.Core.Path.{ap, _∙_}
 use native.Mathlib.Omega.{arith}
 use denote.Ref.{now}
 use borrow.Author.Needs.{needs}
 use lib.ListN.{take, length-take}
 use Rattle.paper.specs.Limits.{cellBytes}
-use Rattle.laws.specs.Put.{put}
 use Rattle.quick.specs.Operands.{bytes-most}
 use Rattle.lay.specs.Lay.{ends-before, brought-on, lies-there, brought-over}
 use Rattle.lay.proofs.bring_one.Statement.{statement}
@@ -32,10 +30,7 @@ nine-on-requires c κs =
     (ends-before (p .pre) (c .before .if1 .taken), p .pre .room)
 
 returns : tie.Need-returns
-returns c v =
-    let h = c .before .before in
-    let p = h .before .before .before .before .before .before .before in
-    h .nine-on .ensures ∙ ap (put (now (p .args .work)) (p .args .at)) (brought-on v (h .before .before .if1 .taken))
+returns c v = let h = c .before .before in brought-on v (h .before .before .if1 .taken) (h .nine-on .ensures)
 
 copy-nine-requires : tie.Need-copy-nine-requires
 copy-nine-requires c κs =
@@ -43,10 +38,7 @@ copy-nine-requires c κs =
     (lies-there (p .pre) (c .before .if1 .left), p .pre .room)
 
 returns-2 : tie.Need-returns-2
-returns-2 c v =
-    let h = c .before .before in
-    let p = h .before .before .before .before .before .before .before in
-    h .copy-nine .ensures ∙ ap (put (now (p .args .work)) (p .args .at)) (brought-over v (h .before .before .if1 .left))
+returns-2 c v = let h = c .before .before in brought-over v (h .before .before .if1 .left) (h .copy-nine .ensures)
 
 pub bring-one-spec : {M : Type 1} → statement M
 bring-one-spec =

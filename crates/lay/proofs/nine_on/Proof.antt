@@ -8,11 +8,10 @@ use borrow.Author.Needs.{needs}
 use lib.ListN.{length, getD, take}
 use lib.Seq.{length-take-le}
 use Rattle.paper.specs.Limits.{wordBytes, cellBytes}
-use Rattle.paper.specs.Numbers.{part, leBytes}
+use Rattle.paper.specs.Numbers.{leBytes}
 use Rattle.laws.specs.Numbers.{Bytes, bytes-take}
 use Rattle.laws.specs.Put.{put}
-use Rattle.positions.specs.Runs.{part-part}
-use Rattle.lay.specs.Lay.{nine-bytes}
+use Rattle.lay.specs.Lay.{part-take, nine-bytes}
 use Rattle.lay.proofs.nine_on.Statement.{statement}
 use Rattle.lay.proofs.nine_on.Tie as tie
 
@@ -30,11 +29,6 @@ module _ (c : tie.After-slice-known) where
   bytes : Bytes (take at d)
   bytes = bytes-take at d (λ i. omega (arith, c .slice-known .given i))
 
-  part-before : part (c .before .args .from) cellBytes (take at d) ≡ part (c .before .args .from) cellBytes d
-  part-before =
-      let z : 0 + c .before .args .from ≡ c .before .args .from = omega arith in
-      part-part d 0 at (c .before .args .from) cellBytes (c .before .pre .0) ∙ ap (λ (j : ℕ). part j cellBytes d) z
-
 returns : tie.Need-returns
 unfolding leBytes
 returns c =
@@ -45,7 +39,7 @@ returns c =
     h .put9 .ensures
     ∙ ap (put (now (s .args .d)) (s .args .at))
     (ap (λ (n : ℕ). getD (take (at f) (d f)) i 0 ∷ leBytes wordBytes n) (h .before .before .word .ensures)
-    ∙ nine-bytes (take (at f) (d f)) i (bytes f) (omega (arith, long f, s .pre .0)) ∙ part-before f)
+    ∙ nine-bytes (take (at f) (d f)) i (bytes f) (omega (arith, long f, s .pre .0)) ∙ part-take (d f) (at f) i cellBytes (s .pre .0))
 
 pub nine-on-spec : {M : Type 1} → statement M
 nine-on-spec =
