@@ -25,7 +25,7 @@ use Rattle.paper.specs.Listing.{resultBytes, bytesOfAll}
 use Rattle.laws.specs.Late.{Either, values-late}
 use Rattle.positions.specs.Runs.{part-part}
 use Rattle.quick.specs.declared.operands.Pairing.{Pairing}
-use Rattle.quick.specs.Cells.{answerAt, Workable, WorkedOut}
+use Rattle.quick.specs.Cells.{answerAt, Workable, WorkedOut, Ahead}
 use Rattle.recipe.specs.declared.Plan.{Plan}
 use Rattle.recipe.specs.Whole.{stepsOf}
 use Rattle.values.specs.declared.Turn.{Turn}
@@ -174,6 +174,15 @@ module _ {B bs W : List ℕ} {t : Turn} (a : Asked B bs W t) (w : Work) (e : t .
   fills (suc k) work l x =
       let f = fills k (x .work) (omega arith) (x .sofar) in
       rw (← add-one k) (worked-on (a .in-turn) f w e q z (omega arith) (answerAt B (take (t .result .at) (x .work)) q k) refl (x .last .cell) (x .last .is) work (x .last .bytes))
+
+pub started : {B bs W : List ℕ} {t : Turn} (w : Work) (e : t .step .operation ≡ Works w) (q : Pairing)
+    (z : q ≡ pairingOf w (leOf (part (t .step .at + scalarAt) wordBytes bs)) (t .a) (t .b)) (r : Begun) (after : List ℕ)
+    → (r .pairing ≡ q) × Ahead B W (t .result .at) q (t .result .cells) (r .count) after → Started B bs W t r after
+started w e q z r after h = record {
+  most = h .1 .most;
+  filled = λ a. fills a w e q z (r .count) after (h .1 .most) (h .1 .worked);
+  works = λ l. (w, e, h .0 ∙ z);
+}
 
 -- a refusal of a cell has a number
 pub late : (As : List Array) (ps : List Planned) (x : Refusal) → refused x ≡ values As ps → x .number ≡ 0 → ⊥

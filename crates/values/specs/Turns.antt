@@ -15,6 +15,7 @@ use Rattle.paper.specs.declared.Answer.{Answer}
 use Rattle.paper.specs.declared.Answer.the-variants.{Is}
 use Rattle.paper.specs.declared.Cell.{Cell}
 use Rattle.paper.specs.declared.Cell.the-variants.{Empty}
+use Rattle.paper.specs.declared.Hand.{Hand}
 use Rattle.paper.specs.declared.Hand.the-variants.{Right, Left}
 use Rattle.paper.specs.declared.Move.{Move}
 use Rattle.paper.specs.declared.PairOp.{PairOp}
@@ -68,11 +69,21 @@ abbrev pub kindIn : Operand → ℕ
 kindIn o = o .head .form .kind
 
 -- 9 to 12: the code of A's type and the operator, and the operands, of which a scalar is one; w is its number
+abbrev pub handed : Hand → ℕ → ℕ → Source → Pairing
+handed Right code w x = pairing code w x (source scalarSide 0)
+handed Left code w x = pairing code w (source scalarSide 0) x
+
+module _ {h : Hand} {code w : ℕ} {x : Source} {q : Pairing} where
+  pub on-right : h ≡ Right → q ≡ pairing code w x (source scalarSide 0) → q ≡ handed h code w x
+  on-right e z = rw e z
+
+  pub on-left : h ≡ Left → q ≡ pairing code w (source scalarSide 0) x → q ≡ handed h code w x
+  on-left e z = rw e z
+
 abbrev pub pairingOf : Work → ℕ → Operand → Operand → Pairing
-pairingOf (Pair o) w a b = pairing (pairCodeOf (kindIn a) o) w (cellsAt a) (cellsAt b)
-pairingOf (Scalar Right o) w a b = pairing (pairCodeOf (kindIn a) o) w (cellsAt a) (source scalarSide 0)
-pairingOf (Scalar Left o) w a b = pairing (pairCodeOf (kindIn a) o) w (source scalarSide 0) (cellsAt a)
-pairingOf (Single o) w a b = pairing (singleCodeOf (kindIn a) o) w (cellsAt a) (cellsAt a)
+pairingOf (Pair o) w a b = pairing (pairCodeOf (kindIn a) o) 0 (cellsAt a) (cellsAt b)
+pairingOf (Scalar h o) w a b = handed h (pairCodeOf (kindIn a) o) w (cellsAt a)
+pairingOf (Single o) w a b = pairing (singleCodeOf (kindIn a) o) 0 (cellsAt a) (cellsAt a)
 
 -- ---- the cell that a mark and a word are
 
@@ -196,7 +207,7 @@ module _ {B bs D : List ℕ} {A Z : Array} {p : Planned} {t : Turn} (y : Ready B
 
   -- ---- cells worked out
 
-  module _ (w : Work) (e : p .step .operation ≡ Works w) (n k : ℕ) (v : n ≡ scalarOf (p .step)) (h : k < cells (p .shape .axes)) where
+  module _ (w : Work) (e : p .step .operation ≡ Works w) (n k : ℕ) (h : k < cells (p .shape .axes)) where
     abbrev pt : List ℕ
     pt = atOffset (p .shape .axes) k
 
@@ -218,8 +229,9 @@ module _ {B bs D : List ℕ} {A Z : Array} {p : Planned} {t : Turn} (y : Ready B
     first-cell =
         rw (own-cell A (p .shape .axes) k (sym same-axes) h) (cell-here (y .first) n k (omega (arith, y .first .whole .full, ap cells same-axes)))
 
-    scalar-cell : isScalar (filled (S .type) (scalarOf (p .step))) ≡ true → CellHere B D n (source scalarSide 0) k kind (scalar (p .step) A)
-    scalar-cell q = scalar-here B D n k kind (scalar (p .step) A) (rw (kind-is (y .first), v) (scalar-some (filled (S .type) (scalarOf (p .step))) q))
+    scalar-cell : n ≡ scalarOf (p .step) → isScalar (filled (S .type) (scalarOf (p .step))) ≡ true
+        → CellHere B D n (source scalarSide 0) k kind (scalar (p .step) A)
+    scalar-cell v q = scalar-here B D n k kind (scalar (p .step) A) (rw (kind-is (y .first), v) (scalar-some (filled (S .type) (scalarOf (p .step))) q))
 
     second-cell : uses (Works w) .b ≡ true → eqb (S .type) (U .type) ≡ true → alike sameLimits (S .axes) (U .axes) ≡ true
         → CellHere B D n (cellsAt (t .b)) k kind (at Z pt)
@@ -240,20 +252,20 @@ module _ {B bs D : List ℕ} {A Z : Array} {p : Planned} {t : Turn} (y : Ready B
       → Computes B D (pairingOf w n (t .a) (t .b)) k (cellAt (p .step .operation) (p .step) A Z (atOffset (p .shape .axes) k))
   unfolding cellAt made typesFit takesType agree uses
   computes (Pair o) e n k v h = rw e (
-      let f = fits (Pair o) e n k v h in
+      let f = fits (Pair o) e 0 k h in
       let g : (alike sameName (S .axes) (U .axes) && alike sameLimits (S .axes) (U .axes)) ≡ true = rw e at (y .tested .agrees) in
-      pair-by (Pair o) e n k v h o (and-right (eqb (S .type) (U .type)) _ f) (first-cell (Pair o) e n k v h)
-      (second-cell (Pair o) e n k v h refl (and-left _ _ f) (and-right (alike sameName (S .axes) (U .axes)) _ g)))
+      pair-by (Pair o) e 0 k h o (and-right (eqb (S .type) (U .type)) _ f) (first-cell (Pair o) e 0 k h)
+      (second-cell (Pair o) e 0 k h refl (and-left _ _ f) (and-right (alike sameName (S .axes) (U .axes)) _ g)))
   computes (Scalar Right o) e n k v h = rw e (
-      let f = fits (Scalar Right o) e n k v h in
-      pair-by (Scalar Right o) e n k v h o (and-left _ _ f) (first-cell (Scalar Right o) e n k v h) (scalar-cell (Scalar Right o) e n k v h (and-right (takes o (S .type)) _ f)))
+      let f = fits (Scalar Right o) e n k h in
+      pair-by (Scalar Right o) e n k h o (and-left _ _ f) (first-cell (Scalar Right o) e n k h) (scalar-cell (Scalar Right o) e n k h v (and-right (takes o (S .type)) _ f)))
   computes (Scalar Left o) e n k v h = rw e (
-      let f = fits (Scalar Left o) e n k v h in
-      pair-by (Scalar Left o) e n k v h o (and-left _ _ f) (scalar-cell (Scalar Left o) e n k v h (and-right (takes o (S .type)) _ f)) (first-cell (Scalar Left o) e n k v h))
+      let f = fits (Scalar Left o) e n k h in
+      pair-by (Scalar Left o) e n k h o (and-left _ _ f) (scalar-cell (Scalar Left o) e n k h v (and-right (takes o (S .type)) _ f)) (first-cell (Scalar Left o) e n k h))
   computes (Single o) e n k v h = rw e (
-      let c = first-cell (Single o) e n k v h in
-      let q : takesOne o (kindIn (t .a)) ≡ true = rw (kind-is (y .first)) (fits (Single o) e n k v h) in
-      let d = kind-typed (Single o) e n k v h in
+      let c = first-cell (Single o) e 0 k h in
+      let q : takesOne o (kindIn (t .a)) ≡ true = rw (kind-is (y .first)) (fits (Single o) e 0 k h) in
+      let d = kind-typed (Single o) e 0 k h in
       by-code d c c (singleCodeOf (kindIn (t .a)) o) (single-code-kind (kindIn (t .a)) o d q) _ (single-code-cell (kindIn (t .a)) o d q _ _))
 
   -- ---- cells moved

@@ -8,7 +8,8 @@ ghost use Prim.Native.Nat.{_+_, _<_};
 ghost use Rattle.paper.specs.Limits.{mostSteps, mostCells};
 ghost use Rattle.paper.specs.Refusals.{refusal};
 ghost use Rattle.quick.specs.Operands.{pairing as pairedAs};
-ghost use Rattle.values.specs.Turns.{cellsAt, pairingOf};
+ghost use Rattle.quick.specs.Cells.{Workable, Ahead};
+ghost use Rattle.values.specs.Turns.{cellsAt, handed};
 ghost use Rattle.values.specs.Runs.{Asked, AskedToMove, Filled, Started, Running, Valued};
 use crate::bands::lay_band;
 use cell::bytes::word;
@@ -77,26 +78,54 @@ fn paired(code: u8, scalar: u64, first: Source, second: Source) -> Pairing
     }
 }
 
-// What the loop over cells wants to know of a step that works cells out; `scalar` is its scalar's number.
-fn pairing_of(w: Work, scalar: u64, a: Operand, b: Operand) -> Pairing
-    ensures { λ r. ⌜ r ≡ pairingOf w scalar a b ⌝ }
+// n cells of a step of operation 9 or 12, up to the first that refuses, by the quick loop: what the code makes of cells that lie at x and
+// at y. `base` is where the result begins.
+//
+// The quick loop is called here and for scalars: a function with one caller becomes a part of it, and in the loop over steps the quick
+// loops would have to share the registers.
+fn begin_arrays(
+    bundle: &[u8],
+    work: &mut [u8],
+    base: usize,
+    n: usize,
+    code: u8,
+    x: Source,
+    y: Source,
+) -> Begun
+    requires { ⌜ Workable (now bundle) (now work) base (pairedAs code 0 x y) n ⌝ }
+    ensures { λ r. ⌜ (r .pairing ≡ pairedAs code 0 x y)
+        × Ahead (now (bundle .entry)) (now (work .entry)) base (pairedAs code 0 x y) n (r .count) (now (work .exit)) ⌝ }
 {
-    let x = cells_of(a);
-    match w {
-        Work::Pair(o) => return paired(pair_code(a.head.form.kind, o), scalar, x, cells_of(b)),
-        Work::Scalar(hand, o) => {
-            let code = pair_code(a.head.form.kind, o);
-            let all = Source {
-                which: SCALAR,
-                at: 0,
-            };
-            match hand {
-                Hand::Right => return paired(code, scalar, x, all),
-                Hand::Left => return paired(code, scalar, all, x),
-            }
-        }
-        Work::Single(o) => return paired(single_code(a.head.form.kind, o), scalar, x, x),
-    }
+    let pairing = paired(code, 0, x, y);
+    let count = ahead(bundle, work, base, pairing, n);
+    Begun { count, pairing }
+}
+
+// The same of operation 10 or 11: cells that lie at x and a scalar's number, on its hand.
+fn begin_scalar(
+    bundle: &[u8],
+    work: &mut [u8],
+    base: usize,
+    n: usize,
+    code: u8,
+    scalar: u64,
+    hand: Hand,
+    x: Source,
+) -> Begun
+    requires { ⌜ Workable (now bundle) (now work) base (handed hand code scalar x) n ⌝ }
+    ensures { λ r. ⌜ (r .pairing ≡ handed hand code scalar x)
+        × Ahead (now (bundle .entry)) (now (work .entry)) base (handed hand code scalar x) n (r .count) (now (work .exit)) ⌝ }
+{
+    let all = Source {
+        which: SCALAR,
+        at: 0,
+    };
+    let pairing = match hand {
+        Hand::Right => paired(code, scalar, x, all),
+        Hand::Left => paired(code, scalar, all, x),
+    };
+    let count = ahead(bundle, work, base, pairing, n);
+    Begun { count, pairing }
 }
 
 // ---- operations 1 to 8
@@ -147,9 +176,23 @@ fn begin_cells(bundle: &[u8], recipe: &[u8], work: &mut [u8], turn: Turn) -> Beg
             };
         }
         Operation::Works(w) => {
-            let pairing = pairing_of(w, word(recipe, step.at + SCALAR_AT), turn.a, turn.b);
-            let count = ahead(bundle, work, turn.result.at, pairing, turn.result.cells);
-            return Begun { count, pairing };
+            let kind = turn.a.head.form.kind;
+            let x = cells_of(turn.a);
+            let base = turn.result.at;
+            let n = turn.result.cells;
+            match w {
+                Work::Pair(o) => {
+                    let y = cells_of(turn.b);
+                    return begin_arrays(bundle, work, base, n, pair_code(kind, o), x, y);
+                }
+                Work::Scalar(hand, o) => {
+                    let scalar = word(recipe, step.at + SCALAR_AT);
+                    return begin_scalar(bundle, work, base, n, pair_code(kind, o), scalar, hand, x);
+                }
+                Work::Single(o) => {
+                    return begin_arrays(bundle, work, base, n, single_code(kind, o), x, x);
+                }
+            }
         }
     }
 }
