@@ -8,6 +8,7 @@ use borrow.Author.Tests.{ne-eqb, le-leb, lt-leb}
 use lib.Dec.{eqb, leb}
 use lib.ListN.{length, getD, drop, length-drop}
 use lib.Seq.{drop-drop, getD-drop}
+use Rattle.paper.specs.declared.Name.{Name}
 use Rattle.paper.specs.declared.Axis.{Axis}
 use Rattle.paper.specs.declared.Form.{Form}
 use Rattle.paper.specs.declared.Head.{Head}
@@ -15,13 +16,13 @@ use Rattle.paper.specs.declared.Extent.{Extent}
 use Rattle.paper.specs.declared.Refusal.{Refusal}
 use Rattle.paper.specs.Limits.{mostAxes, mostCells, typeBytes, axisBytes, cellBytes}
 use Rattle.paper.specs.Refusals.{got, refused, _>>=_, _>>_, refusal, ensure, between, badBytes1, badExtent2, badCell3}
-use Rattle.paper.specs.Axes.{cells, goodExtent, within, Shape}
+use Rattle.paper.specs.Axes.{cells, goodExtent, within, Shape, shaped}
 use Rattle.paper.specs.Cells.{isType}
-use Rattle.paper.specs.Bundle.{axisOf, maximumOf, eachAxis, arrayOf, readArray}
-use Rattle.paper.specs.Answers.{axesOf, extentOf, shapeOf}
+use Rattle.paper.specs.Bundle.{nameFrom, axisOf, maximumOf, eachAxis, arrayOf, readArray}
+use Rattle.paper.specs.Answers.{extentOf, namesOf, shapeOf}
 use Rattle.laws.specs.Tests.{between-true}
 use Rattle.laws.specs.Judged.{firstBad, cellsFrom, judged, cells-judged}
-use Rattle.laws.specs.Answers.{unless-refused, extent-axes, formOf}
+use Rattle.laws.specs.Answers.{unless-refused, formOf, form-shape}
 use Rattle.extent.specs.Judged.{cellsWithin, within-zero, within-some}
 use Rattle.bundle.specs.declared.ArrayRead.{ArrayRead}
 use Rattle.bundle.specs.Axes.{length-each}
@@ -57,7 +58,8 @@ module _ (bs : List ℕ) (x : Refusal) (h : x .number ≡ 0 → ⊥) where
 
 -- ---- from the bytes after the axes
 
-module _ (k : ℕ) (s : List ℕ) (from : ℕ) (form : Form) (n : ℕ) (q : n ≡ cellsWithin (shapeOf form .axes) (shapeOf form .maximum)) where
+module _ (k : ℕ) (s : List ℕ) (from : ℕ) (form : Form) (n : ℕ)
+    (q : n ≡ cellsWithin (shapeOf form .names) (shapeOf form .axes) (shapeOf form .maximum)) where
   abbrev shape : Shape
   shape = shapeOf form
 
@@ -66,11 +68,11 @@ module _ (k : ℕ) (s : List ℕ) (from : ℕ) (form : Form) (n : ℕ) (q : n �
 
   pub of-extent : n ≡ 0 → refused (refusal badExtent2 k 0) ≡ arrayOf k shape (drop from s)
   unfolding arrayOf
-  of-extent e = rw (within-zero (shape .axes) (shape .maximum) (sym q ∙ e))
+  of-extent e = rw (within-zero (shape .names) (shape .axes) (shape .maximum) (sym q ∙ e))
 
   module _ (some : n ≡ 0 → ⊥) where
-    is-good : ((goodExtent (shape .axes) && within (shape .axes) (shape .maximum)) ≡ true) × (cells (shape .axes) ≡ n)
-    is-good = let g = within-some (shape .axes) (shape .maximum) (λ e. some (q ∙ e)) in (g .0, g .1 ∙ sym q)
+    is-good : ((goodExtent (shape .names) (shape .axes) && within (shape .axes) (shape .maximum)) ≡ true) × (cells (shape .axes) ≡ n)
+    is-good = let g = within-some (shape .names) (shape .axes) (shape .maximum) (λ e. some (q ∙ e)) in (g .0, g .1 ∙ sym q)
 
     pub of-short : length s - from < n * cellBytes → refused (refusal badBytes1 k 0) ≡ arrayOf k shape (drop from s)
     unfolding arrayOf
@@ -112,6 +114,9 @@ module _ (k : ℕ) (s : List ℕ) (from : ℕ) (form : Form) (n : ℕ) (q : n �
 -- ---- from its first byte
 
 module _ (k : ℕ) (s : List ℕ) (at t n : ℕ) (et : t ≡ getD s at 0) (en : n ≡ getD s (at + 1) 0) where
+  abbrev N : List Name
+  N = eachAxis nameFrom n (drop (at + typeBytes) s)
+
   abbrev E : List Axis
   E = eachAxis axisOf n (drop (at + typeBytes) s)
 
@@ -120,7 +125,7 @@ module _ (k : ℕ) (s : List ℕ) (at t n : ℕ) (et : t ≡ getD s at 0) (en : 
 
   moved : readArray k (drop at s)
       ≡ (ensure (isType t) badBytes1 k >> (ensure (between 1 mostAxes n) badBytes1 k >> (ensure (leb (typeBytes + n * axisBytes) (length s - at)) badBytes1 k
-      >> arrayOf k (record { type = t; axes = E; maximum = M }) (drop (at + typeBytes + n * axisBytes) s))))
+      >> arrayOf k (shaped t N E M) (drop (at + typeBytes + n * axisBytes) s))))
   unfolding readArray
   moved =
       let z : at + 0 ≡ at = omega arith in
@@ -141,19 +146,21 @@ module _ (k : ℕ) (s : List ℕ) (at t n : ℕ) (et : t ≡ getD s at 0) (en : 
       head-short h = let g : leb (typeBytes + n * axisBytes) (length s - at) ≡ false = lt-leb _ _ h in sym (moved ∙ rw (e, f, g))
 
       -- what array_of says of the form that was read
-      module _ (h : typeBytes + n * axisBytes ≤ length s - at) (x m : Extent) (ex : x ≡ extentOf E) (em : m ≡ extentOf M) where
+      module _ (h : typeBytes + n * axisBytes ≤ length s - at) (l : List Name) (x m : Extent)
+          (el : l ≡ namesOf N) (ex : x ≡ extentOf E) (em : m ≡ extentOf M) where
         abbrev form : Form
-        form = record { kind = t; extent = x; maximum = m }
+        form = record { kind = t; names = l; extent = x; maximum = m }
 
-        form-is : form ≡ formOf (record { type = t; axes = E; maximum = M })
-        form-is = λ i. record { kind = t; extent = ex i; maximum = em i }
+        form-is : form ≡ formOf (shaped t N E M)
+        form-is = λ i. record { kind = t; names = el i; extent = ex i; maximum = em i }
 
-        shape-is : shapeOf form ≡ record { type = t; axes = E; maximum = M }
+        shape-is : shapeOf form ≡ shaped t N E M
         shape-is =
             let few = between-true mostAxes n f .1 in
-            let p : axesOf x ≡ E = ap axesOf ex ∙ extent-axes E (omega (arith, length-each axisOf n (drop (at + typeBytes) s))) in
-            let q : axesOf m ≡ M = ap axesOf em ∙ extent-axes M (omega (arith, length-each maximumOf n (drop (at + typeBytes) s))) in
-            λ i. record { type = t; axes = p i; maximum = q i }
+            let d = drop (at + typeBytes) s in
+            let long = length-each axisOf n d in
+            ap shapeOf form-is ∙ form-shape (shaped t N E M) (length-each nameFrom n d ∙ sym long) (omega (arith, long))
+            (omega (arith, length-each maximumOf n d))
 
         pub head-rest : (r : ArrayRead) → JudgedArray s (at + typeBytes + n * axisBytes) k form r → ReadArray s at k r
         head-rest r j =
@@ -166,7 +173,7 @@ module _ (k : ℕ) (s : List ℕ) (at t n : ℕ) (et : t ≡ getD s at 0) (en : 
               fit = j .fit;
               tidy = λ z.
                   let w = j .held z in
-                  let y : shapeOf (r .head .form) ≡ record { type = t; axes = E; maximum = M } = ap (λ (o : Head). shapeOf (o .form)) w ∙ shape-is in
+                  let y : shapeOf (r .head .form) ≡ shaped t N E M = ap (λ (o : Head). shapeOf (o .form)) w ∙ shape-is in
                   w ∙ (λ i. record { form = (form-is ∙ sym (ap formOf y)) i; at = ap (λ (o : Head). o .at) (sym w) i; cells = ap (λ (o : Head). cellsIn (o .form)) (sym w) i });
               lies = λ z.
                   let w = j .held z in

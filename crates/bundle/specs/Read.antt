@@ -10,7 +10,7 @@ use Rattle.paper.specs.declared.Reading.{Reading}
 use Rattle.paper.specs.declared.Refusal.{Refusal}
 use Rattle.paper.specs.Limits.{mostArrays, mostCells, typeBytes, axisBytes, cellBytes}
 use Rattle.paper.specs.Refusals.{Res}
-use Rattle.paper.specs.Axes.{cells, goodExtent, within, Array}
+use Rattle.paper.specs.Axes.{cells, goodExtent, within, Shape, Array}
 use Rattle.paper.specs.Bundle.{arrayOf, readArray, readBundle}
 use Rattle.paper.specs.Answers.{shapeOf, unless, reading, readSaid}
 use Rattle.laws.specs.Judged.{firstBad, cellsFrom}
@@ -35,7 +35,7 @@ noArray x = record { refusal = x; head = noHead; end = 0 }
 
 -- what later code leans on: the extent is good and inside its maximum, its cells are counted, they lie in the bytes, and each is one
 pub record Fit (bs : List ℕ) (h : Head) : Type 0 where
-  pub good : (goodExtent (shapeOf (h .form) .axes) && within (shapeOf (h .form) .axes) (shapeOf (h .form) .maximum)) ≡ true
+  pub good : let s : Shape = shapeOf (h .form) in (goodExtent (s .names) (s .axes) && within (s .axes) (s .maximum)) ≡ true
   pub counted : h .cells ≡ cellsIn (h .form)
   pub few : h .cells ≤ mostCells
   pub fits : h .at + cellsIn (h .form) * cellBytes ≤ length bs

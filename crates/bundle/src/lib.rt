@@ -11,6 +11,7 @@ use extent::extent_cells;
 use judged::first_bad;
 use mark::byte_at;
 use mark::is_marked;
+use paper::AXES;
 use paper::AXIS_BYTES;
 use paper::CELL_BYTES;
 use paper::Form;
@@ -24,6 +25,7 @@ use refusals::in_range;
 use refusals::none;
 use refusals::refuse_at;
 use shape::empty;
+use shape::names::no_names;
 
 pub mod axes;
 pub mod mark;
@@ -41,8 +43,10 @@ pub fn no_head() -> Head
 {
     let extent = empty();
     let maximum = empty();
+    let names = no_names();
     let form = Form {
         kind: 0,
+        names,
         extent,
         maximum,
     };
@@ -70,7 +74,8 @@ pub fn array_of(s: &[u8], from: usize, k: u32, form: Form) -> ArrayRead
     requires { ⌜ from ≤ length (now s) ⌝ }
     ensures { λ r. ⌜ JudgedArray (now (s .entry)) from k form r ⌝ }
 {
-    let n = extent_cells(form.extent, form.maximum);
+    let names = form.names;
+    let n = extent_cells(names, form.extent, form.maximum);
     if n == 0 {
         return no_array(2, k, 0);
     }
@@ -104,17 +109,19 @@ fn array_at(s: &[u8], at: usize, k: u32) -> ArrayRead
     if !in_range(kind as usize, paper::TYPES) {
         return no_array(1, k, 0);
     }
-    if !in_range(rank, paper::AXES) {
+    if !in_range(rank, AXES) {
         return no_array(1, k, 0);
     }
     if s.len() - at < TYPE_BYTES + rank * AXIS_BYTES {
         return no_array(1, k, 0);
     }
     let bounds = bounds_at(s, at + TYPE_BYTES, rank);
+    let names = bounds.names;
     let extent = bounds.extent;
     let maximum = bounds.maximum;
     let form = Form {
         kind,
+        names,
         extent,
         maximum,
     };

@@ -13,7 +13,7 @@ use Rattle.paper.specs.Limits.{mostArrays, mostAxes, limitBytes, typeBytes}
 use Rattle.paper.specs.Refusals.{Res, got, refused, _>>=_, if_then_else_, refusal, unknown4}
 use Rattle.paper.specs.Numbers.{leOf, leBytes, signedAt, nth, over}
 use Rattle.paper.specs.Axes.{Shape, shaped}
-use Rattle.paper.specs.Bundle.{axisOf, maximumOf, eachAxis, readBundle, After, pack}
+use Rattle.paper.specs.Bundle.{nameFrom, axisOf, maximumOf, eachAxis, readBundle, After, pack}
 use Rattle.paper.specs.Stretch.{Side}
 use Rattle.paper.specs.Reference.{chosen}
 use Rattle.paper.specs.Totals.{totals}
@@ -44,8 +44,9 @@ countOf bundle = do
 -- the shape that the first bytes describe
 unfoldable pub shapeIn : List ℕ → Shape
 shapeIn bs =
-    shaped (getD bs 0 0) (eachAxis axisOf (axisCount (getD bs 1 0)) (drop typeBytes bs))
-    (eachAxis maximumOf (axisCount (getD bs 1 0)) (drop typeBytes bs))
+    let n : ℕ = axisCount (getD bs 1 0) in
+    let axes : List ℕ = drop typeBytes bs in
+    shaped (getD bs 0 0) (eachAxis nameFrom n axes) (eachAxis axisOf n axes) (eachAxis maximumOf n axes)
 
 -- heads, one after the other; bytes of another length are no heads
 abbrev pub headsIn : List ℕ → List Shape
@@ -57,11 +58,11 @@ packHeads heads cells out = pack (headsIn heads) cells out
 
 -- a side's shape: a head of another length has no type and no axis
 abbrev pub sideShape : List ℕ → Shape
-sideShape head = if eqb (length head) headLength then shapeIn head else shaped 0 [] []
+sideShape head = if eqb (length head) headLength then shapeIn head else shaped 0 [] [] []
 
 -- a side of a stretch, from its head and its cells
 abbrev pub sideIn : List ℕ → List ℕ → Side
-sideIn head cells = record { type = sideShape head .type; axes = sideShape head .axes; bytes = cells }
+sideIn head cells = record { type = sideShape head .type; names = sideShape head .names; axes = sideShape head .axes; bytes = cells }
 
 -- ---- a coordinate
 

@@ -60,10 +60,12 @@ fn form_at(s: &[u8], at: usize) -> Form
     let kind = s[at];
     let rank = axis_count(s[at + 1] as usize);
     let bounds = bounds_at(s, at + TYPE_BYTES, rank);
+    let names = bounds.names;
     let extent = bounds.extent;
     let maximum = bounds.maximum;
     Form {
         kind,
+        names,
         extent,
         maximum,
     }

@@ -6,6 +6,7 @@ use mathlib.Core.Bool.{Bool, true, false, _&&_}
 use mathlib.Core.List.{List}
 use native.Mathlib.Omega.{arith}
 use lib.Dec.{leb}
+use Rattle.paper.specs.declared.Name.{Name}
 use Rattle.paper.specs.declared.Axis.{Axis}
 use Rattle.paper.specs.Limits.{mostCells}
 use Rattle.paper.specs.Refusals.{if_then_else_}
@@ -18,35 +19,35 @@ abbrev pub fewCells : List Axis → ℕ
 fewCells E = if leb (cells E) mostCells then cells E else 0
 
 -- of a good extent, else 0
-abbrev pub goodCells : List Axis → ℕ
-goodCells E = if goodExtent E then cells E else 0
+abbrev pub goodCells : List Name → List Axis → ℕ
+goodCells N E = if goodExtent N E then cells E else 0
 
 -- of a good extent that lies inside its maximum, else 0
-abbrev pub cellsWithin : List Axis → List Axis → ℕ
-cellsWithin E M = if goodExtent E && within E M then cells E else 0
+abbrev pub cellsWithin : List Name → List Axis → List Axis → ℕ
+cellsWithin N E M = if goodExtent N E && within E M then cells E else 0
 
 -- ---- the whole, by its tests
 
-module _ (E : List Axis) where
-  pub bad-names : goodNames E ≡ false → 0 ≡ goodCells E
+module _ (N : List Name) (E : List Axis) where
+  pub bad-names : goodNames N ≡ false → 0 ≡ goodCells N E
   bad-names e = rw e
 
-  pub bad-limits : goodNames E ≡ true → goodLimits E ≡ false → 0 ≡ goodCells E
+  pub bad-limits : goodNames N ≡ true → goodLimits E ≡ false → 0 ≡ goodCells N E
   bad-limits e f = rw (e, f)
 
-  pub by-cells : goodNames E ≡ true → goodLimits E ≡ true → fewCells E ≡ goodCells E
+  pub by-cells : goodNames N ≡ true → goodLimits E ≡ true → fewCells E ≡ goodCells N E
   by-cells e f = rw (e, f)
 
   module _ (M : List Axis) where
-    pub not-within : within E M ≡ false → 0 ≡ cellsWithin E M
-    not-within e = rw e (by (goodExtent E))
+    pub not-within : within E M ≡ false → 0 ≡ cellsWithin N E M
+    not-within e = rw e (by (goodExtent N E))
       where
         by : (b : Bool) → 0 ≡ (if b && false then cells E else 0)
         by true = refl
         by false = refl
 
-    pub by-within : within E M ≡ true → goodCells E ≡ cellsWithin E M
-    by-within e = rw e (by (goodExtent E))
+    pub by-within : within E M ≡ true → goodCells N E ≡ cellsWithin N E M
+    by-within e = rw e (by (goodExtent N E))
       where
         by : (b : Bool) → (if b then cells E else 0) ≡ (if b && true then cells E else 0)
         by true = refl
@@ -62,20 +63,22 @@ some-by : (b : Bool) (n : ℕ) → ((if b then n else 0) ≡ 0 → ⊥) → (b �
 some-by true n h = (refl, refl)
 some-by false n h = absurd (h refl)
 
-has-cell : (E : List Axis) → goodExtent E ≡ true → 1 ≤ cells E
-has-cell E g = cells-pos E (extent-true E g .0)
+module _ (N : List Name) (E : List Axis) where
+  has-cell : goodExtent N E ≡ true → 1 ≤ cells E
+  has-cell g = cells-pos E (extent-true N E g .0)
 
-pub good-zero : (E : List Axis) → goodCells E ≡ 0 → goodExtent E ≡ false
-good-zero E e = zero-by (goodExtent E) (cells E) (has-cell E) e
+  pub good-zero : goodCells N E ≡ 0 → goodExtent N E ≡ false
+  good-zero e = zero-by (goodExtent N E) (cells E) has-cell e
 
-pub good-some : (E : List Axis) → (goodCells E ≡ 0 → ⊥) → (goodExtent E ≡ true) × (cells E ≡ goodCells E)
-good-some E h = some-by (goodExtent E) (cells E) h
+  pub good-some : (goodCells N E ≡ 0 → ⊥) → (goodExtent N E ≡ true) × (cells E ≡ goodCells N E)
+  good-some h = some-by (goodExtent N E) (cells E) h
 
-pub within-zero : (E M : List Axis) → cellsWithin E M ≡ 0 → (goodExtent E && within E M) ≡ false
-within-zero E M e = zero-by (goodExtent E && within E M) (cells E) (λ g. has-cell E (and-left (goodExtent E) (within E M) g)) e
+  pub within-zero : (M : List Axis) → cellsWithin N E M ≡ 0 → (goodExtent N E && within E M) ≡ false
+  within-zero M e = zero-by (goodExtent N E && within E M) (cells E) (λ g. has-cell (and-left (goodExtent N E) (within E M) g)) e
 
-pub within-some : (E M : List Axis) → (cellsWithin E M ≡ 0 → ⊥) → ((goodExtent E && within E M) ≡ true) × (cells E ≡ cellsWithin E M)
-within-some E M h = some-by (goodExtent E && within E M) (cells E) h
+  pub within-some : (M : List Axis) → (cellsWithin N E M ≡ 0 → ⊥)
+      → ((goodExtent N E && within E M) ≡ true) × (cells E ≡ cellsWithin N E M)
+  within-some M h = some-by (goodExtent N E && within E M) (cells E) h
 
 -- ---- what a good extent is good for: places in it
 
@@ -83,5 +86,5 @@ pub record Small (E : List Axis) : Type 0 where
   pub sound : Sound E
   pub few : cells E ≤ mostCells
 
-pub good-small : (E : List Axis) → goodExtent E ≡ true → Small E
-good-small E g = let t = extent-true E g in record { sound = t .0; few = t .1 }
+pub good-small : (N : List Name) (E : List Axis) → goodExtent N E ≡ true → Small E
+good-small N E g = let t = extent-true N E g in record { sound = t .0; few = t .1 }

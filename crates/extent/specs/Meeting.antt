@@ -1,4 +1,4 @@
--- Two extents compared axis by axis, as asked. This is what the paper asks: names, limits, inside the maximum, covered. The loop keeps the
+-- Two extents compared axis by axis, as asked. This is what the paper asks: limits, inside the maximum, covered. The loop keeps the
 -- comparison of the axes left equal to the whole.
 use Prim.Native.Nat.{ℕ, suc, zero, _+_, _-_, _≤_, _<_}
 use mathlib.Core.Bool.{Bool, true, false, _&&_, _||_}
@@ -12,11 +12,11 @@ use Rattle.paper.specs.Numbers.{alike}
 use Rattle.paper.specs.declared.Axis.{Axis}
 use Rattle.paper.specs.declared.AxisIndex.{AxisIndex}
 use Rattle.paper.specs.declared.Extent.{Extent}
-use Rattle.paper.specs.Axes.{sameName, axisWithin, within, onAxis, inside, without}
+use Rattle.paper.specs.Axes.{axisWithin, within, onAxis, inside, without}
 use Rattle.paper.specs.Recipe.{sameLimits, covers}
 use Rattle.paper.specs.Answers.{axesOf}
 use Rattle.extent.specs.declared.Asked.{Asked}
-use Rattle.extent.specs.declared.Asked.the-variants.{Names, Limits, OtherLimits, Within, Covers}
+use Rattle.extent.specs.declared.Asked.the-variants.{Limits, OtherLimits, Within, Covers}
 use Rattle.extent.specs.Rank.{Rank, axisNo, axes-up, axes-end}
 
 -- both limits of the second axis lie on the first
@@ -25,9 +25,8 @@ axisCovers a b = onAxis a (b .lo) && onAxis a (b .hi)
 
 -- what is asked of two axes of index i
 abbrev pub meet : Asked → ℕ → Axis → Axis → Bool
-meet Names i a b = sameName a b
-meet Limits i a b = sameName a b && sameLimits a b
-meet (OtherLimits k) i a b = sameName a b && (eqb i (k .0) || sameLimits a b)
+meet Limits i a b = sameLimits a b
+meet (OtherLimits k) i a b = eqb i (k .0) || sameLimits a b
 meet Within i a b = axisWithin a b
 meet Covers i a b = axisCovers a b
 
@@ -88,13 +87,10 @@ alike-both f g [] (b ∷ F) = refl
 alike-both f g (a ∷ E) [] = refl
 alike-both f g (a ∷ E) (b ∷ F) = ap (λ (t : Bool). (f a b && g a b) && t) (alike-both f g E F) ∙ crossed (f a b) (g a b) (alike f E F) (alike g E F)
 
-pub by-names : (E F : List Axis) → meeting Names 1 E F ≡ alike sameName E F
-by-names E F = by-alike Names sameName (λ i a b. refl) 1 E F
+by-limits : (i : ℕ) (E F : List Axis) → meeting Limits i E F ≡ alike sameLimits E F
+by-limits i E F = by-alike Limits sameLimits (λ i a b. refl) i E F
 
-by-limits : (i : ℕ) (E F : List Axis) → meeting Limits i E F ≡ (alike sameName E F && alike sameLimits E F)
-by-limits i E F = by-alike Limits (λ a b. sameName a b && sameLimits a b) (λ i a b. refl) i E F ∙ alike-both sameName sameLimits E F
-
-pub by-all : (E F : List Axis) → meeting Limits 1 E F ≡ (alike sameName E F && alike sameLimits E F)
+pub by-all : (E F : List Axis) → meeting Limits 1 E F ≡ alike sameLimits E F
 by-all E F = by-limits 1 E F
 
 pub by-maximum : (E M : List Axis) → meeting Within 1 E M ≡ within E M
@@ -118,41 +114,35 @@ unfolding meeting
 past k i [] [] h = refl
 past k i [] (b ∷ F) h = refl
 past k i (a ∷ E) [] h = refl
-past k i (a ∷ E) (b ∷ F) h = rw (ne-eqb i (k .0) (λ e. omega arith)) (ap (λ (t : Bool). (sameName a b && sameLimits a b) && t) (past k (i + 1) E F (omega arith)))
+past k i (a ∷ E) (b ∷ F) h = rw (ne-eqb i (k .0) (λ e. omega arith)) (ap (λ (t : Bool). sameLimits a b && t) (past k (i + 1) E F (omega arith)))
 
 -- a list without the one that stands after n
 abbrev omit : ℕ → List Axis → List Axis
 omit n l = take n l ++ drop (suc n) l
 
-one-true : (n N L : Bool) → ((n && true) && (N && L)) ≡ ((n && N) && L)
-one-true true N L = refl
-one-true false N L = refl
-
--- names, and limits without those of the axis n after i
-but-from : (k : AxisIndex) (n i : ℕ) (E F : List Axis) → i + n ≡ k .0
-    → meeting (OtherLimits k) i E F ≡ (alike sameName E F && alike sameLimits (omit n E) (omit n F))
+-- limits without those of the axis n after i, of as many axes
+but-from : (k : AxisIndex) (n i : ℕ) (E F : List Axis) → i + n ≡ k .0 → length E ≡ length F
+    → meeting (OtherLimits k) i E F ≡ alike sameLimits (omit n E) (omit n F)
 unfolding meeting alike
-but-from k zero i [] [] h = refl
-but-from k (suc n) i [] [] h = refl
-but-from k n i [] (b ∷ F) h = refl
-but-from k n i (a ∷ E) [] h = refl
-but-from k zero i (a ∷ E) (b ∷ F) h =
-    rw (eq-eqb i (k .0) (omega arith))
-    (ap (λ (t : Bool). (sameName a b && true) && t) (past k (i + 1) E F (omega arith) ∙ by-limits (i + 1) E F) ∙ one-true (sameName a b) (alike sameName E F) (alike sameLimits E F))
-but-from k (suc n) i (a ∷ E) (b ∷ F) h =
-    rw (ne-eqb i (k .0) (λ e. omega arith))
-    (ap (λ (t : Bool). (sameName a b && sameLimits a b) && t) (but-from k n (i + 1) E F (omega arith))
-    ∙ crossed (sameName a b) (sameLimits a b) (alike sameName E F) (alike sameLimits (omit n E) (omit n F)))
+but-from k zero i [] [] h l = refl
+but-from k (suc n) i [] [] h l = refl
+but-from k n i [] (b ∷ F) h l = absurd (omega arith)
+but-from k n i (a ∷ E) [] h l = absurd (omega arith)
+but-from k zero i (a ∷ E) (b ∷ F) h l =
+    rw (eq-eqb i (k .0) (omega arith)) (past k (i + 1) E F (omega arith) ∙ by-limits (i + 1) E F)
+but-from k (suc n) i (a ∷ E) (b ∷ F) h l =
+    rw (ne-eqb i (k .0) (λ e. omega arith)) (ap (λ (t : Bool). sameLimits a b && t) (but-from k n (i + 1) E F (omega arith) (omega arith)))
 
-pub by-other-limits : (k : AxisIndex) (E F : List Axis)
-    → meeting (OtherLimits k) 1 E F ≡ (alike sameName E F && alike sameLimits (without (k .0) E) (without (k .0) F))
-by-other-limits k E F = by (eqb (k .0) 0) refl
+pub by-other-limits : (k : AxisIndex) (E F : List Axis) → length E ≡ length F
+    → meeting (OtherLimits k) 1 E F ≡ alike sameLimits (without (k .0) E) (without (k .0) F)
+by-other-limits k E F l = by (eqb (k .0) 0) refl
   where
-    by : (t : Bool) → eqb (k .0) 0 ≡ t → meeting (OtherLimits k) 1 E F
-        ≡ (alike sameName E F && alike sameLimits (without (k .0) E) (without (k .0) F))
-    by true e = let z = eqb-true (k .0) 0 e in past k 1 E F (omega arith) ∙ by-limits 1 E F ∙ ap (λ (n : ℕ). alike sameName E F && alike sameLimits (without n E) (without n F)) (sym z)
+    by : (t : Bool) → eqb (k .0) 0 ≡ t → meeting (OtherLimits k) 1 E F ≡ alike sameLimits (without (k .0) E) (without (k .0) F)
+    by true e =
+        let z = eqb-true (k .0) 0 e in
+        past k 1 E F (omega arith) ∙ by-limits 1 E F ∙ ap (λ (n : ℕ). alike sameLimits (without n E) (without n F)) (sym z)
     by false e =
         let z = eqb-false (k .0) 0 e in
         let n : suc (k .0 - 1) ≡ k .0 = omega arith in
-        but-from k (k .0 - 1) 1 E F (omega arith)
-        ∙ ap (λ (n : ℕ). alike sameName E F && alike sameLimits (take (k .0 - 1) E ++ drop n E) (take (k .0 - 1) F ++ drop n F)) n
+        but-from k (k .0 - 1) 1 E F (omega arith) l
+        ∙ ap (λ (n : ℕ). alike sameLimits (take (k .0 - 1) E ++ drop n E) (take (k .0 - 1) F ++ drop n F)) n

@@ -4,13 +4,18 @@ use Prim.Native.Nat.{ℕ, zero, suc, _+_, _*_, _≤_, _<_}
 use mathlib.Core.Path.{_≡_, refl}
 use mathlib.Core.Bool.{Bool, true, false, not, _&&_, _||_}
 use mathlib.Core.List.{List, [], _∷_}
+use native.Mathlib.Numerals.{add-one}
 use native.Mathlib.Omega.{arith}
 use lib.Dec.{leb}
-use lib.ListN.{drop, getD}
+use lib.ListN.{length, take, drop, getD, drop-of-length-le}
+use lib.Seq.{length-take-le}
+use Rattle.paper.specs.Numbers.{alike}
+use Rattle.laws.specs.Loops.{drop-first-cons}
+use Rattle.paper.specs.declared.Name.{Name}
 use Rattle.paper.specs.declared.Axis.{Axis}
 use Rattle.paper.specs.declared.Extent.{Extent}
 use Rattle.paper.specs.Limits.{reach}
-use Rattle.paper.specs.Axes.{goodName, sameName, named, goodNames, goodLimits, noAxis}
+use Rattle.paper.specs.Axes.{goodName, sameName, named, goodNames, noName, goodLimits, noAxis}
 use Rattle.paper.specs.Answers.{axesOf}
 use Rattle.laws.specs.Limits.{Sound}
 use Rattle.extent.specs.Rank.{Rank, axisNo, axes-up, axes-end}
@@ -35,26 +40,46 @@ pub and-and : (x y z : Bool) → (x && (y && z)) ≡ ((x && y) && z)
 and-and true y z = refl
 and-and false y z = refl
 
+-- ---- every name
+
+module _ (N : List Name) (r : ℕ) (h : r ≤ length N) (i : ℕ) where
+  left : i < r → drop i (take r N) ≡ getD N i noName ∷ drop (i + 1) (take r N)
+  left b = rw (add-one i) (drop-first-cons N r h i noName b)
+
+  none-left : r ≤ i → drop i (take r N) ≡ []
+  none-left b = drop-of-length-le (take r N) {i = i} (omega (arith, length-take-le r N h))
+
+  pub named-up : (n : Name) → i < r → named n (drop i (take r N)) ≡ (sameName n (getD N i noName) || named n (drop (i + 1) (take r N)))
+  unfolding named
+  named-up n b = rw (left b)
+
+  pub named-end : (n : Name) → r ≤ i → false ≡ named n (drop i (take r N))
+  unfolding named
+  named-end n b = rw (none-left b)
+
+  pub names-up : i < r → goodNames (drop i (take r N))
+      ≡ (goodName (getD N i noName) && (not (named (getD N i noName) (drop (i + 1) (take r N))) && goodNames (drop (i + 1) (take r N))))
+  unfolding goodNames
+  names-up b = rw (left b)
+
+  pub names-end : r ≤ i → true ≡ goodNames (drop i (take r N))
+  unfolding goodNames
+  names-end b = rw (none-left b)
+
+-- two lists of names in step
+module _ (M N : List Name) (r : ℕ) (h : r ≤ length M) (k : r ≤ length N) (i : ℕ) where
+  pub same-up : i < r → alike sameName (drop i (take r M)) (drop i (take r N))
+      ≡ (sameName (getD M i noName) (getD N i noName) && alike sameName (drop (i + 1) (take r M)) (drop (i + 1) (take r N)))
+  unfolding alike
+  same-up b = rw (left M r h i b, left N r k i b)
+
+  pub same-end : r ≤ i → true ≡ alike sameName (drop i (take r M)) (drop i (take r N))
+  unfolding alike
+  same-end b = rw (none-left M r h i b, none-left N r k i b)
+
 -- ---- every axis
 
 module _ (e : Extent) (r : ℕ) (k : Rank e r) (i : ℕ) where
-  pub named-up : (a : Axis) → i < r → named a (drop i (axesOf e)) ≡ (sameName a (axisNo e i) || named a (drop (i + 1) (axesOf e)))
-  unfolding named
-  named-up a b = rw (axes-up e r k i b)
-
-  pub named-end : (a : Axis) → r ≤ i → false ≡ named a (drop i (axesOf e))
-  unfolding named
-  named-end a b = rw (axes-end e r k i b)
-
-  pub names-up : i < r → goodNames (drop i (axesOf e))
-      ≡ (goodName (axisNo e i) && (not (named (axisNo e i) (drop (i + 1) (axesOf e))) && goodNames (drop (i + 1) (axesOf e))))
-  unfolding goodNames
-  names-up b = rw (axes-up e r k i b)
-
-  pub names-end : r ≤ i → true ≡ goodNames (drop i (axesOf e))
-  unfolding goodNames
-  names-end b = rw (axes-end e r k i b)
-
   pub limits-up : i < r → goodLimits (drop i (axesOf e)) ≡ (inRange (axisNo e i) && goodLimits (drop (i + 1) (axesOf e)))
   unfolding goodLimits
   limits-up b = rw (axes-up e r k i b) (and-and (leb (axisNo e i .lo) (axisNo e i .hi)) (leb (axisNo e i .hi) (2 * reach)) _)

@@ -1,27 +1,28 @@
 // An extent judged as the paper does: names, limits, number of cells, inside its maximum; and two extents compared, by one loop that is
-// told what is asked of each two axes. An extent's axes are the first `rank`, never more than there is room for.
+// told what is asked of each two axes. An extent's axes are the first `rank`, never more than there is room for; names stand apart.
 ghost use mathlib.Core.Path.{_≡_};
 ghost use mathlib.Core.Bool.{_&&_, _||_};
 ghost use Prim.Native.Nat.{_+_, _-_, _*_, _≤_};
 ghost use lib.Dec.{eqb};
-ghost use lib.ListN.{drop};
-ghost use Rattle.paper.specs.Limits.{mostAxes, mostCells, nameBytes, reach};
-ghost use Rattle.paper.specs.Numbers.{leBytes};
-ghost use Rattle.paper.specs.Axes.{inName, isName, sameName, named, goodNames, goodLimits, width, axisWithin, axisAt, onAxis};
+ghost use Rattle.paper.specs.Limits.{mostAxes, mostCells, reach};
+ghost use Rattle.paper.specs.Axes.{goodLimits, width, axisWithin, axisAt, onAxis};
 ghost use Rattle.paper.specs.Recipe.{sameLimits, covers};
-ghost use Rattle.paper.specs.Answers.{axisCount, axesOf};
+ghost use Rattle.paper.specs.Answers.{axisCount, axesOf, namesFor};
 ghost use Rattle.laws.specs.Limits.{Sound};
 ghost use Rattle.extent.specs.Rank.{Rank};
 ghost use Rattle.extent.specs.Judged.{fewCells, goodCells, cellsWithin};
 ghost use Rattle.extent.specs.Tests.{Ranged, inRange};
 ghost use Rattle.extent.specs.Meeting.{axisCovers, meet, meeting};
+use names::good_names;
 use paper::AXES;
 use paper::Axis;
 use paper::AxisIndex;
 use paper::CELLS;
 use paper::Extent;
-use paper::NAME_BYTES;
+use paper::Name;
 use paper::TOP;
+
+pub mod names;
 
 // As many axes as a count tells of; none where an array has no room for so many.
 pub fn axis_count(n: usize) -> usize
@@ -57,89 +58,9 @@ pub fn axis_of(e: Extent, k: AxisIndex) -> Axis
     let rank = rank_of(e);
     let i = from_zero(k);
     if rank <= i {
-        return Axis {
-            name: 0,
-            lo: 0,
-            hi: 0,
-        };
+        return Axis { lo: 0, hi: 0 };
     }
     e.axes[i]
-}
-
-// A letter, a digit or an underscore: 97 to 122, 48 to 57, 95.
-fn in_name(b: u64) -> bool
-    ensures { λ r. ⌜ r ≡ inName b ⌝ }
-{
-    if b < 48 {
-        return false;
-    }
-    if b <= 57 {
-        return true;
-    }
-    if b == 95 {
-        return true;
-    }
-    if b < 97 {
-        return false;
-    }
-    b <= 122
-}
-
-// The eight bytes of n are a name.
-pub fn is_name(n: u64) -> bool
-    ensures { λ r. ⌜ r ≡ isName (leBytes nameBytes n) ⌝ }
-{
-    if n % 256 < 97 {
-        return false;
-    }
-    if 122 < n % 256 {
-        return false;
-    }
-    let mut left = n / 256;
-    let mut i: usize = 1;
-    while i < NAME_BYTES {
-        if !in_name(left % 256) {
-            return left == 0;
-        }
-        left = left / 256;
-        i += 1;
-    }
-    true
-}
-
-// One of the axes from `first` on has the name of a.
-fn is_named(a: Axis, e: Extent, first: usize) -> bool
-    ensures { λ r. ⌜ r ≡ named a (drop first (axesOf e)) ⌝ }
-{
-    let rank = rank_of(e);
-    let mut i = first;
-    while i < rank {
-        let b = e.axes[i];
-        if a.name == b.name {
-            return true;
-        }
-        i += 1;
-    }
-    false
-}
-
-// Every name good, no two equal.
-pub fn good_names(e: Extent) -> bool
-    ensures { λ r. ⌜ r ≡ goodNames (axesOf e) ⌝ }
-{
-    let rank = rank_of(e);
-    let mut i = 0;
-    while i < rank {
-        let a = e.axes[i];
-        if !is_name(a.name) {
-            return false;
-        }
-        if is_named(a, e, i + 1) {
-            return false;
-        }
-        i += 1;
-    }
-    true
 }
 
 // The axis's limits are in range, lower at most upper.
@@ -195,10 +116,10 @@ pub fn cells_of(e: Extent) -> usize
 }
 
 // The number of cells of a good extent; 0 for any other, since a good one has a cell.
-pub fn good_extent(e: Extent) -> usize
-    ensures { λ r. ⌜ (r ≡ goodCells (axesOf e)) × (r ≤ mostCells) ⌝ }
+pub fn good_extent(names: [Name; AXES], e: Extent) -> usize
+    ensures { λ r. ⌜ (r ≡ goodCells (namesFor (axesOf e) names) (axesOf e)) × (r ≤ mostCells) ⌝ }
 {
-    if !good_names(e) {
+    if !good_names(names, rank_of(e)) {
         return 0;
     }
     if !good_limits(e) {
@@ -209,37 +130,33 @@ pub fn good_extent(e: Extent) -> usize
 
 // ---- two extents compared
 
-// What is asked of each two axes: one name; the same limits too; the same but for the axis of an index; that the first lies inside
-// the maximum's, whose limits are in range; that the second lies inside the first.
+// What is asked of each two axes: the same limits; the same but for the axis of an index; that the first lies inside the maximum's,
+// whose limits are in range; that the second lies inside the first.
 pub enum Asked {
-    Names,
     Limits,
     OtherLimits(AxisIndex),
     Within,
     Covers,
 }
 
-// Both have one name and the same limits.
-fn same_axis(a: Axis, b: Axis) -> bool
-    ensures { λ r. ⌜ r ≡ (sameName a b && sameLimits a b) ⌝ }
+// Both have the same limits.
+fn same_limits(a: Axis, b: Axis) -> bool
+    ensures { λ r. ⌜ r ≡ sameLimits a b ⌝ }
 {
-    if a.name != b.name {
-        return false;
-    }
     if a.lo != b.lo {
         return false;
     }
     a.hi == b.hi
 }
 
-// The same, but the limits don't count on the axis of index k; i is theirs.
+// The same, but they don't count on the axis of index k; i is theirs.
 fn same_but(k: AxisIndex, i: usize, a: Axis, b: Axis) -> bool
-    ensures { λ r. ⌜ r ≡ (sameName a b && (eqb i (k .0) || sameLimits a b)) ⌝ }
+    ensures { λ r. ⌜ r ≡ (eqb i (k .0) || sameLimits a b) ⌝ }
 {
     if i == k.0 as usize {
-        return a.name == b.name;
+        return true;
     }
-    same_axis(a, b)
+    same_limits(a, b)
 }
 
 // The axis lies inside the maximum's, whose limits are in range.
@@ -280,8 +197,7 @@ fn axes_meet(asked: Asked, i: usize, a: Axis, b: Axis) -> bool
     ensures { λ r. ⌜ r ≡ meet asked i a b ⌝ }
 {
     match asked {
-        Asked::Names => return a.name == b.name,
-        Asked::Limits => return same_axis(a, b),
+        Asked::Limits => return same_limits(a, b),
         Asked::OtherLimits(k) => return same_but(k, i, a, b),
         Asked::Within => return axis_within(a, b),
         Asked::Covers => return axis_covers(a, b),
@@ -314,10 +230,10 @@ pub fn covers_all(e: Extent, f: Extent) -> bool
 }
 
 // The number of cells of a good extent that lies inside its maximum, or 0.
-pub fn extent_cells(e: Extent, maximum: Extent) -> usize
-    ensures { λ r. ⌜ (r ≡ cellsWithin (axesOf e) (axesOf maximum)) × (r ≤ mostCells) ⌝ }
+pub fn extent_cells(names: [Name; AXES], e: Extent, maximum: Extent) -> usize
+    ensures { λ r. ⌜ (r ≡ cellsWithin (namesFor (axesOf e) names) (axesOf e) (axesOf maximum)) × (r ≤ mostCells) ⌝ }
 {
-    let n = good_extent(e);
+    let n = good_extent(names, e);
     if !all_meet(Asked::Within, e, maximum) {
         return 0;
     }

@@ -13,6 +13,7 @@ use lib.IntN.{ℤ, pos, negsuc}
 use lib.ListN.{length, getD}
 use mir.Syntax.{w64}
 use mir.Val.{SFits}
+use Rattle.paper.specs.declared.Name.{Name}
 use Rattle.paper.specs.declared.Axis.{Axis}
 use Rattle.paper.specs.declared.Cell.{Cell}
 use Rattle.paper.specs.declared.Cell.the-variants.{Empty, Int}
@@ -24,7 +25,7 @@ use Rattle.paper.specs.Reference.{chosen}
 use Rattle.paper.specs.Rests.{digits, decimal}
 use Rattle.paper.specs.Json.{cellText, jsonText, written}
 use Rattle.paper.specs.Opened.{opened}
-use Rattle.paper.specs.Written.{axis}
+use Rattle.paper.specs.Written.{Given, axesIn, axis}
 use Rattle.laws.specs.Numbers.{Bytes}
 use Rattle.laws.specs.Cells.{OfKind}
 use Rattle.laws.specs.Parts.{fit-parts}
@@ -68,7 +69,7 @@ pub text-most : (A : Array) → Valid A
     → length (jsonText (A .shape .axes) (A .cells)) ≤ mostText (cells (A .shape .axes)) (length (A .shape .axes))
 text-most A v =
     let f : ℕ → Cell = λ k. getD (A .cells) k Empty in
-    let s : Sound (A .shape .axes) = extent-true (A .shape .axes) (v .extent) .0 in
+    let s : Sound (A .shape .axes) = extent-true (A .shape .names) (A .shape .axes) (v .extent) .0 in
     let m = long-most f 20 (each-most (A .shape .type) (A .cells) (v .kinds)) (cells (A .shape .axes)) 0 in
     rw (by-index (A .cells), v .full) (omega (arith, json-long f (A .shape .axes) s (its-axes A v .0), marks-most (A .shape .axes) s, m))
 
@@ -90,7 +91,7 @@ every-text bs k A b e =
       arith,
       text-most A v,
       mul-le-mul-left (cells (A .shape .axes)) d,
-      mul-le-mul-right (19 + 2 * mostAxes) (extent-true (A .shape .axes) (v .extent) .1),
+      mul-le-mul-right (19 + 2 * mostAxes) (extent-true (A .shape .names) (A .shape .axes) (v .extent) .1),
     )
 
 -- a buffer of that length is never refused with 14
@@ -100,13 +101,19 @@ unfolding written
 never-14 bs k room A b e t h = rw (e, t, le-leb (length (jsonText (A .shape .axes) (A .cells))) room (omega (arith, every-text bs k A b e)))
 
 -- and one text needs all of it: the smallest INT in each of 4,096 cells, on axes of 4,096 positions, one, one and one
-abbrev single : String → Axis
+abbrev single : String → Given
 single n = axis n (pos 1) (pos 1)
 
-abbrev pub longestAxes : List Axis
-longestAxes = axis "a" (pos 1) (pos 4096) ∷ single "b" ∷ single "c" ∷ single "d" ∷ []
+abbrev longestGiven : List Given
+longestGiven = axis "a" (pos 1) (pos 4096) ∷ single "b" ∷ single "c" ∷ single "d" ∷ []
 
-pub longest-good : goodExtent longestAxes ≡ true
+abbrev pub longestNames : List Name
+longestNames = map (λ g. g .name) longestGiven
+
+abbrev pub longestAxes : List Axis
+longestAxes = axesIn longestGiven
+
+pub longest-good : goodExtent longestNames longestAxes ≡ true
 unfolding opened
 longest-good = refl
 
@@ -118,5 +125,5 @@ twenty (suc n) i = omega (arith, twenty n (i + 1), suc-mul n 20)
 pub longest-met : length (jsonText longestAxes (map (λ k. Int smallestInt) (from 0 (cells longestAxes)))) ≡ longest
 unfolding opened marks
 longest-met =
-    let s : Sound longestAxes = extent-true longestAxes longest-good .0 in
+    let s : Sound longestAxes = extent-true longestNames longestAxes longest-good .0 in
     json-long (λ k. Int smallestInt) longestAxes s (omega arith) ∙ rw (twenty (cells longestAxes) 0)

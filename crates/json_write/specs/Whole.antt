@@ -2,7 +2,7 @@
 -- by the ways in which its judging can end.
 use Prim.Native.Nat.{ℕ, zero, suc, _+_, _-_, _*_, _^_, _≤_, _<_}
 use mathlib.Core.Path.{_≡_, refl, sym, ap, subst, _∙_}
-use mathlib.Core.Bool.{true, false}
+use mathlib.Core.Bool.{false}
 use mathlib.Core.List.{List, [], _∷_, _++_, map}
 use mathlib.Core.Option.{some}
 use native.Mathlib.Nat.{zero-add}
@@ -17,7 +17,7 @@ use Rattle.paper.specs.declared.Refusal.{Refusal}
 use Rattle.paper.specs.Limits.{FLOAT, mostAxes, mostCells, cellBytes}
 use Rattle.paper.specs.Refusals.{Res, got, refused, refusal, present, unknown4, unfit7, smallOutput14}
 use Rattle.paper.specs.Numbers.{text, from, part, nth}
-use Rattle.paper.specs.Axes.{width, cells, goodExtent, Array}
+use Rattle.paper.specs.Axes.{width, cells, Array}
 use Rattle.paper.specs.Cells.{cellOf}
 use Rattle.paper.specs.Bundle.{putInto, readBundle}
 use Rattle.paper.specs.Reference.{chosen}
@@ -26,9 +26,10 @@ use Rattle.paper.specs.Json.{jsonText, written, writeJson}
 use Rattle.laws.specs.Numbers.{Bytes}
 use Rattle.laws.specs.Tests.{between-true, some-one, no-none, bind-got, present-got}
 use Rattle.laws.specs.Judged.{orEmpty, cellsFrom}
-use Rattle.laws.specs.Limits.{Sound, extent-true}
+use Rattle.laws.specs.Limits.{Sound}
 use Rattle.roundtrip.specs.Valid.{Valid, EachValid}
 use Rattle.roundtrip.specs.Reading.{bundle-read}
+use Rattle.extent.specs.Judged.{Small, good-small}
 use Rattle.bundle.specs.Read.{arrayAt}
 use Rattle.refer.specs.declared.Chosen.{Chosen}
 use Rattle.refer.specs.Chosen.{ChosenHead, its-refusal, its-array}
@@ -125,16 +126,16 @@ module _ {bs : List ℕ} {at t : ℕ} {E : List Axis} {left begin cell₀ room :
 
 -- ---- the whole object
 
--- a good extent of one axis at least, whose cells lie in the bytes
+-- a good extent, by its limits and its number of cells, of one axis at least, whose cells lie in the bytes
 pub record Whole (bs : List ℕ) (at : ℕ) (E : List Axis) : Type 0 where
-  pub good : goodExtent E ≡ true
+  pub small : Small E
   pub some : 0 < length E
   pub rank : length E ≤ mostAxes
   pub lies : at + cells E * cellBytes ≤ length bs
 
 module _ {bs : List ℕ} {at : ℕ} {E : List Axis} (v : Whole bs at E) where
   pub whole-sound : Sound E × (cells E ≤ mostCells)
-  whole-sound = extent-true E (v .good)
+  whole-sound = (v .small .sound, v .small .few)
 
   module _ (t : ℕ) where
     cells-are : cellsFrom t (cells E) (drop at bs) ≡ map (cellBy bs at t) (from 0 (cells E))
@@ -223,4 +224,4 @@ module _ {bs : List ℕ} {k : ℕ} {c : Chosen} (v : ChosenHead bs k c) (out : L
     its-whole b =
         let w = chosen-valid bs k (arrayAt bs (c .head)) b (sym (its-array v y)) in
         let r = its-axes (arrayAt bs (c .head)) w in
-        record { good = w .extent; some = r .0; rank = r .1; lies = v .fit y .fits }
+        record { small = good-small _ _ (w .extent); some = r .0; rank = r .1; lies = v .fit y .fits }

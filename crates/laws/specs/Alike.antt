@@ -6,12 +6,11 @@ use mathlib.Core.List.{List, [], _∷_, _++_}
 use native.Mathlib.Omega.{arith}
 use borrow.Author.Tests.{eqb-true}
 use lib.Dec.{eqb}
-use lib.ListN.{length, drop}
+use lib.ListN.{length}
 use Rattle.paper.specs.Numbers.{alike}
 use Rattle.paper.specs.declared.Axis.{Axis}
-use Rattle.paper.specs.Limits.{nameBytes}
 use Rattle.paper.specs.Axes.{cells, inside, offset, atOffset}
-use Rattle.paper.specs.Recipe.{sameLimits, renamed, eachAnew}
+use Rattle.paper.specs.Recipe.{sameLimits}
 use Rattle.laws.specs.Tests.{and-left, and-right}
 use Rattle.laws.specs.Places.{Inside, inside-true, true-inside}
 
@@ -55,12 +54,6 @@ alike-split [] [] G H e s = (tt, s)
 alike-split [] (b ∷ F) G H e s = absurd (omega arith)
 alike-split (a ∷ E) [] G H e s = absurd (omega arith)
 alike-split (a ∷ E) (b ∷ F) G H e s = let r = alike-split E F G H (omega arith) (s .2) in ((s .0, s .1, r .0), r .1)
-
--- new names change no limit
-pub alike-renamed : (E : List Axis) (d : List ℕ) → SameLimits (renamed E d) E
-unfolding eachAnew
-alike-renamed [] d = tt
-alike-renamed (a ∷ E) d = (refl, refl, alike-renamed E (drop nameBytes d))
 
 -- ---- the same places
 

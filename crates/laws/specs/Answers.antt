@@ -1,7 +1,7 @@
 -- The answers of the callable parts: two answers with the same figures are equal, so that a promise about the figures fixes the answer.
 -- A reading is a struct with room for the most arrays and axes: it is fixed where nothing stands past the last of each.
 use Prim.Native.Nat.{ℕ, _-_, _≤_}
-use mathlib.Core.Path.{_≡_, refl}
+use mathlib.Core.Path.{_≡_, refl, ap, _∙_}
 use mathlib.Core.Bool.{Bool, true, false}
 use mathlib.Core.List.{List, [], _++_, map}
 use native.Mathlib.Omega.{arith}
@@ -9,6 +9,7 @@ use borrow.Author.Tests.{eq-eqb, ne-eqb, le-leb, leb-true}
 use lib.Dec.{leb}
 use lib.ListN.{length, replicate, length-take}
 use lib.Seq.{take-at}
+use Rattle.paper.specs.declared.Name.{Name}
 use Rattle.paper.specs.declared.Axis.{Axis}
 use Rattle.paper.specs.declared.Extent.{Extent}
 use Rattle.paper.specs.declared.Form.{Form}
@@ -17,8 +18,8 @@ use Rattle.paper.specs.declared.Reading.{Reading}
 use Rattle.paper.specs.declared.Refusal.{Refusal}
 use Rattle.paper.specs.Limits.{mostAxes, mostArrays}
 use Rattle.paper.specs.Refusals.{Res, got, refused, if_then_else_, refusal}
-use Rattle.paper.specs.Axes.{cells, noAxis, Shape, shaped}
-use Rattle.paper.specs.Answers.{axisCount, axesOf, extentOf, shapeOf, unless}
+use Rattle.paper.specs.Axes.{noName, cells, noAxis, Shape, shaped}
+use Rattle.paper.specs.Answers.{axisCount, axesOf, namesFor, extentOf, namesOf, shapeOf, unless}
 
 -- ---- answers that are structs: number 0 stands for no refusal
 
@@ -54,20 +55,27 @@ TidyExtent e = e ≡ extentOf (axesOf e)
 
 -- the form of a shape, and the head and the reading that say what was read, with nothing past the last
 abbrev pub formOf : Shape → Form
-formOf s = record { kind = s .type; extent = extentOf (s .axes); maximum = extentOf (s .maximum) }
+formOf s = record { kind = s .type; names = namesOf (s .names); extent = extentOf (s .axes); maximum = extentOf (s .maximum) }
 
-pub form-shape : (s : Shape) → length (s .axes) ≤ mostAxes → length (s .maximum) ≤ mostAxes → shapeOf (formOf s) ≡ s
-form-shape s h k =
+-- of the names with nothing past the last the first are these
+pub names-first : (N : List Name) (E : List Axis) → length N ≡ length E → namesFor E (namesOf N) ≡ N
+names-first N E h = take-at N (replicate (mostAxes - length N) noName) (length E) h
+
+pub form-shape : (s : Shape) → length (s .names) ≡ length (s .axes) → length (s .axes) ≤ mostAxes → length (s .maximum) ≤ mostAxes
+    → shapeOf (formOf s) ≡ s
+form-shape s n h k =
     let p = extent-axes (s .axes) h in
     let q = extent-axes (s .maximum) k in
-    λ i. record { type = s .type; axes = p i; maximum = q i }
+    let m : namesFor (axesOf (extentOf (s .axes))) (namesOf (s .names)) ≡ s .names =
+    ap (λ (E : List Axis). namesFor E (namesOf (s .names))) p ∙ names-first (s .names) (s .axes) n in
+    λ i. record { type = s .type; names = m i; axes = p i; maximum = q i }
 
 abbrev pub headOf : Shape × ℕ → Head
 headOf x = record { form = formOf (x .0); at = x .1; cells = cells (x .0 .axes) }
 
 -- of no array, with no cell
 abbrev pub noHead : Head
-noHead = record { form = formOf (shaped 0 [] []); at = 0; cells = 0 }
+noHead = record { form = formOf (shaped 0 [] [] []); at = 0; cells = 0 }
 
 abbrev pub readingOf : Res (List (Shape × ℕ)) → Reading
 readingOf (got l) = record { refusal = refusal 0 0 0; count = length l; heads = map headOf l ++ replicate (mostArrays - length l) noHead }

@@ -10,6 +10,7 @@ use borrow.Author.Tests.{leb-true, le-leb}
 use lib.Dec.{leb}
 use lib.ListN.{length, getD, take, drop}
 use Rattle.paper.specs.Numbers.{alike}
+use Rattle.paper.specs.declared.Name.{Name}
 use Rattle.paper.specs.declared.Axis.{Axis}
 use Rattle.paper.specs.Limits.{reach, mostCells}
 use Rattle.paper.specs.Axes.{cells, goodNames, goodLimits, goodExtent, within}
@@ -29,9 +30,9 @@ limits-true (a ∷ E) e =
     (leb-true _ _ (and-left (leb (a .lo) (a .hi)) _ e), leb-true _ _ (and-left (leb (a .hi) (2 * reach)) _ r), limits-true E (and-right (leb (a .hi) (2 * reach)) _ r))
 
 -- a good extent
-pub extent-true : (E : List Axis) → goodExtent E ≡ true → Sound E × (cells E ≤ mostCells)
-extent-true E e =
-    let r = and-right (goodNames E) _ e in
+pub extent-true : (N : List Name) (E : List Axis) → goodExtent N E ≡ true → Sound E × (cells E ≤ mostCells)
+extent-true N E e =
+    let r = and-right (goodNames N) _ e in
     (limits-true E (and-left (goodLimits E) _ r), leb-true _ _ (and-right (goodLimits E) _ r))
 
 pub sound-take : (E : List Axis) (i : ℕ) → Sound E → Sound (take i E)

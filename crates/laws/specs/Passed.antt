@@ -20,7 +20,7 @@ pub record Tested (s : Step) (A B : Shape) : Type 0 where
   pub unused : unusedZero (uses (s .operation)) (length (A .axes)) s ≡ true
   pub axis : axisIn (uses (s .operation)) (length (A .axes)) (s .axis) ≡ true
   pub types : typesFit (s .operation) s (A .type) (B .type) ≡ true
-  pub agrees : agree (s .operation) (s .axis) (A .axes) (B .axes) ≡ true
+  pub agrees : agree (s .operation) (s .axis) (A .names) (A .axes) (B .names) (B .axes) ≡ true
   pub fits : fitsIn (s .operation) s A B ≡ true
 
 pub tests-passed : {C : Type 0} (k : ℕ) (s : Step) (A B : Shape) (m : Res C) (c : C) → (stepTests k s A B >> m) ≡ got c
@@ -32,7 +32,7 @@ tests-passed k s A B m c e =
     let u = ensure-got (unusedZero (uses op) (length (A .axes)) s) unknown4 k _ tt (h .1) in
     let x = ensure-got (axisIn (uses op) (length (A .axes)) (s .axis)) badAxis5 k _ tt (u .1) in
     let t = ensure-got (typesFit op s (A .type) (B .type)) unfit7 k _ tt (x .1) in
-    let g = ensure-got (agree op (s .axis) (A .axes) (B .axes)) differ8 k _ tt (t .1) in
+    let g = ensure-got (agree op (s .axis) (A .names) (A .axes) (B .names) (B .axes)) differ8 k _ tt (t .1) in
     let f = ensured (fitsIn op s A B) outside6 k (g .1) in
     (record { unused = u .0; axis = x .0; types = t .0; agrees = g .0; fits = f }, h .2)
 
@@ -48,7 +48,7 @@ pub record Passed (arrays earlier : List Shape) (p : Planned) : Type 0 where
   pub is-second : operandB arrays earlier (p .step) ≡ some second
   pub tested : Tested (p .step) first second
   pub shape : p .shape ≡ resultOf (p .step) first second
-  pub good : goodResult (p .shape .axes) ≡ true
+  pub good : goodResult (p .shape .names) (p .shape .axes) ≡ true
 
 plan-passed : (k : ℕ) (arrays earlier : List Shape) (bs : List ℕ) (p : Planned) → planStep k arrays earlier bs ≡ got p
     → Passed arrays earlier p
@@ -61,7 +61,7 @@ plan-passed k arrays earlier bs p e =
     let A : Shape = a .0 in
     let B : Shape = b .0 in
     let t = tests-passed k s A B _ p (b .2) in
-    let r = ensure-got (goodResult (resultOf s A B .axes)) badResult9 k (got (record { step = s; shape = resultOf s A B })) p (t .1) in
+    let r = ensure-got (goodResult (resultOf s A B .names) (resultOf s A B .axes)) badResult9 k (got (record { step = s; shape = resultOf s A B })) p (t .1) in
     subst (Passed arrays earlier) (got-one (record { step = s; shape = resultOf s A B }) p (r .1))
     (record {
       first = A;

@@ -18,13 +18,14 @@ use Rattle.paper.specs.declared.Listed.{Listed}
 use Rattle.paper.specs.Limits.{BOOLEAN, limitBytes, cellBytes}
 use Rattle.paper.specs.Refusals.{got, if_then_else_}
 use Rattle.paper.specs.Numbers.{part, leBytes, positionBytes, lastOf, concat, over}
-use Rattle.paper.specs.Axes.{cells, coordinate, result, Shape, Array}
+use Rattle.paper.specs.Axes.{cells, coordinate, Shape, Array}
 use Rattle.paper.specs.Cells.{cellOf, isTrue, trues}
 use Rattle.paper.specs.Listing.{rowBytes, row, listed, goOn, Paged, pageOf}
 use Rattle.laws.specs.Judged.{orEmpty, cellsFrom, cell-no, length-cells}
 use Rattle.extent.specs.Judged.{Small}
 use Rattle.laws.specs.Rows.{concat-map, rowsOf, length-rows}
 use Rattle.laws.specs.Pages.{trues-yes, trues-no}
+use Rattle.listing.specs.Rows.{nameless}
 
 -- what was tested before: the extent is good, its n cells lie in the bytes, the start is in range, a row has room
 pub record Listable (E : List Axis) (at n start : ℕ) (work rows : List ℕ) : Type 0 where
@@ -178,17 +179,17 @@ one-fits size len p h = le-div-iff-mul-le p .1 (omega arith)
 
 -- the listing of n cells from `at` on
 abbrev pub Listing : List ℕ → ℕ → ℕ → List Axis → ℕ → ℕ → List ℕ → List ℕ → ℕ → ℕ → Type 0
-Listing work at n E first room d₀ d k w = Going (result BOOLEAN E) (cellsFrom BOOLEAN n (drop at work)) first room d₀ d k w
+Listing work at n E first room d₀ d k w = Going (nameless E) (cellsFrom BOOLEAN n (drop at work)) first room d₀ d k w
 
 -- a turn of the loop over cell k, which is TRUE where b says so: its row was put, or nothing was done
 pub data Met (E : List Axis) (size : ℕ) (d : List ℕ) (k w : ℕ) (b : Bool) (y : List ℕ) (x : ℕ) : Type 0 where
-  wrote : b ≡ true → y ≡ paste d (w * size) (row (result BOOLEAN E) (k + 1)) (rowBytes (result BOOLEAN E)) → x ≡ w + 1
+  wrote : b ≡ true → y ≡ paste d (w * size) (row (nameless E) (k + 1)) (rowBytes (nameless E)) → x ≡ w + 1
       → Met E size d k w b y x
   skipped : b ≡ false → y ≡ d → x ≡ w → Met E size d k w b y x
 
-module _ (work : List ℕ) (at n : ℕ) (E : List Axis) (first size : ℕ) (d₀ : List ℕ) (z : size ≡ rowBytes (result BOOLEAN E)) where
+module _ (work : List ℕ) (at n : ℕ) (E : List Axis) (first size : ℕ) (d₀ : List ℕ) (z : size ≡ rowBytes (nameless E)) where
   abbrev s : Shape
-  s = result BOOLEAN E
+  s = nameless E
 
   abbrev cs : List Cell
   cs = cellsFrom BOOLEAN n (drop at work)
@@ -212,7 +213,7 @@ module _ (work : List ℕ) (at n : ℕ) (E : List Axis) (first size : ℕ) (d₀
       rw (p, q) (going-no s cs first (length d₀ / size) d₀ d k w v (omega (arith, long-cs)) g _ (cell-next BOOLEAN n at k work h) t)
   list-more {d} {k} {w} v h g e {y} (wrote f p q) =
       let t = sym e ∙ f in
-      let r : w * rowBytes (result BOOLEAN E) + rowBytes (result BOOLEAN E) ≤ length d₀ = rw (← z) (row-fits w size (length d₀) g) in
+      let r : w * rowBytes (nameless E) + rowBytes (nameless E) ≤ length d₀ = rw (← z) (row-fits w size (length d₀) g) in
       let o = p ∙ ap (λ (j : ℕ). paste d (w * j) (row s (k + 1)) (rowBytes s)) z in
       rw q (going-yes s cs first (length d₀ / size) d₀ d k w v (omega (arith, long-cs)) g _ (cell-next BOOLEAN n at k work h) t r y o)
 
@@ -226,7 +227,7 @@ abbrev pagedAs : ℕ → ℕ → List ℕ → List ℕ → Paged
 pagedAs w o u d = record { answer = got (record { written = w; next = record { 0 = o } }); work = u; rows = d }
 
 module _ (work : List ℕ) (at n start : ℕ) (E : List Axis) (d₀ : List ℕ) {d : List ℕ} {room k w : ℕ} (h : n ≡ cells E) (b : 1 ≤ start)
-    (g : room ≡ length d₀ / rowBytes (result BOOLEAN E)) (v : Listing work at n E (start - 1) room d₀ d k w) (z : Ended n room k w) where
+    (g : room ≡ length d₀ / rowBytes (nameless E)) (v : Listing work at n E (start - 1) room d₀ d k w) (z : Ended n room k w) where
   abbrev held : List Cell
   held = cellsFrom BOOLEAN n (drop at work)
 
@@ -234,9 +235,9 @@ module _ (work : List ℕ) (at n start : ℕ) (E : List Axis) (d₀ : List ℕ) 
   from-start = let e : start - 1 + 1 ≡ start = omega arith in rw e
 
   all-done : Ended n room k w → v .done ≡ take room (trues start (drop (start - 1) held))
-  all-done (full x) = all-full (result BOOLEAN E) held (start - 1) room d₀ d k w v x ∙ from-start
+  all-done (full x) = all-full (nameless E) held (start - 1) room d₀ d k w v x ∙ from-start
   all-done (passed x) =
-      all-passed (result BOOLEAN E) held (start - 1) room d₀ d k w v (omega (arith, length-cells BOOLEAN n (drop at work))) ∙ from-start
+      all-passed (nameless E) held (start - 1) room d₀ d k w v (omega (arith, length-cells BOOLEAN n (drop at work))) ∙ from-start
 
   module _ (A : Array) (e : A .shape .axes ≡ E) where
     -- one past the last row's ordinality, which is where the loop stands; or all cells passed
@@ -261,7 +262,7 @@ module _ (work : List ℕ) (at n start : ℕ) (E : List Axis) (d₀ : List ℕ) 
             let o : take (length d₀ / rowBytes (A .shape)) (trues start (drop (start - 1) (A .cells))) ≡ v .done =
             ap₂ (λ (j : ℕ) (l : List Cell). take j (trues start (drop (start - 1) l))) m c ∙ sym (all-done z) in
             let r : over (rowsOf (A .shape) (v .done)) d₀ ≡ d =
-            ap (λ (f : ℕ → List ℕ). over (concat (map f (v .done))) d₀) (row-axes (A .shape) (result BOOLEAN E) e) ∙ sym (v .rows) in
+            ap (λ (f : ℕ → List ℕ). over (concat (map f (v .done))) d₀) (row-axes (A .shape) (nameless E) e) ∙ sym (v .rows) in
             ap₂ (λ (j : ℕ) (os : List ℕ). pagedAs (length os) (goOn A j os) u (over (rowsOf (A .shape) os) d₀)) m o
             ∙ ap₂ (λ (x y : ℕ). pagedAs x y u (over (rowsOf (A .shape) (v .done)) d₀)) (sym (v .many)) (goes-on A e)
             ∙ ap (pagedAs w (k + 1) u) r;

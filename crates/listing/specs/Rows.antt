@@ -16,7 +16,7 @@ use Rattle.paper.specs.declared.Cell.the-variants.{Empty, Truth}
 use Rattle.paper.specs.Limits.{BOOLEAN, limitBytes, wordBytes, cellBytes}
 use Rattle.paper.specs.Refusals.{if_then_else_}
 use Rattle.paper.specs.Numbers.{leOf, leBytes, part, position, positionBytes, concat}
-use Rattle.paper.specs.Axes.{coordinate, result}
+use Rattle.paper.specs.Axes.{coordinate, Shape, result}
 use Rattle.paper.specs.Cells.{filled, cellFrom, cellOf, isTruth, isTrue}
 use Rattle.paper.specs.Listing.{row}
 use Rattle.laws.specs.Judged.{orEmpty}
@@ -124,8 +124,12 @@ rowSize r = limitBytes + limitBytes * r
 unfoldable pub rowOf : ℕ → List ℕ → List ℕ
 rowOf o p = leBytes limitBytes o ++ positionsBytes p
 
+-- the shape of a result with these axes: a row tells positions alone, so its names don't count
+abbrev pub nameless : List Axis → Shape
+nameless E = result BOOLEAN [] E
+
 -- what the paper writes for a cell
-pub row-at : (E : List Axis) (o : ℕ) (p : List ℕ) → p ≡ coordinate E o → rowOf o p ≡ row (result BOOLEAN E) o
+pub row-at : (E : List Axis) (o : ℕ) (p : List ℕ) → p ≡ coordinate E o → rowOf o p ≡ row (nameless E) o
 unfolding row rowOf
 row-at E o p e = ap (λ (u : List ℕ). leBytes limitBytes o ++ positionsBytes u) e
 

@@ -1,10 +1,11 @@
 -- What the functions of this crate ask of their callers, and that a step that passed its tests gives it.
 use Prim.Native.Nat.{ℕ, _+_, _-_, _*_, _≤_, _<_}
 use mathlib.Core.Path.{_≡_, sym, ap, _∙_}
-use mathlib.Core.Bool.{true}
+use mathlib.Core.Bool.{Bool, true, _&&_}
 use mathlib.Core.List.{List}
 use native.Mathlib.Nat.{mul-le-mul-right, one-mul}
 use native.Mathlib.Omega.{arith}
+use borrow.Author.Tests.{eqb-true}
 use lib.ListN.{length, take, drop, length-append, length-take, length-drop}
 use Rattle.paper.specs.declared.Axis.{Axis}
 use Rattle.paper.specs.declared.Move.{Move}
@@ -12,12 +13,11 @@ use Rattle.paper.specs.declared.Move.the-variants.{Slice, Update, Put, Glue}
 use Rattle.paper.specs.Limits.{reach, mostCells, mostAxes}
 use Rattle.paper.specs.Refusals.{between}
 use Rattle.paper.specs.Numbers.{positionAt}
-use Rattle.paper.specs.Axes.{width, cells, sameName, noAxis, axisAt, onAxis, without}
-use Rattle.paper.specs.Recipe.{Step, uses, agree, fitsIn, resultAxes}
+use Rattle.paper.specs.Axes.{width, cells, noAxis, axisAt, onAxis, without}
+use Rattle.paper.specs.Recipe.{Step, uses, asMany, agree, fitsIn, resultAxes}
 use Rattle.laws.specs.Tests.{and-left, between-true}
 use Rattle.laws.specs.Places.{onAxis-true}
 use Rattle.laws.specs.Limits.{sound-at}
-use Rattle.laws.specs.Alike.{alike-length}
 use Rattle.laws.specs.Joins.{cells-without, sound-without}
 use Rattle.laws.specs.Glue.{Gluable, gluable}
 use Rattle.extent.specs.Judged.{Small}
@@ -79,6 +79,10 @@ length-without k E one last = omega (arith, length-append (take (k - 1) E) (drop
 
 -- ---- from a step's tests
 
+-- the arrays' axes are as many
+as-many : (E F : List Axis) (b : Bool) → (asMany E F && b) ≡ true → length E ≡ length F
+as-many E F b e = eqb-true (length E) (length F) (and-left (asMany E F) b e)
+
 axial-in : {k : ℕ} {E : List Axis} → Small E → between 1 (length E) k ≡ true → Axial k E
 axial-in {k} {E} s e = let b = between-true (length E) k e in record { small = s; one = b .0; last = b .1 }
 
@@ -99,14 +103,14 @@ module _ {st : Step} {E F G : List Axis} where
   pub update-asks : {k : ℕ} → Moving Update st E F G → k < cells G → Beside G F k
   unfolding resultAxes agree
   update-asks M h =
-      record { here = M .result; there = M .second; same = sym (ap length (M .axes) ∙ alike-length sameName E F (M .agrees)); lt = h }
+      record { here = M .result; there = M .second; same = sym (ap length (M .axes) ∙ as-many E F _ (M .agrees)); lt = h }
 
   -- place: B has one axis fewer, and has room for it
   pub put-axis : Moving Put st E F G → (1 ≤ st .axis) × (st .axis ≤ length E) × (length E ≡ length F + 1)
   unfolding uses agree
   put-axis M =
       let a = axial-in (M .first) (M .axis) in
-      let s = alike-length sameName (without (st .axis) E) F (M .agrees) in
+      let s = as-many (without (st .axis) E) F _ (M .agrees) in
       (a .one, a .last, omega (arith, s, length-without (st .axis) E (a .one) (a .last)))
 
   pub put-room : Moving Put st E F G → length E ≤ mostAxes → Insertable (st .axis) F
@@ -129,7 +133,9 @@ module _ {st : Step} {E F G : List Axis} where
 
   pub glue-asks : Moving Glue st E F G → Gluable (st .axis) E F
   unfolding uses
-  glue-asks M = let a = axial-in (M .first) (M .axis) in gluable (st .axis) E F (a .one) (a .last) (M .first .sound) (M .agrees)
+  glue-asks M =
+      let a = axial-in (M .first) (M .axis) in
+      gluable (st .axis) (M .left .names) (M .right .names) E F (a .one) (a .last) (M .first .sound) (M .agrees)
 
   pub axials : Moving Glue st E F G → Axial (st .axis) E × Axial (st .axis) F
   axials M =

@@ -23,7 +23,7 @@ use Rattle.origin.specs.declared.Origin.the-variants.{FromA}
 use Rattle.origin.specs.Origins.{Moving, originAt, foundIn, inA, overA, found-first, found-inside, found-over, turnOrigin}
 use Rattle.origin.specs.Asks.{slice-asks, put-axis, glue-asks}
 use Rattle.origin.specs.Blocks.{slice-offset}
-use Rattle.origin.specs.Lies.{own-offset, own-inside, shift-own, rename-own, same-own, lies}
+use Rattle.origin.specs.Lies.{own-offset, own-inside, shift-own, same-own, lies}
 use Rattle.origin.specs.Patches.{patch, patch-on, patch-off}
 use Rattle.origin.specs.Counts.{glue-origin}
 
@@ -55,8 +55,8 @@ module _ {st : Step} {E F G : List Axis} {k : ℕ} where
   shift-comes M h = rw (own-offset (shift-own M h))
 
   pub rename-comes : Moving Rename st E F G → k < cells G → comes Rename st E F G k ≡ FromA k
-  unfolding whence originAt
-  rename-comes M h = rw (own-offset (rename-own M h))
+  unfolding whence resultAxes originAt
+  rename-comes M h = rw (own-offset (same-own (M .axes) h))
 
   pub update-comes : Moving Update st E F G → k < cells G → comes Update st E F G k ≡ overA k (foundIn F (atOffset G k))
   unfolding whence resultAxes

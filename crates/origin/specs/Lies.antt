@@ -15,12 +15,11 @@ use Rattle.paper.specs.declared.Operation.the-variants.{Moves}
 use Rattle.paper.specs.Refusals.{if_then_else_}
 use Rattle.paper.specs.Numbers.{positionAt}
 use Rattle.paper.specs.Axes.{cells, inside, offset, atOffset, without}
-use Rattle.paper.specs.Recipe.{Step, uses, fitsIn, resultAxes, covers, glued, renamed, shifted}
+use Rattle.paper.specs.Recipe.{Step, uses, fitsIn, resultAxes, covers, glued, shifted}
 use Rattle.paper.specs.Values.{Whence, fromA, fromB, nowhere, shiftedBack, overlaid, inFirst, inSecond, whence}
 use Rattle.laws.specs.Tests.{and-left, and-right}
 use Rattle.laws.specs.Places.{Inside, inside-true, offset-atOffset, atOffset-inside}
 use Rattle.laws.specs.Limits.{Sound}
-use Rattle.laws.specs.Alike.{alike-renamed, cells-alike, atOffset-alike}
 use Rattle.laws.specs.Joins.{inside-putIn}
 use Rattle.laws.specs.Glue.{glued-first, glued-second}
 use Rattle.origin.specs.declared.Origin.the-variants.{FromB}
@@ -77,13 +76,6 @@ module _ {st : Step} {E F G : List Axis} {k : ℕ} where
       let l : k < cells E = omega (arith, ap cells (M .axes), cells-shifted E (st .detail) (M .first .sound) s) in
       record { lt = l; is = rw (M .axes) (shifted-back E (st .detail) k (M .first .sound) s l) }
 
-  pub rename-own : Moving Rename st E F G → k < cells G → Own E k (atOffset G k)
-  unfolding resultAxes
-  rename-own M h =
-      let s = alike-renamed E (st .detail) in
-      let n = cells-alike (renamed E (st .detail)) E s in
-      record { lt = omega (arith, ap cells (M .axes)); is = rw (M .axes) (atOffset-alike _ E k s) }
-
   -- ---- every move
 
   pub lies : {m : Move} → Moving m st E F G → k < cells G → Lies E F (whence m st E F (atOffset G k))
@@ -97,7 +89,7 @@ module _ {st : Step} {E F G : List Axis} {k : ℕ} where
       inside-putIn (st .axis) E (a .axial .one) (a .axial .last) _ (atOffset G k) i (a .low) (a .high)
   lies {m = Reshape} M h = let p = atOffset G k in either E F (inside E p) (fromA p) nowhere (inside-true E p) (λ e. tt)
   lies {m = Shift} M h = own-inside (shift-own M h)
-  lies {m = Rename} M h = own-inside (rename-own M h)
+  lies {m = Rename} M h = own-inside (same-own (M .axes) h)
   lies {m = Update} M h = over-lies E F _ _ (own-inside (same-own (M .axes) h))
   lies {m = Put} M h =
       let p = atOffset G k in

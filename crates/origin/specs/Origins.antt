@@ -31,11 +31,11 @@ pub record Moving (m : Move) (st : Step) (E F G : List Axis) : Type 0 where
   pub second : Small F
   pub result : Small G
   pub axis : axisIn (uses (Moves m)) (length E) (st .axis) ≡ true
-  pub agrees : agree (Moves m) (st .axis) E F ≡ true
   pub left : Shape
   pub right : Shape
   pub left-axes : left .axes ≡ E
   pub right-axes : right .axes ≡ F
+  pub agrees : agree (Moves m) (st .axis) (left .names) E (right .names) F ≡ true
   pub fits : fitsIn (Moves m) st left right ≡ true
   pub axes : G ≡ resultAxes (Moves m) st E F
 

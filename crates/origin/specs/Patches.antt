@@ -11,7 +11,7 @@ use lib.Seq.{getD-at, getD-take, getD-drop, getD-append-add}
 use Rattle.paper.specs.declared.Axis.{Axis}
 use Rattle.paper.specs.Limits.{reach, mostAxes}
 use Rattle.paper.specs.Numbers.{alike, positionAt}
-use Rattle.paper.specs.Axes.{cells, onAxis, offset, noAxis, axisAt, without, putIn}
+use Rattle.paper.specs.Axes.{cells, limited, onAxis, offset, noAxis, axisAt, without, putIn}
 use Rattle.paper.specs.Recipe.{Step}
 use Rattle.laws.specs.Places.{onAxis-true, true-onAxis}
 use Rattle.laws.specs.Limits.{sound-take, sound-drop}
@@ -61,7 +61,7 @@ module _ {k : ℕ} {F : List Axis} (h : Insertable k F) (a : Axis) where
 
 -- ---- an axis of one position
 abbrev pub spot : ℕ → Axis
-spot x = record { name = 0; lo = x; hi = x }
+spot x = limited x x
 
 outside-right : (n : ℕ) (f : Found) → joined n f Outside ≡ Outside
 outside-right n (After i) = refl

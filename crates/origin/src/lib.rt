@@ -97,11 +97,7 @@ pub fn patch_of(f: Extent, k: AxisIndex, x: u32) -> Extent
     requires { ⌜ Insertable (k .0) (axesOf f) ⌝ }
     ensures { λ r. ⌜ axesOf r ≡ putIn (k .0) (spot x) (axesOf f) ⌝ }
 {
-    let a = Axis {
-        name: 0,
-        lo: x,
-        hi: x,
-    };
+    let a = Axis { lo: x, hi: x };
     let n = extent::rank_of(f) + 1;
     let mut new = shape::empty();
     let mut i: usize = 0;

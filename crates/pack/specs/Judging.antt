@@ -24,6 +24,7 @@ use Rattle.bundle.specs.declared.ArrayRead.{ArrayRead}
 use Rattle.bundle.specs.Read.{JudgedArray}
 use Rattle.pack.specs.declared.judge.FormJudged.{FormJudged}
 use Rattle.pack.specs.declared.judge.Verdict.{Verdict}
+use Rattle.pack.specs.Put.{names-full}
 use Rattle.pack.specs.Laid.{shapesOf, shapes-length, shapes-few, cellRoom, formBytes, mostBytes, FormPassed, ready-packed, ready-small, ready-long, AllReady, laidBytes, restOf, packed-left}
 
 -- ---- one form
@@ -62,15 +63,18 @@ module _ {bs : List ℕ} {from k : ℕ} {form : Form} where
     module _ (b : between 1 mostAxes n ≡ true) {o : ArrayRead} (j : JudgedArray bs from k form o) where
       pub form-bad : (o .refusal .number ≡ 0 → ⊥) → JudgedForm bs from k form (stopped (o .refusal))
       unfolding packArray
-      form-bad f = form-refused f (rw (t, ← r .number, b) (sym (j .said) ∙ unless-refused (o .refusal) _ f))
+      form-bad f =
+          let c : between 1 mostAxes (length (shapeOf form .axes)) ≡ true = rw (← r .number) b in
+          form-refused f (rw (t, c) (sym (j .said) ∙ unless-refused (o .refusal) _ f))
 
       -- an array that was read is ready to be packed
-      pub form-got : from ≤ length bs → o .refusal .number ≡ 0
+      pub form-got : length (form .names) ≡ mostAxes → from ≤ length bs → o .refusal .number ≡ 0
           → JudgedForm bs from k form (record { refusal = o .refusal; end = o .end; long = typeBytes + n * axisBytes + (o .end - from) })
-      form-got w z =
+      form-got m w z =
           let f = rw (j .held z) at (j .fit z) in
           let l : cellRoom form ≤ length (drop from bs) = omega (arith, length-drop from bs, f .fits) in
-          let v : FormPassed form (drop from bs) = record { type = t; rank = rw (← r .number) b; good = f .good; fits = l; clean = f .clean } in
+          let v : FormPassed form (drop from bs) =
+          record { type = t; rank = rw (← r .number) b; good = f .good; named = names-full form m; fits = l; clean = f .clean } in
           let p = j .past z in
           record {
             no = λ f. absurd (f z);

@@ -10,6 +10,7 @@ use borrow.Author.Tests.{le-leb}
 use lib.Dec.{leb}
 use lib.ListN.{length, take, drop, replicate, length-append, length-take, length-drop, length-map, length-replicate}
 use lib.Seq.{take-append-le, take-add, length-take-le}
+use Rattle.paper.specs.declared.Name.{Name}
 use Rattle.paper.specs.declared.Axis.{Axis}
 use Rattle.paper.specs.declared.Cell.{Cell}
 use Rattle.paper.specs.declared.Form.{Form}
@@ -52,17 +53,20 @@ cellRoom f = cellsIn f * cellBytes
 
 -- its bytes in the bundle, its cells' being the first of bs
 abbrev pub formBytes : Form → List ℕ → List ℕ
-formBytes f bs = f .kind ∷ length (axesOf (f .extent)) ∷ (axesBytes (axesOf (f .extent)) (axesOf (f .maximum)) ++ take (cellRoom f) bs)
+formBytes f bs =
+    let s : Shape = shapeOf f in
+    s .type ∷ length (s .axes) ∷ (axesBytes (s .names) (s .axes) (s .maximum) ++ take (cellRoom f) bs)
 
 -- the most bytes that an array has
 abbrev pub mostBytes : ℕ
 mostBytes = typeBytes + mostAxes * axisBytes + mostCells * cellBytes
 
--- every test of it passed
+-- every test of it passed, and it has a name for each axis
 pub record FormPassed (f : Form) (bs : List ℕ) : Type 0 where
   pub type : isType (f .kind) ≡ true
   pub rank : between 1 mostAxes (length (axesOf (f .extent))) ≡ true
-  pub good : (goodExtent (axesOf (f .extent)) && within (axesOf (f .extent)) (axesOf (f .maximum))) ≡ true
+  pub good : (goodExtent (shapeOf f .names) (shapeOf f .axes) && within (shapeOf f .axes) (shapeOf f .maximum)) ≡ true
+  pub named : length (shapeOf f .names) ≡ length (shapeOf f .axes)
   pub fits : cellRoom f ≤ length bs
   pub clean : firstBad (f .kind) 1 (cellsIn f) bs ≡ 0
 
@@ -91,6 +95,9 @@ unfoldable pub arrayIn : Form → List ℕ → Array
 arrayIn f bs = record { shape = shapeOf f; cells = cellsFrom (f .kind) (cellsIn f) bs }
 
 module _ {f : Form} {bs : List ℕ} (v : FormPassed f bs) where
+  abbrev N : List Name
+  N = shapeOf f .names
+
   abbrev E : List Axis
   E = axesOf (f .extent)
 
@@ -98,14 +105,14 @@ module _ {f : Form} {bs : List ℕ} (v : FormPassed f bs) where
   M = axesOf (f .maximum)
 
   pub ready-alike : length M ≡ length E
-  ready-alike = within-alike E M (and-right (goodExtent E) (within E M) (v .good))
+  ready-alike = within-alike E M (and-right (goodExtent N E) (within E M) (v .good))
 
   pub ready-small : Small E
-  ready-small = good-small E (and-left (goodExtent E) (within E M) (v .good))
+  ready-small = good-small N E (and-left (goodExtent N E) (within E M) (v .good))
 
   pub ready-long : length (formBytes f bs) ≡ typeBytes + length E * axisBytes + cellRoom f
   ready-long =
-      simp (length-append, length-take) (omega (arith, axes-length E M ready-alike, v .fits))
+      simp (length-append, length-take) (omega (arith, axes-length N E M (v .named) ready-alike, v .fits))
 
   pub ready-packed : (k : ℕ) → packArray k (shapeOf f) bs ≡ got (arrayIn f bs, drop (cellRoom f) bs)
   unfolding packArray arrayOf arrayIn

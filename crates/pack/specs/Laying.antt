@@ -52,7 +52,7 @@ module _ {form : Form} {bs : List ℕ} {from : ℕ} {d : List ℕ} {at : ℕ} (q
   head-room = record { alike = ready-alike (q .ready); room = omega (arith, q .room, ready-long (q .ready)) }
 
   all-long : length (formBytes form (drop from bs)) ≡ length (headOf (shapeOf form)) + m * cellBytes
-  all-long = omega (arith, ready-long (q .ready), its-cells, its-long head-room)
+  all-long = omega (arith, ready-long (q .ready), its-cells, its-long head-room (q .ready .named))
 
   pub its-fit : from + m * cellBytes ≤ length bs
   its-fit = omega (arith, q .ready .fits, q .start, length-drop from bs, its-cells)

@@ -4,9 +4,9 @@ ghost use mathlib.Core.List.{[], _∷_, _++_};
 ghost use Prim.Native.Nat.{_+_, _≤_};
 ghost use lib.ListN.{length, take};
 ghost use Rattle.paper.specs.Limits.{nameBytes, axisBytes};
-ghost use Rattle.paper.specs.Numbers.{leBytes};
+ghost use Rattle.paper.specs.Axes.{lettersOf};
 ghost use Rattle.paper.specs.Bundle.{mark, markBytes, axesBytes};
-ghost use Rattle.paper.specs.Answers.{axesOf};
+ghost use Rattle.paper.specs.Answers.{axesOf, namesFor};
 ghost use Rattle.laws.specs.Put.{put};
 ghost use Rattle.pack.specs.Put.{axisPart, AxesRoom};
 ghost use Rattle.pack.specs.Heads.{HeadRoom, HeadPut};
@@ -16,6 +16,7 @@ use cell::bytes::copy_bytes;
 use cell::bytes::put4;
 use extent::cells_of;
 use extent::rank_of;
+use paper::AXES;
 use paper::AXIS_BYTES;
 use paper::Axis;
 use paper::CELL_BYTES;
@@ -25,49 +26,50 @@ use paper::LIMIT_BYTES;
 use paper::LOWER_AT;
 use paper::MAXIMUM_LOWER_AT;
 use paper::MAXIMUM_UPPER_AT;
+use paper::Name;
 use paper::OPENING_BYTES;
 use paper::TYPE_BYTES;
 use paper::UPPER_AT;
 use positions::bits_of;
 
 // The bytes of a whole head: one with room for as many axes as an array may have.
-pub const WHOLE_HEAD: usize = TYPE_BYTES + paper::AXES * AXIS_BYTES;
+pub const WHOLE_HEAD: usize = TYPE_BYTES + AXES * AXIS_BYTES;
 
 // What half of a name's bytes can hold.
 const HALF: u64 = 4294967296;
 
 // The eight bytes of a name, the lowest first.
-fn put_name(d: &mut [u8], at: usize, n: u64)
+fn put_name(d: &mut [u8], at: usize, n: Name)
     requires { ⌜ at + nameBytes ≤ length (now d) ⌝ }
-    ensures { λ _. ⌜ now (d .exit) ≡ put (now (d .entry)) at (leBytes nameBytes n) ⌝ }
+    ensures { λ _. ⌜ now (d .exit) ≡ put (now (d .entry)) at (lettersOf n) ⌝ }
 {
-    let high = n / HALF;
-    let low = n % HALF;
+    let high = n.first / HALF;
+    let low = n.first % HALF;
     put4(d, at, low as u32);
     put4(d, at + LIMIT_BYTES, high as u32);
 }
 
-// An axis with its maximum: name, lower, upper, maximum lower, maximum upper.
-fn put_axis(d: &mut [u8], at: usize, a: Axis, m: Axis)
+// An axis with its name and its maximum: name, lower, upper, maximum lower, maximum upper.
+fn put_axis(d: &mut [u8], at: usize, n: Name, a: Axis, m: Axis)
     requires { ⌜ at + axisBytes ≤ length (now d) ⌝ }
-    ensures { λ _. ⌜ now (d .exit) ≡ put (now (d .entry)) at (axisPart a m) ⌝ }
+    ensures { λ _. ⌜ now (d .exit) ≡ put (now (d .entry)) at (axisPart n a m) ⌝ }
 {
-    put_name(d, at, a.name);
+    put_name(d, at, n);
     put4(d, at + LOWER_AT, bits_of(a.lo));
     put4(d, at + UPPER_AT, bits_of(a.hi));
     put4(d, at + MAXIMUM_LOWER_AT, bits_of(m.lo));
     put4(d, at + MAXIMUM_UPPER_AT, bits_of(m.hi));
 }
 
-// The axes of an extent with its maximum.
-fn put_axes(d: &mut [u8], at: usize, e: Extent, m: Extent)
+// The axes of an extent with their names and its maximum.
+fn put_axes(d: &mut [u8], at: usize, names: [Name; AXES], e: Extent, m: Extent)
     requires { ⌜ AxesRoom e m at (now d) ⌝ }
-    ensures { λ _. ⌜ now (d .exit) ≡ put (now (d .entry)) at (axesBytes (axesOf e) (axesOf m)) ⌝ }
+    ensures { λ _. ⌜ now (d .exit) ≡ put (now (d .entry)) at (axesBytes (namesFor (axesOf e) names) (axesOf e) (axesOf m)) ⌝ }
 {
     let rank = rank_of(e);
     let mut i = 0;
     while i < rank {
-        put_axis(d, at + i * AXIS_BYTES, e.axes[i], m.axes[i]);
+        put_axis(d, at + i * AXIS_BYTES, names[i], e.axes[i], m.axes[i]);
         i += 1;
     }
 }
@@ -86,7 +88,8 @@ pub fn put_head(form: Form, d: &mut [u8], at: usize) -> usize
     let rank = rank_of(form.extent);
     d[at] = form.kind;
     d[at + 1] = rank as u8;
-    put_axes(d, at + TYPE_BYTES, form.extent, form.maximum);
+    let names = form.names;
+    put_axes(d, at + TYPE_BYTES, names, form.extent, form.maximum);
     at + TYPE_BYTES + rank * AXIS_BYTES
 }
 

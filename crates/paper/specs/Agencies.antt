@@ -7,7 +7,6 @@ use mathlib.Core.Bool.{Bool, true, false}
 use mathlib.Core.List.{List, [], _∷_, _++_}
 use lib.IntN.{pos, negsuc}
 use lib.ListN.{replicate}
-use Rattle.paper.specs.declared.Axis.{Axis}
 use Rattle.paper.specs.declared.Cell.{Cell}
 use Rattle.paper.specs.declared.Cell.the-variants.{Empty, Int, Truth}
 use Rattle.paper.specs.Limits.{INT, FLOAT, smallestInt, largestInt}
@@ -15,29 +14,29 @@ use Rattle.paper.specs.Numbers.{text, same}
 use Rattle.paper.specs.Bundle.{After, bundleBytes}
 use Rattle.paper.specs.Json.{jsonText, writeJson}
 use Rattle.paper.specs.Opened.{opened}
-use Rattle.paper.specs.Written.{all, axis, array, ints, counted, said, one, m1}
+use Rattle.paper.specs.Written.{all, Given, axesIn, axis, array, ints, counted, said, one, m1}
 
 -- ---- a text alone
 
-abbrev writes : List Axis → List Cell → String → Bool
-writes E cs t = same (jsonText E cs) (text t)
+abbrev writes : List Given → List Cell → String → Bool
+writes G cs t = same (jsonText (axesIn G) cs) (text t)
 
-abbrev line : ℕ → List Axis
+abbrev line : ℕ → List Given
 line n = axis "x" (pos 1) (pos n) ∷ []
 
 -- x(1:2), y(1:2)
-abbrev square : List Axis
+abbrev square : List Given
 square = axis "x" (pos 1) (pos 2) ∷ axis "y" (pos 1) (pos 2) ∷ []
 
 -- i(-1:1), j(-1:1), and t(0:0), x(0:2), y(0:1)
-abbrev kernel : List Axis
+abbrev kernel : List Given
 kernel = axis "i" m1 (pos 1) ∷ axis "j" m1 (pos 1) ∷ []
 
-abbrev solid : List Axis
+abbrev solid : List Given
 solid = axis "t" (pos 0) (pos 0) ∷ axis "x" (pos 0) (pos 2) ∷ axis "y" (pos 0) (pos 1) ∷ []
 
 -- four axes: two positions, one, three, one
-abbrev four : List Axis
+abbrev four : List Given
 four = axis "a" (pos 5) (pos 6) ∷ axis "b" (pos 0) (pos 0) ∷ axis "c" m1 (pos 1) ∷ axis "d" (pos 9) (pos 9) ∷ []
 
 -- ---- the call

@@ -4,6 +4,7 @@ use Prim.Native.Nat.{ℕ, _+_, _-_, _*_}
 use mathlib.Core.List.{List, [], _∷_, _++_, map}
 use lib.Dec.{eqb, leb}
 use lib.ListN.{take, length, replicate}
+use Rattle.paper.specs.declared.Name.{Name}
 use Rattle.paper.specs.declared.Axis.{Axis}
 use Rattle.paper.specs.declared.Extent.{Extent}
 use Rattle.paper.specs.declared.Form.{Form}
@@ -32,7 +33,7 @@ use Rattle.paper.specs.declared.StretchAnswer.{StretchAnswer}
 use Rattle.paper.specs.declared.StretchAnswer.the-variants as Stretch
 use Rattle.paper.specs.Limits.{mostAxes, axisBytes, typeBytes, cellBytes}
 use Rattle.paper.specs.Refusals.{Res, got, refused, _>>=_, if_then_else_}
-use Rattle.paper.specs.Axes.{cells, noAxis, Shape, Array, shaped}
+use Rattle.paper.specs.Axes.{noName, cells, noAxis, Shape, Array, shaped}
 use Rattle.paper.specs.Bundle.{markBytes, readBundle}
 use Rattle.paper.specs.Reference.{Walked}
 
@@ -46,13 +47,23 @@ axisCount n = if leb n mostAxes then n else 0
 unfoldable pub axesOf : Extent → List Axis
 axesOf e = take (axisCount (e .rank)) (e .axes)
 
+-- their names: as many of these
+abbrev pub namesFor : List Axis → List Name → List Name
+namesFor E N = take (length E) N
+
 -- the extent that has these axes, and nothing past the last
 abbrev pub extentOf : List Axis → Extent
 extentOf E = record { rank = length E; axes = E ++ replicate (mostAxes - length E) noAxis }
 
--- a form's type, extent and declared maximum
+-- these names, and nothing past the last
+abbrev pub namesOf : List Name → List Name
+namesOf N = N ++ replicate (mostAxes - length N) noName
+
+-- a form's type, names, extent and declared maximum
 abbrev pub shapeOf : Form → Shape
-shapeOf f = shaped (f .kind) (axesOf (f .extent)) (axesOf (f .maximum))
+shapeOf f =
+    let E : List Axis = axesOf (f .extent) in
+    shaped (f .kind) (namesFor E (f .names)) E (axesOf (f .maximum))
 
 -- ---- reading: the arrays' shapes, and where their cells lie
 

@@ -7,7 +7,6 @@ use mathlib.Core.List.{List, [], _∷_, _++_, map}
 use lib.IntN.{pos}
 use lib.Ieee.{fin}
 use lib.ListN.{replicate}
-use Rattle.paper.specs.declared.Axis.{Axis}
 use Rattle.paper.specs.declared.Cell.{Cell}
 use Rattle.paper.specs.declared.Cell.the-variants.{Empty, Int, Float, Truth}
 use Rattle.paper.specs.declared.PairOp.the-variants.{Eq, Ne, Lt, Le, Gt, Ge}
@@ -19,7 +18,7 @@ use Rattle.paper.specs.Operators.{pairCell, singleCell}
 use Rattle.paper.specs.Bundle.{bundleBytes}
 use Rattle.paper.specs.Listing.{Paged, run, page}
 use Rattle.paper.specs.Opened.{opened}
-use Rattle.paper.specs.Written.{all, axis, array, step, said, one, is, operated, paged}
+use Rattle.paper.specs.Written.{all, Given, axis, array, step, said, one, is, operated, paged}
 
 -- ---- at one cell
 
@@ -36,7 +35,7 @@ valued o t f e =
 
 -- ---- the rests of two people, who 1:2, turn 1:2, in minutes: turn 2 of person 1 is blank
 
-abbrev turns : List Axis
+abbrev turns : List Given
 turns = axis "who" (pos 1) (pos 2) ∷ axis "turn" (pos 1) (pos 2) ∷ []
 
 abbrev rests : List ℕ

@@ -5,7 +5,6 @@ use mathlib.Core.Bool.{Bool, true}
 use mathlib.Core.List.{List, [], _∷_, _++_}
 use lib.ListN.{replicate}
 use lib.IntN.{pos}
-use Rattle.paper.specs.declared.Axis.{Axis}
 use Rattle.paper.specs.declared.Cell.{Cell}
 use Rattle.paper.specs.Limits.{INT, wordBytes}
 use Rattle.paper.specs.Numbers.{leBytes, text, distance, positionBytes, same, part}
@@ -14,11 +13,11 @@ use Rattle.paper.specs.Bundle.{bundleBytes}
 use Rattle.paper.specs.Listing.{Paged, run, page}
 use Rattle.paper.specs.Rests.{rests}
 use Rattle.paper.specs.Opened.{opened}
-use Rattle.paper.specs.Written.{all, m1, axis, array, ints, step, numbers, said, one, paged}
+use Rattle.paper.specs.Written.{all, Given, m1, axis, array, ints, step, numbers, said, one, paged}
 
 -- ---- the roster: who 1:2, turn 1:3, minutes from Monday 00:00
 
-abbrev turns : List Axis
+abbrev turns : List Given
 turns = axis "who" (pos 1) (pos 2) ∷ axis "turn" (pos 1) (pos 3) ∷ []
 
 abbrev starts : List Cell

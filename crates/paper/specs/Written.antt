@@ -8,6 +8,7 @@ use lib.ListN.{take, replicate}
 use lib.IntN.{ℤ, pos, negsuc}
 use mir.Syntax.{w32}
 use mir.Val.{ofZ}
+use Rattle.paper.specs.declared.Name.{Name}
 use Rattle.paper.specs.declared.Axis.{Axis}
 use Rattle.paper.specs.declared.Cell.{Cell}
 use Rattle.paper.specs.declared.Cell.the-variants.{Int}
@@ -19,7 +20,7 @@ use Rattle.paper.specs.declared.Listed.{Listed}
 use Rattle.paper.specs.Limits.{limitBytes, detailBytes, stepBytes}
 use Rattle.paper.specs.Refusals.{Res, got, refused}
 use Rattle.paper.specs.Numbers.{leOf, leBytes, text, distance, from}
-use Rattle.paper.specs.Axes.{star, Array, shaped}
+use Rattle.paper.specs.Axes.{limited, Array, shaped, result}
 use Rattle.paper.specs.Cells.{encode}
 
 -- every line of a table holds
@@ -34,16 +35,25 @@ m1 = negsuc 0
 abbrev pub m2 : ℤ
 m2 = negsuc 1
 
--- an axis from its name and its limits
-abbrev pub axis : String → ℤ → ℤ → Axis
-axis n l h = record { name = leOf (text n); lo = distance l; hi = distance h }
+-- an axis with its name
+pub record Given : Type 0 where
+  pub name : Name
+  pub axis : Axis
+
+-- from its name and its limits
+abbrev pub axis : String → ℤ → ℤ → Given
+axis n l h = record { name = record { first = leOf (text n) }; axis = limited (distance l) (distance h) }
+
+-- the axes alone
+abbrev pub axesIn : List Given → List Axis
+axesIn G = map (λ g. g .axis) G
 
 -- an array with a declared maximum, and one with `*`
-abbrev pub arrayIn : List Axis → ℕ → List Axis → List Cell → Array
-arrayIn M t E cs = record { shape = shaped t E M; cells = cs }
+abbrev pub arrayIn : List Given → ℕ → List Given → List Cell → Array
+arrayIn M t G cs = record { shape = shaped t (map (λ g. g .name) G) (axesIn G) (axesIn M); cells = cs }
 
-abbrev pub array : ℕ → List Axis → List Cell → Array
-array t E cs = arrayIn (map star E) t E cs
+abbrev pub array : ℕ → List Given → List Cell → Array
+array t G cs = record { shape = result t (map (λ g. g .name) G) (axesIn G); cells = cs }
 
 -- INT cells with these numbers; with the numbers k, k + 1 ..
 abbrev pub ints : List ℤ → List Cell

@@ -5,6 +5,7 @@ use mathlib.Core.Path.{_≡_, refl, ap}
 use mathlib.Core.Bool.{Bool, true, false}
 use mathlib.Core.List.{List}
 use lib.ListN.{length, take}
+use Rattle.paper.specs.declared.Name.{Name}
 use Rattle.paper.specs.declared.Axis.{Axis}
 use Rattle.paper.specs.declared.Place.{Place}
 use Rattle.paper.specs.declared.Place.the-variants.{At, InMaximum, Beyond}
@@ -37,15 +38,15 @@ inside-other E p h = by (inside E p) refl
 
 -- ---- the cases
 
-module _ (t : ℕ) (E M : List Axis) (p : List ℕ) where
-  pub at-ordinality : (o : ℕ) → inside E p ≡ true → o ≡ ordinality E p → At (record { 0 = o }) ≡ placeOf (shaped t E M) p
+module _ (t : ℕ) (N : List Name) (E M : List Axis) (p : List ℕ) where
+  pub at-ordinality : (o : ℕ) → inside E p ≡ true → o ≡ ordinality E p → At (record { 0 = o }) ≡ placeOf (shaped t N E M) p
   unfolding placeOf
   at-ordinality o e f = rw e (ap {B = Place} (λ (n : ℕ). At (record { 0 = n })) f)
 
-  pub in-maximum : inside E p ≡ false → inside M p ≡ true → InMaximum ≡ placeOf (shaped t E M) p
+  pub in-maximum : inside E p ≡ false → inside M p ≡ true → InMaximum ≡ placeOf (shaped t N E M) p
   unfolding placeOf
   in-maximum e f = rw (e, f)
 
-  pub beyond : inside E p ≡ false → inside M p ≡ false → Beyond ≡ placeOf (shaped t E M) p
+  pub beyond : inside E p ≡ false → inside M p ≡ false → Beyond ≡ placeOf (shaped t N E M) p
   unfolding placeOf
   beyond e f = rw (e, f)

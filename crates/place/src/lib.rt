@@ -1,7 +1,9 @@
 // Places in an extent: whether a coordinate lies inside, its ordinality, the coordinate of an ordinality, and where a coordinate lies in
 // an array. A coordinate's positions are distances above -1,000,000, the first as many as the extent has axes.
 ghost use mathlib.Core.Path.{_≡_};
+ghost use mathlib.Core.List.{List};
 ghost use Prim.Native.Nat.{ℕ, _+_, _-_, _*_, _≤_};
+ghost use Rattle.paper.specs.declared.Name.{Name};
 ghost use Rattle.paper.specs.Limits.{reach};
 ghost use Rattle.paper.specs.Axes.{inside, ordinality, coordinate, placeOf, shaped};
 ghost use Rattle.paper.specs.Answers.{axesOf};
@@ -85,10 +87,10 @@ pub fn coordinate_of(e: Extent, o: Ordinality) -> Coordinate
     Coordinate { at }
 }
 
-// Where a coordinate lies: inside the extent, inside the maximum only, or beyond it.
+// Where a coordinate lies: inside the extent, inside the maximum only, or beyond it. Neither type nor names count.
 pub fn found(e: Extent, maximum: Extent, p: Coordinate) -> Place
     requires { ⌜ Small (axesOf e) ⌝ }
-    ensures { λ r. ⌜ ((t : ℕ) → r ≡ placeOf (shaped t (axesOf e) (axesOf maximum)) (positionsOf (axesOf e) p)) ⌝ }
+    ensures { λ r. ⌜ ((t : ℕ) (N : List Name) → r ≡ placeOf (shaped t N (axesOf e) (axesOf maximum)) (positionsOf (axesOf e) p)) ⌝ }
 {
     if is_inside(e, p) {
         return Place::At(ordinality_of(e, p));

@@ -53,7 +53,7 @@ under-shape n none = refl
 under-shape n (some h) = refl
 
 pub no-shape : shapeIn noHead ≡ noShape
-no-shape = form-shape noShape (omega arith) (omega arith)
+no-shape = form-shape noShape refl (omega arith) (omega arith)
 
 pub small-none : Small (axesOf (noHead .form .extent))
 unfolding cells

@@ -1,14 +1,16 @@
 -- One step's answer in the paper's terms: the step planned or the refusal, and what is kept of its result.
-use Prim.Native.Nat.{ℕ, _+_, _<_}
+use Prim.Native.Nat.{ℕ, _+_, _≤_, _<_}
 use mathlib.Core.Path.{_≡_, sym, ap, ap₂, subst, _∙_}
 use mathlib.Core.Bool.{Bool, true, false, not}
 use mathlib.Core.List.{List}
 use mathlib.Core.Option.{some}
 use native.Mathlib.Omega.{arith}
 use borrow.Author.Tests.{ne-eqb}
-use lib.ListN.{length, drop, getD, length-take, length-drop}
-use lib.Seq.{getD-take, getD-drop, take-all}
+use lib.ListN.{length, take, drop, getD, length-take, length-drop}
+use lib.Seq.{getD-take, getD-drop, take-all, length-take-le}
+use Rattle.paper.specs.declared.Name.{Name}
 use Rattle.paper.specs.declared.Axis.{Axis}
+use Rattle.paper.specs.declared.Extent.{Extent}
 use Rattle.paper.specs.declared.Form.{Form}
 use Rattle.paper.specs.declared.Head.{Head}
 use Rattle.paper.specs.declared.Refusal.{Refusal}
@@ -19,8 +21,8 @@ use Rattle.paper.specs.Limits.{headBytes, detailBytes, stepBytes}
 use Rattle.paper.specs.Refusals.{Res, got, refused, if_then_else_, refusal, unknown4, badResult9}
 use Rattle.paper.specs.Numbers.{part, none?}
 use Rattle.paper.specs.Axes.{cells, Shape, result}
-use Rattle.paper.specs.Recipe.{Step, Planned, operation, stepOf, operand, noShape, uses, axisIn, resultAxes, resultOf, goodResult, stepTests, stepResult, stepOver, planStep}
-use Rattle.paper.specs.Answers.{axesOf, shapeOf, unless}
+use Rattle.paper.specs.Recipe.{Step, Planned, operation, stepOf, operand, noShape, uses, axisIn, resultNames, resultAxes, resultOf, goodResult, stepTests, stepResult, stepOver, planStep}
+use Rattle.paper.specs.Answers.{axesOf, namesFor, shapeOf, unless}
 use Rattle.laws.specs.Answers.{noHead, unless-refused, unless-got}
 use Rattle.laws.specs.Tests.{and-none}
 use Rattle.laws.specs.Passed.{operandB, tests-passed}
@@ -31,6 +33,7 @@ use Rattle.step.specs.declared.operation.OperationGot.{OperationGot}
 use Rattle.step.specs.declared.operation.OperationGot.the-variants.{Is, Unknown}
 use Rattle.step.specs.Told.{toldOperation}
 use Rattle.step.specs.Steps.{stepIn}
+use Rattle.step.specs.Named.{NamesTold, names-many}
 use Rattle.recipe.specs.declared.Operand.{Operand}
 use Rattle.recipe.specs.declared.steps.Stepped.{Stepped}
 use Rattle.recipe.specs.Operands.{noOperand, shapeIn, foundShape, no-shape, small-none}
@@ -80,7 +83,10 @@ pub record Finishing (bs : List ℕ) (step : StepHead) (a b : Form) : Type 0 whe
 abbrev pub Finished : List ℕ → StepHead → Form → Form → ℕ → ℕ → Stepped → Type 0
 Finished bs step a b at k r = Answered bs at r (stepResult k (stepIn bs step) (shapeOf a) (shapeOf b))
 
--- the result's axes
+-- the result's names and axes
+abbrev pub namesAfter : List ℕ → StepHead → Form → List Name
+namesAfter bs step a = resultNames (step .operation) (stepIn bs step) (namesFor (axesOf (a .extent)) (a .names))
+
 abbrev pub axesAfter : List ℕ → StepHead → Form → Form → List Axis
 axesAfter bs step a b = resultAxes (step .operation) (stepIn bs step) (axesOf (a .extent)) (axesOf (b .extent))
 
@@ -88,30 +94,44 @@ module _ (bs : List ℕ) (step : StepHead) (a b : Form) (at k : ℕ) (r : Steppe
   abbrev axes : List Axis
   axes = axesAfter bs step a b
 
-  finish-no : r ≡ stopped (refusal badResult9 k 0) → goodResult axes ≡ false → Finished bs step a b at k r
+  abbrev names : List Name
+  names = namesAfter bs step a
+
+  finish-no : r ≡ stopped (refusal badResult9 k 0) → goodResult names axes ≡ false → Finished bs step a b at k r
   unfolding stepResult
   finish-no e h = answer-refused bs at r _ (refusal badResult9 k 0) e (λ z. omega arith) (rw h)
 
-  pub finish-bad : r ≡ stopped (refusal badResult9 k 0) → goodCells axes ≡ 0 → Finished bs step a b at k r
-  finish-bad e h = finish-no e (rw (good-zero axes h) (and-none (not (none? axes))))
+  pub finish-bad : r ≡ stopped (refusal badResult9 k 0) → goodCells names axes ≡ 0 → Finished bs step a b at k r
+  finish-bad e h = finish-no e (rw (good-zero names axes h) (and-none (not (none? axes))))
 
   pub finish-none : r ≡ stopped (refusal badResult9 k 0) → length axes ≡ 0 → Finished bs step a b at k r
   finish-none e h = finish-no e (rw h)
 
   pub finish-good : (x : Refusal) (h : Head) → r ≡ record { refusal = x; step = step; result = h } → x ≡ refusal 0 0 0 → h .at ≡ at
-      → Holds (step .at) detailBytes bs → shapeIn h ≡ resultOf (stepIn bs step) (shapeOf a) (shapeOf b) → h .cells ≡ goodCells axes → (h .cells ≡ 0 → ⊥)
+      → Holds (step .at) detailBytes bs → shapeIn h ≡ resultOf (stepIn bs step) (shapeOf a) (shapeOf b) → h .cells ≡ goodCells names axes → (h .cells ≡ 0 → ⊥)
       → (length axes ≡ 0 → ⊥) → Finished bs step a b at k r
   unfolding stepResult
   finish-good x h e z i d q c n w =
-      let g = good-some axes (λ z. n (c ∙ z)) in
+      let g = good-some names axes (λ z. n (c ∙ z)) in
       let f : axesOf (h .form .extent) ≡ axes = ap (λ (s : Shape). s .axes) q in
       subst (λ (r : Stepped). Finished bs step a b at k r) (sym e)
       (record {
         said =
             unless-got x (plannedOf bs step h) (ap (λ (x : Refusal). x .number) z)
             ∙ rw (ne-eqb (length axes) 0 w, g .0) (ap (λ (s : Shape). got (record { step = stepIn bs step; shape = s })) q);
-        kept = λ o. record { small = subst Small (sym f) (good-small axes (g .0)); count = c ∙ sym (g .1) ∙ ap cells (sym f); from = i; detail = d };
+        kept = λ o. record { small = subst Small (sym f) (good-small names axes (g .0)); count = c ∙ sym (g .1) ∙ ap cells (sym f); from = i; detail = d };
       })
+
+-- the names told are the result's
+pub names-after : (bs : List ℕ) (step : StepHead) (a b : Form) (new : List Name) (e : Extent)
+    → NamesTold (step .operation) (stepIn bs step) (a .names) (a .extent) new → axesOf e ≡ axesAfter bs step a b
+    → length (axesOf (a .extent)) ≤ length (a .names) → axisIn (uses (step .operation)) (length (axesOf (a .extent))) (step .axis) ≡ true
+    → namesFor (axesOf e) new ≡ namesAfter bs step a
+names-after bs step a b new e t q l h =
+    let E = axesOf (a .extent) in
+    let N = namesFor E (a .names) in
+    let n : length (axesOf e) ≡ length (namesAfter bs step a) = ap length q ∙ sym (names-many (step .operation) (stepIn bs step) N E (axesOf (b .extent)) (length-take-le (length E) (a .names) l) h) in
+    ap (λ (k : ℕ). take k new) n ∙ t
 
 -- ---- the operands found
 

@@ -33,6 +33,7 @@ use step::operation::operation_of;
 use step::tests::fits_in;
 use step::tests::result_extent;
 use step::tests::result_kind;
+use step::tests::result_names;
 use step::tests::types_fit;
 use step::unused::Used;
 use step::unused::axis_in;
@@ -88,7 +89,10 @@ fn step_refusal(step: StepHead, used: Used, a: Form, b: Form, k: StepNumber, s: 
         return refuse(7, k.0);
     }
     let op = step.operation;
-    if !agrees(op, AxisIndex(step.axis as u32), a.extent, b.extent) {
+    let axis = AxisIndex(step.axis as u32);
+    let m = a.names;
+    let n = b.names;
+    if !agrees(op, axis, m, a.extent, n, b.extent) {
         return refuse(8, k.0);
     }
     if !fits_in(step, a, b, s) {
@@ -103,7 +107,9 @@ fn finish(step: StepHead, a: Form, b: Form, at: usize, k: StepNumber, s: &[u8]) 
     ensures { λ r. ⌜ Finished (now (s .entry)) step a b at (k .0) r ⌝ }
 {
     let extent = result_extent(step, a.extent, b.extent, s);
-    let cells = good_extent(extent);
+    let old = a.names;
+    let names = result_names(step, old, a.extent, s);
+    let cells = good_extent(names, extent);
     if cells == 0 {
         return refused_step(refuse(9, k.0));
     }
@@ -115,6 +121,7 @@ fn finish(step: StepHead, a: Form, b: Form, at: usize, k: StepNumber, s: &[u8]) 
     let maximum = starred(extent);
     let form = Form {
         kind,
+        names,
         extent,
         maximum,
     };

@@ -66,7 +66,7 @@ none-chosen {bs} {k} {r} {x} e h q t =
 abbrev pub pastHead : Head
 pastHead =
     let e : Extent = record { rank = 0; axes = [] } in
-    record { form = record { kind = 0; extent = e; maximum = e }; at = 0; cells = 0 }
+    record { form = record { kind = 0; names = []; extent = e; maximum = e }; at = 0; cells = 0 }
 
 module _ {bs : List ℕ} {o : Reading} (v : ReadAll bs o) {k : ℕ} {r : Chosen} where
   -- the bundle's own refusal

@@ -60,7 +60,7 @@ arrays-short (A ∷ As) v =
       array-long A rest (v .0),
       length-append (cellsBytes (A .cells)) rest,
       valid-length A (v .0),
-      good-small (A .shape .axes) (v .0 .extent) .few,
+      good-small (A .shape .names) (A .shape .axes) (v .0 .extent) .few,
       between-true mostAxes (length (A .shape .axes)) (v .0 .rank),
       arrays-short As (v .1),
     )

@@ -218,11 +218,15 @@ pub extern "C" fn rma_stretch(
 {
     let l = side_form(left_head);
     let r = side_form(right_head);
+    let left_names = l.names;
+    let right_names = r.names;
     let answer = plan_stretch(
         l.kind,
+        left_names,
         l.extent,
         left.len(),
         r.kind,
+        right_names,
         r.extent,
         right.len(),
         AxisIndex(axis),

@@ -1,10 +1,11 @@
 -- When arrays are valid, said of the arrays alone: neither packing nor reading is spoken of.
 -- Reading.antt and Packing.antt show that what they accept is valid, and Packing.antt that valid arrays are packed and read.
-use mathlib.Core.Path.{_≡_}
+use mathlib.Core.Path.{_≡_, refl, ap}
 use mathlib.Core.Bool.{true}
 use mathlib.Core.List.{List, [], _∷_, map}
-use Prim.Native.Nat.{ℕ, _^_, _<_}
+use Prim.Native.Nat.{ℕ, suc, _^_, _<_}
 use lib.ListN.{length}
+use Rattle.paper.specs.declared.Name.{Name}
 use Rattle.paper.specs.declared.Axis.{Axis}
 use Rattle.paper.specs.declared.Cell.{Cell}
 use Rattle.paper.specs.Limits.{mostArrays, mostAxes, nameBytes}
@@ -14,12 +15,22 @@ use Rattle.paper.specs.Axes.{cells, goodExtent, within, Shape, Array}
 use Rattle.paper.specs.Cells.{isType, cellsBytes}
 use Rattle.laws.specs.Cells.{OfKind}
 
--- names fit their bytes, and the maximum's axes have the extent's names
-abbrev pub Named : List Axis → List Axis → Type 0
+-- a name fits its bytes
+abbrev pub NameFits : Name → Type 0
+NameFits n = n .first < 256 ^ nameBytes
+
+-- each name fits its bytes, and there are as many names as axes
+abbrev pub Named : List Name → List Axis → Type 0
 Named [] [] = Unit {0}
-Named [] (m ∷ M) = ⊥
-Named (a ∷ E) [] = ⊥
-Named (a ∷ E) (m ∷ M) = (a .name < 256 ^ nameBytes) × (m .name ≡ a .name) × Named E M
+Named [] (a ∷ E) = ⊥
+Named (n ∷ N) [] = ⊥
+Named (n ∷ N) (a ∷ E) = NameFits n × Named N E
+
+pub named-length : (N : List Name) (E : List Axis) → Named N E → length N ≡ length E
+named-length [] [] v = refl
+named-length [] (a ∷ E) v = absurd v
+named-length (n ∷ N) [] v = absurd v
+named-length (n ∷ N) (a ∷ E) v = ap suc (named-length N E (v .1))
 
 -- every cell is one of an array of type t
 abbrev pub EachOfKind : ℕ → List Cell → Type 0
@@ -27,13 +38,13 @@ EachOfKind t [] = Unit {0}
 EachOfKind t (c ∷ cs) = OfKind t c × EachOfKind t cs
 
 -- an array is valid: INT, FLOAT or BOOLEAN; few enough axes, good names and limits, not too many cells; inside its maximum, which has
--- the same axes; and as many cells as its extent says, each of its type
+-- as many axes; a name for each axis; and as many cells as its extent says, each of its type
 pub record Valid (A : Array) : Type 0 where
   pub type : isType (A .shape .type) ≡ true
   pub rank : between 1 mostAxes (length (A .shape .axes)) ≡ true
-  pub extent : goodExtent (A .shape .axes) ≡ true
+  pub extent : goodExtent (A .shape .names) (A .shape .axes) ≡ true
   pub inMaximum : within (A .shape .axes) (A .shape .maximum) ≡ true
-  pub names : Named (A .shape .axes) (A .shape .maximum)
+  pub names : Named (A .shape .names) (A .shape .axes)
   pub full : length (A .cells) ≡ cells (A .shape .axes)
   pub kinds : EachOfKind (A .shape .type) (A .cells)
 

@@ -6,6 +6,7 @@ use native.Mathlib.Omega.{arith}
 use borrow.Author.Tests.{le-leb, lt-leb}
 use lib.Dec.{leb}
 use lib.ListN.{length, drop, replicate, length-append, length-replicate, length-map, length-drop}
+use Rattle.paper.specs.declared.Name.{Name}
 use Rattle.paper.specs.declared.Axis.{Axis}
 use Rattle.paper.specs.declared.Refusal.{Refusal}
 use Rattle.paper.specs.Limits.{mostCells}
@@ -34,8 +35,8 @@ abbrev pub extent : List ℕ → List ℕ → List ℕ → After
 extent bundle recipe out = putInto out (lastHead bundle recipe (length out))
 
 -- a result's maximum has its axes
-result-alike : (s : Shape) (t : ℕ) (E : List Axis) → s ≡ result t E → length (s .maximum) ≡ length (s .axes)
-result-alike s t E e = rw e (length-map E star)
+result-alike : (s : Shape) (t : ℕ) (N : List Name) (E : List Axis) → s ≡ result t N E → length (s .maximum) ≡ length (s .axes)
+result-alike s t N E e = rw e (length-map E star)
 
 module _ {B bs : List ℕ} {P : Plan} (p : PlannedFor B bs P) where
   pub plan-refused : (P .refusal .number ≡ 0 → ⊥) → refused (P .refusal) ≡ plan B bs
@@ -77,7 +78,7 @@ module _ {B bs : List ℕ} {P : Plan} (p : PlannedFor B bs P) where
             let l : length y ≡ length out
             = rw c (omega (arith, length-append zs (drop (length zs) out), length-replicate {A = ℕ} headLength 0, length-drop (length zs) out)) in
             record {
-              alike = result-alike (shapeIn (lastIn P)) _ _ (sym (last-step laid (p .setting z .1)) ∙ q);
+              alike = result-alike (shapeIn (lastIn P)) _ _ _ (sym (last-step laid (p .setting z .1)) ∙ q);
               room = omega (arith, l, h, axes-few (lastIn P .form .extent));
             }
 
@@ -90,6 +91,6 @@ module _ {B bs : List ℕ} {P : Plan} (p : PlannedFor B bs P) where
         unfolding putInto
         extent-told end w q =
             let f = axes-few (lastIn P .form .extent) in
-            let l = whole-long (lastIn P .form) last-room f in
+            let l = whole-long (lastIn P .form) last-room (q .named) f in
             let b = whole-put (lastIn P .form) out last-room f c q in
             rw head-got (λ i. record { answer = got (sym l i); buffer = b i })

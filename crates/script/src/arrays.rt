@@ -182,12 +182,16 @@ fn show_glued(bundle: &[u8], axis: u32, o: u32) {
     let right = choose(bundle, 2);
     let a = left.head;
     let b = right.head;
+    let left_names = a.form.names;
+    let right_names = b.form.names;
     let mut said = [0u32; 3];
     let part = stretch::stretch(
         a.form.kind,
+        left_names,
         a.form.extent,
         cells_of(bundle, a),
         b.form.kind,
+        right_names,
         b.form.extent,
         cells_of(bundle, b),
         AxisIndex(axis),

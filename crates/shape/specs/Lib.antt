@@ -4,3 +4,4 @@ pub mod Built
 pub mod Renewed
 pub mod Joined
 pub mod Starred
+pub mod Names

@@ -1,37 +1,36 @@
-// New extents from old, by value: with the limits, amounts or names of a step's detail, with an axis removed, and two glued. An extent
-// is built axis by axis, so that nothing stands past its last axis.
+// New extents from old, by value: with the limits or amounts of a step's detail, with an axis removed, and two glued. An extent is built
+// axis by axis, so that nothing stands past its last axis. Names follow on their own.
 ghost use mathlib.Core.Path.{_≡_};
 ghost use mathlib.Core.List.{[], map};
 ghost use lib.ListN.{drop};
-ghost use Rattle.paper.specs.Limits.{detailBytes, pairBytes, limitBytes, nameBytes};
+ghost use Rattle.paper.specs.Limits.{detailBytes, pairBytes, limitBytes};
 ghost use Rattle.paper.specs.Numbers.{part};
 ghost use Rattle.paper.specs.Axes.{without, star};
-ghost use Rattle.paper.specs.Recipe.{eachAnew, withLimits, shifted, renamed, glued};
+ghost use Rattle.paper.specs.Recipe.{eachAnew, withLimits, shifted, glued};
 ghost use Rattle.paper.specs.Answers.{axesOf, extentOf};
 ghost use Rattle.positions.specs.Runs.{Holds};
 ghost use Rattle.extent.specs.Tests.{Ranged};
 ghost use Rattle.extent.specs.Judged.{Small};
 ghost use Rattle.shape.specs.Built.{Room, withAxis, keptOf};
-ghost use Rattle.shape.specs.Renewed.{fresh, bytesFor};
-ghost use Rattle.shape.specs.declared.Change.the-variants.{Limits, Moved, Named};
+ghost use Rattle.shape.specs.Renewed.{pairOf, fresh, bytesFor};
+ghost use Rattle.shape.specs.declared.Change.the-variants.{Limits, Moved};
 ghost use Rattle.shape.specs.Joined.{Gluing};
 use cell::bytes::half;
-use cell::bytes::word;
 use paper::Axis;
 use paper::AxisIndex;
 use paper::Extent;
 use paper::LIMIT_BYTES;
-use paper::NAME_BYTES;
 use paper::PAIR_BYTES;
 use paper::TOP;
 use positions::moved_by;
 use positions::position_at;
 
+pub mod names;
+
 // What of each axis is made anew from the detail.
 pub enum Change {
     Limits,
     Moved,
-    Named,
 }
 
 // ---- built axis by axis
@@ -42,11 +41,7 @@ pub fn empty() -> Extent
 {
     Extent {
         rank: 0,
-        axes: [Axis {
-            name: 0,
-            lo: 0,
-            hi: 0,
-        }; paper::AXES],
+        axes: [Axis { lo: 0, hi: 0 }; paper::AXES],
     }
 }
 
@@ -92,34 +87,22 @@ pub fn removed(e: Extent, k: AxisIndex) -> Extent
 pub fn starred(e: Extent) -> Extent
     ensures { λ r. ⌜ axesOf r ≡ map star (axesOf e) ⌝ }
 {
-    let mut new = e;
-    let mut i: usize = 0;
-    while i < paper::AXES {
-        let a = e.axes[i];
-        new.axes[i] = Axis {
-            name: a.name,
-            lo: 0,
-            hi: TOP,
-        };
-        i += 1;
+    Extent {
+        rank: e.rank,
+        axes: [Axis { lo: 0, hi: TOP }; paper::AXES],
     }
-    new
 }
 
 // ---- from a step's detail
 
 // An axis with the limits of the pair at byte `at`.
-fn limits_at(a: Axis, s: &[u8], at: usize) -> Axis
+fn limits_at(s: &[u8], at: usize) -> Axis
     requires { ⌜ Holds at pairBytes (now s) ⌝ }
-    ensures { λ r. ⌜ r ≡ fresh Limits a (drop at (now (s .entry))) ⌝ }
+    ensures { λ r. ⌜ r ≡ pairOf (drop at (now (s .entry))) ⌝ }
 {
     let lo = position_at(s, at);
     let hi = position_at(s, at + LIMIT_BYTES);
-    Axis {
-        name: a.name,
-        lo,
-        hi,
-    }
+    Axis { lo, hi }
 }
 
 // An axis moved by the amount at byte `at`.
@@ -131,24 +114,7 @@ fn moved_at(a: Axis, s: &[u8], at: usize) -> Axis
     let by = half(s, at);
     let lo = moved_by(a.lo, by);
     let hi = moved_by(a.hi, by);
-    Axis {
-        name: a.name,
-        lo,
-        hi,
-    }
-}
-
-// An axis with the name at byte `at`.
-fn named_at(a: Axis, s: &[u8], at: usize) -> Axis
-    requires { ⌜ Holds at nameBytes (now s) ⌝ }
-    ensures { λ r. ⌜ r ≡ fresh Named a (drop at (now (s .entry))) ⌝ }
-{
-    let name = word(s, at);
-    Axis {
-        name,
-        lo: a.lo,
-        hi: a.hi,
-    }
+    Axis { lo, hi }
 }
 
 // The bytes that the detail has for each axis.
@@ -158,7 +124,6 @@ fn bytes_for(how: Change) -> usize
     match how {
         Change::Limits => PAIR_BYTES,
         Change::Moved => LIMIT_BYTES,
-        Change::Named => NAME_BYTES,
     }
 }
 
@@ -169,9 +134,8 @@ fn axis_anew(how: Change, a: Axis, s: &[u8], at: usize) -> Axis
     ensures { λ r. ⌜ r ≡ fresh how a (drop at (now (s .entry))) ⌝ }
 {
     match how {
-        Change::Limits => return limits_at(a, s, at),
+        Change::Limits => return limits_at(s, at),
         Change::Moved => return moved_at(a, s, at),
-        Change::Named => return named_at(a, s, at),
     }
 }
 
@@ -210,15 +174,6 @@ pub fn shifted_by(e: Extent, s: &[u8], at: usize) -> Extent
     anew(Change::Moved, e, s, at)
 }
 
-// The extent with the names.
-pub fn with_names(e: Extent, s: &[u8], at: usize) -> Extent
-    requires { ⌜ Small (axesOf e) ⌝ }
-    requires { ⌜ Holds at detailBytes (now s) ⌝ }
-    ensures { λ r. ⌜ axesOf r ≡ renamed (axesOf e) (part at detailBytes (now (s .entry))) ⌝ }
-{
-    anew(Change::Named, e, s, at)
-}
-
 // ---- two extents
 
 // The first extent with its axis k longer by the second's. An upper limit may pass the range: the result is judged later.
@@ -231,10 +186,6 @@ pub fn glued_along(e: Extent, f: Extent, k: AxisIndex) -> Extent
     let hi = a.hi + extent::width_of(b) as u32;
     let i = k.0 as usize - 1;
     let mut new = e;
-    new.axes[i] = Axis {
-        name: a.name,
-        lo: a.lo,
-        hi,
-    };
+    new.axes[i] = Axis { lo: a.lo, hi };
     new
 }

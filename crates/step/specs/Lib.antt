@@ -2,3 +2,5 @@
 pub mod Told
 pub mod Steps
 pub mod Using
+pub mod Named
+pub mod Agreeing

@@ -1,4 +1,4 @@
-// A step's tests that hang on its operation, its types and what must lie inside A; and the type and extent of its result.
+// A step's tests that hang on its operation, its types and what must lie inside A; and the type, extent and names of its result.
 ghost use mathlib.Core.Path.{_≡_};
 ghost use mathlib.Core.Bool.{true, not, _&&_, _||_};
 ghost use lib.Dec.{eqb};
@@ -14,6 +14,7 @@ ghost use Rattle.paper.specs.Answers.{axesOf, shapeOf};
 ghost use Rattle.positions.specs.Runs.{Holds};
 ghost use Rattle.extent.specs.Judged.{Small};
 ghost use Rattle.step.specs.Steps.{stepIn};
+ghost use Rattle.step.specs.Named.{NamesTold};
 use crate::StepHead;
 use cell::bytes::Got;
 use cell::bytes::from_word;
@@ -21,24 +22,28 @@ use cell::bytes::word;
 use extent::axis_of;
 use extent::covers_all;
 use extent::on_axis;
+use extent::rank_of;
 use operators::types::gives_pair;
 use operators::types::gives_single;
 use operators::types::takes_pair;
 use operators::types::takes_single;
+use paper::AXES;
 use paper::AxisIndex;
 use paper::Extent;
 use paper::Form;
 use paper::Move;
+use paper::Name;
 use paper::Operation;
 use paper::PairOp;
 use paper::SCALAR_AT;
 use paper::Work;
 use positions::position_at;
 use shape::glued_along;
+use shape::names::names_at;
+use shape::names::without_name;
 use shape::removed;
 use shape::shifted_by;
 use shape::with_limits;
-use shape::with_names;
 
 // ---- types
 
@@ -189,7 +194,7 @@ fn moved_extent(m: Move, step: StepHead, e: Extent, f: Extent, s: &[u8]) -> Exte
         Move::Slice => return removed(e, AxisIndex(step.axis as u32)),
         Move::Reshape => return with_limits(e, s, step.at),
         Move::Shift => return shifted_by(e, s, step.at),
-        Move::Rename => return with_names(e, s, step.at),
+        Move::Rename => return e,
         Move::Update => return e,
         Move::Put => return e,
         Move::Glue => return glued_along(e, f, AxisIndex(step.axis as u32)),
@@ -208,5 +213,34 @@ pub fn result_extent(step: StepHead, e: Extent, f: Extent, s: &[u8]) -> Extent
     match op {
         Operation::Moves(m) => return moved_extent(m, step, e, f, s),
         Operation::Works(_) => return e,
+    }
+}
+
+// The names of a moved result's axes; m are those of A, e is its extent.
+fn moved_names(mv: Move, step: StepHead, m: [Name; AXES], e: Extent, s: &[u8]) -> [Name; AXES]
+    requires { ⌜ Holds (step .at) detailBytes (now s) ⌝ }
+    ensures { λ r. ⌜ NamesTold (Moves mv) (stepIn (now (s .entry)) step) m e r ⌝ }
+{
+    match mv {
+        Move::Trim => return m,
+        Move::Slice => return without_name(m, rank_of(e), AxisIndex(step.axis as u32)),
+        Move::Reshape => return m,
+        Move::Shift => return m,
+        Move::Rename => return names_at(rank_of(e), s, step.at),
+        Move::Update => return m,
+        Move::Put => return m,
+        Move::Glue => return m,
+    }
+}
+
+// The names of its axes.
+pub fn result_names(step: StepHead, m: [Name; AXES], e: Extent, s: &[u8]) -> [Name; AXES]
+    requires { ⌜ Holds (step .at) detailBytes (now s) ⌝ }
+    ensures { λ r. ⌜ NamesTold (step .operation) (stepIn (now (s .entry)) step) m e r ⌝ }
+{
+    let op = step.operation;
+    match op {
+        Operation::Moves(mv) => return moved_names(mv, step, m, e, s),
+        Operation::Works(_) => return m,
     }
 }

@@ -5,6 +5,7 @@ use mathlib.Core.Bool.{Bool, true, false}
 use mathlib.Core.List.{List, []}
 use native.Mathlib.Omega.{arith}
 use lib.ListN.{length}
+use Rattle.paper.specs.declared.Name.{Name}
 use Rattle.paper.specs.declared.Axis.{Axis}
 use Rattle.paper.specs.declared.Extent.{Extent}
 use Rattle.paper.specs.declared.Part.{Part}
@@ -28,19 +29,20 @@ abbrev pub Buffered : ℕ → ℕ → StretchAnswer → Type 0
 Buffered l r (Got p) = InBuffer l r p
 Buffered l r (Refused x) = Unit {0}
 
--- of a left side (type t, extent e, l bytes), a right side (u, f, r bytes), axis k and ordinality o: the answer is the paper's,
--- whatever the buffers hold, and a part lies in its buffer
-pub record StretchFound (t : ℕ) (e : Extent) (l : ℕ) (u : ℕ) (f : Extent) (r : ℕ) (k o : ℕ) (a : StretchAnswer) : Type 0 where
-  pub said : (bs cs : List ℕ) → length bs ≡ l → length cs ≡ r → stretchSaid a ≡ stretch (sided t e bs) (sided u f cs) k o
+-- of a left side (type t, names M, extent e, l bytes), a right side (u, N, f, r bytes), axis k and ordinality o: the answer is the
+-- paper's, whatever the buffers hold, and a part lies in its buffer
+pub record StretchFound (t : ℕ) (M : List Name) (e : Extent) (l : ℕ) (u : ℕ) (N : List Name) (f : Extent) (r : ℕ) (k o : ℕ)
+    (a : StretchAnswer) : Type 0 where
+  pub said : (bs cs : List ℕ) → length bs ≡ l → length cs ≡ r → stretchSaid a ≡ stretch (sided t M e bs) (sided u N f cs) k o
   pub within : Buffered l r a
 
 -- every test passed but the last
-pub record SidesPassed (t : ℕ) (e : Extent) (l : ℕ) (u : ℕ) (f : Extent) (r : ℕ) (k : ℕ) : Type 0 where
-  pub left : SidePassed t e l 1
-  pub right : SidePassed u f r 2
-  pub glue : (bs cs : List ℕ) → glueTests (sided t e bs) (sided u f cs) k ≡ got tt
+pub record SidesPassed (t : ℕ) (M : List Name) (e : Extent) (l : ℕ) (u : ℕ) (N : List Name) (f : Extent) (r : ℕ) (k : ℕ) : Type 0 where
+  pub left : SidePassed t M e l 1
+  pub right : SidePassed u N f r 2
+  pub glue : (bs cs : List ℕ) → glueTests (sided t M e bs) (sided u N f cs) k ≡ got tt
 
-module _ {t : ℕ} {e : Extent} {l : ℕ} {u : ℕ} {f : Extent} {r k : ℕ} (P : SidesPassed t e l u f r k) where
+module _ {t l u r k : ℕ} {M N : List Name} {e f : Extent} (P : SidesPassed t M e l u N f r k) where
   abbrev E : List Axis
   E = axesOf e
 
@@ -54,7 +56,7 @@ module _ {t : ℕ} {e : Extent} {l : ℕ} {u : ℕ} {f : Extent} {r k : ℕ} (P 
   right = side-clean (P .right)
 
   glue : Gluable k E F × Small (glued k E F)
-  glue = glue-passed (sided t e []) (sided u f []) k (left .0) (P .glue [] [])
+  glue = glue-passed (sided t M e []) (sided u N f []) k (left .0) (P .glue [] [])
 
   pub axials : Axial k E × Axial k F
   axials =
@@ -72,7 +74,7 @@ module _ {t : ℕ} {e : Extent} {l : ℕ} {u : ℕ} {f : Extent} {r k : ℕ} (P 
     counted : {b : Bool} → between 1 ((l + r) / cellBytes) o ≡ b → between 1 (cells (glued k E F)) o ≡ b
     counted q = let n : cells (glued k E F) ≡ (l + r) / cellBytes = omega (arith, bytes) in rw n q
 
-    pub outside : between 1 ((l + r) / cellBytes) o ≡ false → StretchFound t e l u f r k o (Refused (refusal outside6 0 0))
+    pub outside : between 1 ((l + r) / cellBytes) o ≡ false → StretchFound t M e l u N f r k o (Refused (refusal outside6 0 0))
     unfolding stretch
     outside q = record { said = λ bs cs p w. rw (P .left .said bs p, P .right .said cs w, P .glue bs cs, counted q); within = tt }
 
@@ -85,7 +87,7 @@ module _ {t : ℕ} {e : Extent} {l : ℕ} {u : ℕ} {f : Extent} {r k : ℕ} (P 
 
       -- m and n cells are a block of each side
       pub part-found : {m n : ℕ} {p : Part} → m ≡ blockCells k E → n ≡ blockCells k F → p ≡ turnPart m n (o - 1)
-          → StretchFound t e l u f r k o (Got p)
+          → StretchFound t M e l u N f r k o (Got p)
       unfolding stretch
       part-found {m} {n} {p} mis nis s =
           let T = turn-is k E F (glue .0) (right .0 .sound) o (range .0) (range .1) in

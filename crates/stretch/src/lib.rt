@@ -23,6 +23,7 @@ use paper::AxisIndex;
 use paper::CELL_BYTES;
 use paper::Extent;
 use paper::Move;
+use paper::Name;
 use paper::Operation;
 use paper::Ordinality;
 use paper::Part;
@@ -38,8 +39,8 @@ use step::agreeing::agrees;
 // ---- tests, each group by its first refusal, or none
 
 // A side: 1 for its type or axis count, 2 for its extent, 1 for a buffer that has not 9 bytes a cell.
-fn side_refusal(kind: u8, e: Extent, bytes: usize, place: u32) -> Refusal
-    ensures { λ r. ⌜ SideJudged kind e bytes place r ⌝ }
+fn side_refusal(kind: u8, names: [Name; AXES], e: Extent, bytes: usize, place: u32) -> Refusal
+    ensures { λ r. ⌜ SideJudged kind names e bytes place r ⌝ }
 {
     if !in_range(kind as usize, TYPES) {
         return refuse(1, place);
@@ -47,7 +48,7 @@ fn side_refusal(kind: u8, e: Extent, bytes: usize, place: u32) -> Refusal
     if !in_range(rank_of(e), AXES) {
         return refuse(1, place);
     }
-    let n = good_extent(e);
+    let n = good_extent(names, e);
     if n == 0 {
         return refuse(2, place);
     }
@@ -60,14 +61,16 @@ fn side_refusal(kind: u8, e: Extent, bytes: usize, place: u32) -> Refusal
 // What gluing asks of two sides: 5, 7, 8, 9.
 fn glue_refusal(
     left_kind: u8,
+    left_names: [Name; AXES],
     left: Extent,
     right_kind: u8,
+    right_names: [Name; AXES],
     right: Extent,
     axis: AxisIndex,
 ) -> Refusal
     requires { ⌜ Small (axesOf left) ⌝ }
     requires { ⌜ Small (axesOf right) ⌝ }
-    ensures { λ r. ⌜ GlueJudged «left_kind» left «right_kind» right (axis .0) r ⌝ }
+    ensures { λ r. ⌜ GlueJudged «left_kind» «left_names» left «right_kind» «right_names» right (axis .0) r ⌝ }
 {
     if !in_range(axis.0 as usize, rank_of(left)) {
         return refuse(5, 0);
@@ -75,10 +78,17 @@ fn glue_refusal(
     if left_kind != right_kind {
         return refuse(7, 0);
     }
-    if !agrees(Operation::Moves(Move::Glue), axis, left, right) {
+    if !agrees(
+        Operation::Moves(Move::Glue),
+        axis,
+        left_names,
+        left,
+        right_names,
+        right,
+    ) {
         return refuse(8, 0);
     }
-    if good_extent(glued_along(left, right, axis)) == 0 {
+    if good_extent(left_names, glued_along(left, right, axis)) == 0 {
         return refuse(9, 0);
     }
     none()
@@ -111,25 +121,35 @@ fn in_turn(m: usize, n: usize, j: usize) -> Part
 // Where the stretch lies, by the bytes of its side's cell buffer, or the first refusal.
 pub fn plan_stretch(
     left_kind: u8,
+    left_names: [Name; AXES],
     left: Extent,
     left_bytes: usize,
     right_kind: u8,
+    right_names: [Name; AXES],
     right: Extent,
     right_bytes: usize,
     axis: AxisIndex,
     o: Ordinality,
 ) -> StretchAnswer
-    ensures { λ r. ⌜ StretchFound «left_kind» left «left_bytes» «right_kind» right «right_bytes» (axis .0) (o .0) r ⌝ }
+    ensures { λ r. ⌜ StretchFound «left_kind» «left_names» left «left_bytes» «right_kind» «right_names» right «right_bytes» (axis .0) (o .0) r ⌝ }
 {
-    let first = side_refusal(left_kind, left, left_bytes, 1);
+    let first = side_refusal(left_kind, left_names, left, left_bytes, 1);
     if first.number != 0 {
         return StretchAnswer::Refused(first);
     }
-    let second = side_refusal(right_kind, right, right_bytes, 2);
+    let second = side_refusal(right_kind, right_names, right, right_bytes, 2);
     if second.number != 0 {
         return StretchAnswer::Refused(second);
     }
-    let both = glue_refusal(left_kind, left, right_kind, right, axis);
+    let both = glue_refusal(
+        left_kind,
+        left_names,
+        left,
+        right_kind,
+        right_names,
+        right,
+        axis,
+    );
     if both.number != 0 {
         return StretchAnswer::Refused(both);
     }
@@ -165,24 +185,29 @@ fn part_of<'a>(left: &'a [u8], right: &'a [u8], p: Part) -> &'a [u8]
 // The stretch itself, and in `said` the refusal's number, place and ordinality: number 0 stands for none. With a refusal it is empty.
 pub fn stretch<'a, 'b>(
     left_kind: u8,
+    left_names: [Name; AXES],
     left: Extent,
     left_cells: &'a [u8],
     right_kind: u8,
+    right_names: [Name; AXES],
     right: Extent,
     right_cells: &'a [u8],
     axis: AxisIndex,
     o: Ordinality,
     said: &'b mut [u32; 3],
 ) -> &'a [u8]
-    ensures { λ r. ⌜ Handed (sided «left_kind» left (now («left_cells» .entry))) (sided «right_kind» right (now («right_cells» .entry)))
+    ensures { λ r. ⌜ Handed (sided «left_kind» «left_names» left (now («left_cells» .entry)))
+        (sided «right_kind» «right_names» right (now («right_cells» .entry)))
         (axis .0) (o .0) (now r) (now (said .exit)) ⌝ }
 {
     *said = [0u32, 0u32, 0u32];
     match plan_stretch(
         left_kind,
+        left_names,
         left,
         left_cells.len(),
         right_kind,
+        right_names,
         right,
         right_cells.len(),
         axis,

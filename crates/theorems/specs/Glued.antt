@@ -56,7 +56,7 @@ part-bytes cs a n = let e : (a + n) * cellBytes - a * cellBytes ≡ n * cellByte
 
 -- the side that an array is: its type, its axes, its cells' bytes
 abbrev pub sideOf : Array → Side
-sideOf A = record { type = A .shape .type; axes = A .shape .axes; bytes = cellsBytes (A .cells) }
+sideOf A = record { type = A .shape .type; names = A .shape .names; axes = A .shape .axes; bytes = cellsBytes (A .cells) }
 
 -- how many cells a stretch has: from ordinality o on, as long as the coordinate stays on its side
 abbrev pub stretchCells : ℕ → List Axis → List Axis → ℕ → ℕ

@@ -81,14 +81,14 @@ pub record StretchCall : Type 0 where
 
 -- of these sides, glued along axis k, from ordinality o on
 pub record Stretches (L R : Side) (k o : ℕ) (c : StretchCall) : Type 0 where
-  pub left : sided (c .passed .0) (c .passed .1 .0) (now (c .passed .1 .1 .0)) ≡ L
-  pub right : sided (c .passed .1 .1 .1 .0) (c .passed .1 .1 .1 .1 .0) (now (c .passed .1 .1 .1 .1 .1 .0)) ≡ R
-  pub axis : c .passed .1 .1 .1 .1 .1 .1 .0 .0 ≡ k
-  pub from : c .passed .1 .1 .1 .1 .1 .1 .1 .0 .0 ≡ o
+  pub left : sided (c .passed .0) (c .passed .1 .0) (c .passed .1 .1 .0) (now (c .passed .1 .1 .1 .0)) ≡ L
+  pub right : sided (c .passed .1 .1 .1 .1 .0) (c .passed .1 .1 .1 .1 .1 .0) (c .passed .1 .1 .1 .1 .1 .1 .0) (now (c .passed .1 .1 .1 .1 .1 .1 .1 .0)) ≡ R
+  pub axis : c .passed .1 .1 .1 .1 .1 .1 .1 .1 .0 .0 ≡ k
+  pub from : c .passed .1 .1 .1 .1 .1 .1 .1 .1 .1 .0 .0 ≡ o
 
 -- the figures beside what is handed out
 abbrev pub told : StretchCall → List ℕ
-told c = now (c .left .1 .1 .1 .1 .1 .1 .1 .1 .0)
+told c = now (c .left .1 .1 .1 .1 .1 .1 .1 .1 .1 .1 .0)
 
 pub stretches : (c : StretchCall) {L R : Side} {k o : ℕ} → Stretches L R k o c → Handed L R k o (now (c .answer)) (told c)
 stretches c w =

@@ -23,7 +23,7 @@ use Rattle.laws.specs.Lists.{map-take}
 use Rattle.laws.specs.Answers.{unless-got, formOf, form-shape, readingOf}
 use Rattle.laws.specs.Numbers.{Bytes}
 use Rattle.laws.specs.Tests.{between-true, got-one}
-use Rattle.roundtrip.specs.Valid.{EachValid, AllValid, shapes, allCells}
+use Rattle.roundtrip.specs.Valid.{named-length, EachValid, AllValid, shapes, allCells}
 use Rattle.roundtrip.specs.Packing.{AllNamed, bundle-back}
 use Rattle.roundtrip.specs.Lying.{Lying, reading-lies}
 use Rattle.theorems.specs.Made.{ReadCall, reads, PackCall, Packs, packedOut, packs}
@@ -62,9 +62,10 @@ formsOf As = formOfEach As ++ replicate (mostArrays - length As) noForm
 its-forms : (As : List Array) → EachValid As → map shapeOf (formOfEach As) ≡ shapes As
 its-forms [] v = refl
 its-forms (A ∷ As) v =
+    let n = named-length (A .shape .names) (A .shape .axes) (v .0 .names) in
     let h = between-true mostAxes (length (A .shape .axes)) (v .0 .rank) .1 in
     let k = within-alike (A .shape .axes) (A .shape .maximum) (v .0 .inMaximum) in
-    ap₂ (λ (s : Shape) (l : List Shape). s ∷ l) (form-shape (A .shape) h (omega arith)) (its-forms As (v .1))
+    ap₂ (λ (s : Shape) (l : List Shape). s ∷ l) (form-shape (A .shape) n h (omega arith)) (its-forms As (v .1))
 
 forms-shapes : (As : List Array) → EachValid As → shapesOf (length As) (formsOf As) ≡ shapes As
 forms-shapes As v =
@@ -133,7 +134,7 @@ read-then-packed bs out h l c is z p k =
 
 -- ---- accepted, then read
 
--- whatever forms and cells `pack` accepts, the maxima having the extents' names, `read` gives back
+-- whatever forms and cells `pack` accepts, with a name that fits its bytes for each axis, `read` gives back
 pub accepted-then-read : (count : ℕ) (forms : List Form) (cs out : List ℕ) → Bytes cs → AllNamed (shapesOf count forms)
     → (n : ℕ) (p : PackCall) → Packs count forms cs out p → p .answer ≡ Got n → (r : ReadCall) → now (r .passed .0) ≡ take n (packedOut p)
     → (As : List Array) × (shapes As ≡ shapesOf count forms) × (allCells As ≡ cs) × ReadBack (take n (packedOut p)) As (r .answer)

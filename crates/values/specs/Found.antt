@@ -98,7 +98,7 @@ pub record Found (B : List ℕ) (As Rs : List Array) (n : ℕ) (o : Operand) (S 
 
 -- what an array of operands is read as past its end
 abbrev pub past : Operand
-past = record { found = false; which = 0; head = record { form = record { kind = 0; extent = record { rank = 0; axes = [] }; maximum = record { rank = 0; axes = [] } }; at = 0; cells = 0 } }
+past = record { found = false; which = 0; head = record { form = record { kind = 0; names = []; extent = record { rank = 0; axes = [] }; maximum = record { rank = 0; axes = [] } }; at = 0; cells = 0 } }
 
 -- step s as the code finds it in the plan
 abbrev pub turnIn : Plan → ℕ → Turn

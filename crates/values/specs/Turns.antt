@@ -28,7 +28,7 @@ use Rattle.paper.specs.Numbers.{leOf, leBytes, part, alike}
 use Rattle.paper.specs.Axes.{cells, atOffset, sameName, Shape, Array, at}
 use Rattle.paper.specs.Cells.{isType, filled, cellFrom, encode}
 use Rattle.paper.specs.Operators.{takes, takesOne, pairCell}
-use Rattle.paper.specs.Recipe.{Step, Planned, scalarOf, uses, axisIn, isScalar, fitsIn, takesType, typesFit, sameLimits, agree, resultAxes, resultOf}
+use Rattle.paper.specs.Recipe.{Step, Planned, scalarOf, uses, axisIn, isScalar, fitsIn, takesType, typesFit, sameLimits, asMany, agree, resultAxes, resultOf}
 use Rattle.paper.specs.Values.{Whence, whence, taken, made, scalar, cellAt}
 use Rattle.paper.specs.Answers.{axesOf}
 use Rattle.laws.specs.Tests.{and-left, and-right}
@@ -253,9 +253,10 @@ module _ {B bs D : List ℕ} {A Z : Array} {p : Planned} {t : Turn} (y : Ready B
   unfolding cellAt made typesFit takesType agree uses
   computes (Pair o) e n k v h = rw e (
       let f = fits (Pair o) e 0 k h in
-      let g : (alike sameName (S .axes) (U .axes) && alike sameLimits (S .axes) (U .axes)) ≡ true = rw e at (y .tested .agrees) in
+      let g : (asMany (S .axes) (U .axes) && (alike sameName (S .names) (U .names) && alike sameLimits (S .axes) (U .axes))) ≡ true = rw e at (y .tested .agrees) in
+      let l = and-right (asMany (S .axes) (U .axes)) _ g in
       pair-by (Pair o) e 0 k h o (and-right (eqb (S .type) (U .type)) _ f) (first-cell (Pair o) e 0 k h)
-      (second-cell (Pair o) e 0 k h refl (and-left _ _ f) (and-right (alike sameName (S .axes) (U .axes)) _ g)))
+      (second-cell (Pair o) e 0 k h refl (and-left _ _ f) (and-right (alike sameName (S .names) (U .names)) _ l)))
   computes (Scalar Right o) e n k v h = rw e (
       let f = fits (Scalar Right o) e n k h in
       pair-by (Scalar Right o) e n k h o (and-left _ _ f) (first-cell (Scalar Right o) e n k h) (scalar-cell (Scalar Right o) e n k h v (and-right (takes o (S .type)) _ f)))
@@ -293,7 +294,7 @@ module _ {B bs D : List ℕ} {A Z : Array} {p : Planned} {t : Turn} (y : Ready B
       second = y .small-second;
       result = y .small-result;
       axis = rw (← first-axes) (subst (λ (op : Operation). axisIn (uses op) (length (S .axes)) (p .step .axis) ≡ true) e (y .tested .axis));
-      agrees = rw (← first-axes, ← second-axes) (subst (λ (op : Operation). agree op (p .step .axis) (S .axes) (U .axes) ≡ true) e (y .tested .agrees));
+      agrees = rw (← first-axes, ← second-axes) (subst (λ (op : Operation). agree op (p .step .axis) (S .names) (S .axes) (U .names) (U .axes) ≡ true) e (y .tested .agrees));
       left = S;
       right = U;
       left-axes = first-axes;

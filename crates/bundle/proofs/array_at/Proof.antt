@@ -79,15 +79,15 @@ bounds-at-requires : tie.Need-bounds-at-requires
 bounds-at-requires c κs = let l = few (c .before) in (l, omega arith)
 
 array-of-requires : tie.Need-array-of-requires
-array-of-requires c κs = let l = few (c .before .before .before .before) in omega arith
+array-of-requires c κs = let l = few (c .before .before .before .before .before) in omega arith
 
 returns-4 : tie.Need-returns-4
 returns-4 c =
-    let b = c .before .before .before in
+    let b = c .before .before .before .before in
     let q = b .before .before in
     let p = two q in
     head-rest (k p) (bs p) (at p) (kind p) (rank p) (p .before .byte-at .ensures) (p .byte-at2 .ensures) (typed q) (ranked q) (b .before .if3 .left)
-    _ _ (b .bounds-at .ensures .0) (b .bounds-at .ensures .1) (c .array-of .result) (c .array-of .ensures)
+    _ _ _ (b .bounds-at .ensures .0) (b .bounds-at .ensures .1) (b .bounds-at .ensures .2) (c .array-of .result) (c .array-of .ensures)
 
 pub array-at-spec : {M : Type 1} → statement M
 array-at-spec =

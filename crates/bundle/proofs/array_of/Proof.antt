@@ -22,21 +22,21 @@ use Rattle.bundle.proofs.array_of.Tie as tie
 -- the extent is judged
 module _ (c : tie.After-extent-cells) where
   abbrev bs : List ℕ
-  bs = now (c .before .before .args .s)
+  bs = now (c .before .before .before .args .s)
 
   abbrev k : ℕ
-  k = c .before .before .args .k
+  k = c .before .before .before .args .k
 
   abbrev from : ℕ
-  from = c .before .before .args .from
+  from = c .before .before .before .args .from
 
   abbrev form : Form
-  form = c .before .before .args .form
+  form = c .before .before .before .args .form
 
   abbrev n : ℕ
   n = c .extent-cells .result
 
-  count : n ≡ cellsWithin (shapeOf form .axes) (shapeOf form .maximum)
+  count : n ≡ cellsWithin (shapeOf form .names) (shapeOf form .axes) (shapeOf form .maximum)
   count = c .extent-cells .ensures .0
 
   stops : (x : Refusal) → (x .number ≡ 0 → ⊥) → (r : ArrayRead) → r ≡ noArray x → refused x ≡ arrayOf k (shapeOf form) (drop from bs) → JudgedArray bs from k form r
@@ -65,7 +65,7 @@ returns-4 c =
     let b = c .before .before in
     let p = b .before .before .before in
     of-got (k p) (bs p) (from p) (form p) (n p) (count p) (b .before .before .if1 .left) (b .before .if2 .left) _ (b .first-bad .ensures .0)
-    (p .before .before .pre) (c .before .if3 .left) (p .extent-cells .ensures .1) _
+    (p .before .before .before .pre) (c .before .if3 .left) (p .extent-cells .ensures .1) _
     (λ i. record { refusal = (c .none .ensures) i; head = record { form = form p; at = from p; cells = n p }; end = from p + n p * cellBytes })
 
 pub array-of-spec : {M : Type 1} → statement M

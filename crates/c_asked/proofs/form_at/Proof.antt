@@ -9,10 +9,11 @@ use Rattle.c_asked.proofs.form_at.Tie as tie
 
 returns : tie.Need-returns
 returns c =
-    let b = c .before .before in
+    let b = c .before .before .before in
     let n = b .before in
     let a = n .before .before .before .before .args in
     form-told (now (a .s)) (a .at) (n .axis-count .ensures .0) (b .bounds-at .ensures .0) (b .bounds-at .ensures .1)
+    (b .bounds-at .ensures .2)
 
 pub form-at-spec : {M : Type 1} → statement M
 form-at-spec =

@@ -12,11 +12,11 @@ use lib.ListN.{length, take}
 use lib.Seq.{paste}
 use Rattle.paper.specs.declared.Axis.{Axis}
 use Rattle.paper.specs.Answers.{axesOf}
-use Rattle.paper.specs.Axes.{cells, coordinate, result, Shape}
-use Rattle.paper.specs.Limits.{BOOLEAN, mostCells, limitBytes}
+use Rattle.paper.specs.Axes.{cells, coordinate, Shape}
+use Rattle.paper.specs.Limits.{mostCells, limitBytes}
 use Rattle.paper.specs.Listing.{rowBytes, row}
 use Rattle.place.specs.declared.Coordinate.{Coordinate}
-use Rattle.listing.specs.Rows.{row-at}
+use Rattle.listing.specs.Rows.{nameless, row-at}
 use Rattle.listing.specs.Lines.{InLine, OnLine, line-none, line-still, line-more, line-below, line-found}
 use Rattle.listing.specs.Lists.{Listing, Met, list-start, list-upto, list-more, wrote, skipped, row-fits, listed-as, full, passed}
 use Rattle.listing.proofs.list.Statement.{statement}
@@ -52,7 +52,7 @@ module _ (c : tie.After-rank-of Inv-loop μ-loop) where
   abbrev size : ℕ
   size = limitBytes + limitBytes * rank
 
-  sized : limitBytes + limitBytes * rank ≡ rowBytes (result BOOLEAN E)
+  sized : limitBytes + limitBytes * rank ≡ rowBytes (nameless E)
   sized = ap (λ (j : ℕ). limitBytes + limitBytes * j) (c .rank-of .ensures .number)
 
 -- a cell of the listing is one of its n, and n is small
@@ -139,7 +139,7 @@ module _ (c : tie.After-write-row Inv-loop μ-loop) where
   a = i o
 
   abbrev shape : Shape
-  shape = result BOOLEAN (E (s a))
+  shape = nameless (E (s a))
 
   put : c .write-row .last .0 ≡ paste (a .loop .rows) (a .loop .written * size (s a)) (row shape (a .loop .k + 1)) (rowBytes shape)
   put =

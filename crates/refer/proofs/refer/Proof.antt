@@ -60,7 +60,9 @@ module _ (c : tie.After-found) where
   counted = c .before .before
 
   spot : c .found .result ≡ placeOf (shapeOf (form (kept counted))) (map distance (zs (kept counted)))
-  spot = rw (← c .before .coordinate-at .ensures, count counted) (c .found .ensures (form (kept counted) .kind))
+  spot =
+      rw (← c .before .coordinate-at .ensures, count counted)
+      (c .found .ensures (form (kept counted) .kind) (shapeOf (form (kept counted)) .names))
 
 -- an ordinality that was found is one of the array's
 module _ (c : tie.After-place) where
@@ -107,6 +109,6 @@ refer-spec =
     (λ c. let h = c .before .before .before in
     refer-refused (now (h .before .before .args .coordinates)) (h .choose .ensures) (c .if1 .taken))
     (λ c κs. search needs) (λ c κs. search needs) returns-2 (λ c κs. omega (arith, c .before .rank-of .ensures .few))
-    (λ c κs. good-small _ (and-left (goodExtent _) _ (fit (kept (c .before)) .good))) (λ c. search needs) (λ c κs. search needs)
+    (λ c κs. good-small _ _ (and-left (goodExtent _ _) _ (fit (kept (c .before)) .good))) (λ c. search needs) (λ c κs. search needs)
     returns-3 (λ c. search needs) (λ c. let b = bounds (c .before .before) in omega arith)
     (λ c κs. let a = c .before .before in let b = bounds a in omega (arith, fit (its a) .fits)) returns-4)

@@ -12,11 +12,11 @@ returns : tie.Need-returns
 returns c =
     let g = c .before .before in
     let p = g .before .before .before in
-    let f = p .before .before in
+    let f = p .before .before .before .before in
     let h = f .before .before .before in
     let a = h .before .before .before .args in
     let l = side-told (now (a .left-head)) (now (a .left)) _ (f .side-form .ensures) in
-    let r = side-told (now (a .right-head)) (now (a .right)) _ (p .before .side-form2 .ensures) in
+    let r = side-told (now (a .right-head)) (now (a .right)) _ (p .before .before .before .side-form2 .ensures) in
     let e = rw (l, r) at (p .plan-stretch .ensures .said (now (a .left)) (now (a .right)) refl refl) in
     speaks partBytes _ _ _ _ _ (g .before .of-stretch .ensures) e (g .give .ensures)
 

@@ -6,7 +6,7 @@ use denote.Ref.{now}
 use lib.ListN.{drop}
 use Rattle.positions.specs.Runs.{Holds}
 use Rattle.shape.specs.Renewed.{bytesFor, fresh}
-use Rattle.shape.specs.declared.Change.the-variants.{Limits, Moved, Named}
+use Rattle.shape.specs.declared.Change.the-variants.{Limits, Moved}
 use Rattle.shape.specs.declared.Change.{Change}
 use Rattle.shape.proofs.axis_anew.Statement.{statement}
 use Rattle.shape.proofs.axis_anew.Tie as tie
@@ -30,15 +30,8 @@ moved-at-requires c κs = (c .before .before .before .pre .0, holds (c .before .
 returns-2 : tie.Need-returns-2
 returns-2 c = c .moved-at .ensures ∙ told (c .before .before .before .before) Moved (c .before .enum-told2 .given .1)
 
-named-at-requires : tie.Need-named-at-requires
-named-at-requires c κs = holds (c .before .before .before) Named (c .enum-told3 .given .1)
-
-returns-3 : tie.Need-returns-3
-returns-3 c = c .named-at .ensures ∙ told (c .before .before .before .before) Named (c .before .enum-told3 .given .1)
-
 pub axis-anew-spec : {M : Type 1} → statement M
 axis-anew-spec =
     tie.close
     (tie.spec
-    (λ c. search needs) limits-at-requires returns (λ c. search needs) moved-at-requires returns-2 (λ c. search needs)
-    named-at-requires returns-3)
+    (λ c. search needs) limits-at-requires returns (λ c. search needs) moved-at-requires returns-2)

@@ -1,19 +1,22 @@
 -- `stretch::glue_refusal` meets its contract: each way out by the paper's tests up to it.
 use mathlib.Core.Path.{_≡_, sym, _∙_}
 use mathlib.Core.Bool.{true}
+use mathlib.Core.List.{List}
 use borrow.Author.Needs.{needs}
 use borrow.Author.Tests.{not-true, not-false, eq-eqb, ne-eqb}
 use lib.ListN.{length}
+use Rattle.paper.specs.declared.Name.{Name}
+use Rattle.paper.specs.declared.Axis.{Axis}
 use Rattle.paper.specs.declared.Move.the-variants.{Glue}
 use Rattle.paper.specs.declared.Operation.the-variants.{Moves}
 use Rattle.paper.specs.Refusals.{between}
-use Rattle.paper.specs.Recipe.{agree}
-use Rattle.paper.specs.Answers.{axesOf}
+use Rattle.paper.specs.Recipe.{agree, glued}
+use Rattle.paper.specs.Answers.{axesOf, namesFor}
 use Rattle.paper.specs.Stretch.{glueTests}
 use Rattle.laws.specs.Tests.{between-true}
 use Rattle.laws.specs.Glue.{Gluable, gluable}
-use Rattle.extent.specs.Judged.{good-zero, good-some}
-use Rattle.stretch.specs.Sides.{glued-some}
+use Rattle.extent.specs.Judged.{goodCells, good-zero, good-some}
+use Rattle.stretch.specs.Sides.{glued-some, glued-cells}
 use Rattle.stretch.proofs.glue_refusal.Statement.{statement}
 use Rattle.stretch.proofs.glue_refusal.Tie as tie
 
@@ -29,11 +32,23 @@ module _ (c : tie.Else3) where
   abbrev s : tie.Start
   s = first .before .before .before .before
 
-  agreed : agree (Moves Glue) (s .args .axis .0) (axesOf (s .args .left)) (axesOf (s .args .right)) ≡ true
-  agreed = sym (c .before .agrees .ensures) ∙ not-false _ (c .if3 .left)
+  abbrev E : List Axis
+  E = axesOf (s .args .left)
 
-  fits : Gluable (s .args .axis .0) (axesOf (s .args .left)) (axesOf (s .args .right))
-  fits = let b = between-true _ _ (inside first) in gluable _ _ _ (b .0) (b .1) (s .pre .0 .sound) agreed
+  abbrev F : List Axis
+  F = axesOf (s .args .right)
+
+  abbrev M : List Name
+  M = namesFor E (s .args .left-names)
+
+  abbrev N : List Name
+  N = namesFor F (s .args .right-names)
+
+  agree-told : agree (Moves Glue) (s .args .axis .0) M E N F ≡ true
+  agree-told = sym (c .before .agrees .ensures) ∙ not-false _ (c .if3 .left)
+
+  fits : Gluable (s .args .axis .0) E F
+  fits = let b = between-true _ _ (inside first) in gluable _ M N E F (b .0) (b .1) (s .pre .0 .sound) agree-told
 
 returns : tie.Need-returns
 unfolding glueTests
@@ -57,26 +72,37 @@ glued-along-requires : tie.Need-glued-along-requires
 glued-along-requires c κs =
     record { one = fits c .one; last = fits c .first; first = s c .pre .0 .sound; second = s c .pre .1 .sound }
 
+-- the glued extent is judged by the left's names
+module _ (c : tie.After-good-extent) where
+  abbrev p : tie.Else3
+  p = c .before .before
+
+  abbrev G : List Axis
+  G = glued (s p .args .axis .0) (E p) (F p)
+
+  counted : c .good-extent .result ≡ goodCells (M p) G
+  counted = c .good-extent .ensures .0 ∙ glued-cells (s p .args .left-names) (fits p) (c .before .glued-along .ensures)
+
 returns-4 : tie.Need-returns-4
 unfolding glueTests
 returns-4 c =
     let d = c .before .before in
-    let q = d .before .before in
+    let q = p d in
     let t = eq-eqb _ _ (q .before .before .if2 .left) in
-    let g = good-zero _ (sym (d .good-extent .ensures .0) ∙ c .before .if4 .taken) in
+    let g = good-zero (M q) (G d) (sym (counted d) ∙ c .before .if4 .taken) in
     record {
-      said = λ bs cs. rw (c .refuse4 .ensures, inside (first q), t, agreed q, glued-some (fits q), ← d .before .glued-along .ensures, g);
+      said = λ bs cs. rw (c .refuse4 .ensures, inside (first q), t, agree-told q, glued-some (fits q), g);
     }
 
 returns-5 : tie.Need-returns-5
 unfolding glueTests
 returns-5 c =
     let d = c .before .before in
-    let q = d .before .before in
+    let q = p d in
     let t = eq-eqb _ _ (q .before .before .if2 .left) in
-    let g = good-some _ (λ z. c .before .if4 .left (d .good-extent .ensures .0 ∙ z)) .0 in
+    let g = good-some (M q) (G d) (λ z. c .before .if4 .left (counted d ∙ z)) .0 in
     record {
-      said = λ bs cs. rw (c .none .ensures, inside (first q), t, agreed q, glued-some (fits q), ← d .before .glued-along .ensures, g);
+      said = λ bs cs. rw (c .none .ensures, inside (first q), t, agree-told q, glued-some (fits q), g);
     }
 
 pub glue-refusal-spec : {M : Type 1} → statement M

@@ -20,7 +20,7 @@ returns c =
     record { said = λ bs cs p q. rw (failed _ (x .said bs p) (c .if1 .taken)); within = tt }
 
 -- the left has no refusal
-left : (c : tie.Else1) → let a = c .before .before .before .args in SidePassed (a .left-kind) (a .left) (a .left-bytes) 1
+left : (c : tie.Else1) → let a = c .before .before .before .args in SidePassed (a .left-kind) (a .left-names) (a .left) (a .left-bytes) 1
 left c = side-passed (c .before .before .side-refusal .ensures) (c .if1 .left)
 
 returns-2 : tie.Need-returns-2
@@ -35,7 +35,7 @@ module _ (c : tie.Else2) where
   abbrev first : tie.Else1
   first = c .before .before .before
 
-  right : let a = first .before .before .before .args in SidePassed (a .right-kind) (a .right) (a .right-bytes) 2
+  right : let a = first .before .before .before .args in SidePassed (a .right-kind) (a .right-names) (a .right) (a .right-bytes) 2
   right = side-passed (c .before .before .side-refusal2 .ensures) (c .if2 .left)
 
 glue-refusal-requires : tie.Need-glue-refusal-requires
@@ -59,7 +59,7 @@ module _ (c : tie.Else3) where
   abbrev s : tie.Start
   s = first second .before .before .before
 
-  all : let a = s .args in SidesPassed (a .left-kind) (a .left) (a .left-bytes) (a .right-kind) (a .right) (a .right-bytes) (a .axis .0)
+  all : let a = s .args in SidesPassed (a .left-kind) (a .left-names) (a .left) (a .left-bytes) (a .right-kind) (a .right-names) (a .right) (a .right-bytes) (a .axis .0)
   all = record {
     left = left (first second);
     right = right second;

@@ -6,12 +6,13 @@ use mathlib.Core.List.{List}
 use borrow.Author.Needs.{needs}
 use borrow.Author.Tests.{not-true, not-false, eq-eqb, ne-eqb}
 use lib.ListN.{length}
+use Rattle.paper.specs.declared.Name.{Name}
 use Rattle.paper.specs.declared.Axis.{Axis}
 use Rattle.paper.specs.Limits.{mostAxes, cellBytes}
 use Rattle.paper.specs.Refusals.{between}
 use Rattle.paper.specs.Axes.{goodExtent, cells}
 use Rattle.paper.specs.Cells.{isType}
-use Rattle.paper.specs.Answers.{axesOf}
+use Rattle.paper.specs.Answers.{axesOf, namesFor}
 use Rattle.paper.specs.Stretch.{judge}
 use Rattle.extent.specs.Judged.{good-zero, good-some}
 use Rattle.stretch.proofs.side_refusal.Statement.{statement}
@@ -28,10 +29,13 @@ module _ (c : tie.Else3) where
   abbrev E : List Axis
   E = axesOf (c .before .before .before .before .before .before .before .args .e)
 
-  good : (goodExtent E ≡ true) × (cells E ≡ c .before .good-extent .result)
+  abbrev N : List Name
+  N = namesFor E (c .before .before .before .before .before .before .before .args .names)
+
+  good : (goodExtent N E ≡ true) × (cells E ≡ c .before .good-extent .result)
   good =
       let e = c .before .good-extent .ensures .0 in
-      let g = good-some E (λ z. c .if3 .left (e ∙ z)) in
+      let g = good-some N E (λ z. c .if3 .left (e ∙ z)) in
       (g .0, g .1 ∙ sym e)
 
 returns : tie.Need-returns
@@ -51,7 +55,7 @@ returns-3 : tie.Need-returns-3
 unfolding judge
 returns-3 c =
     let r = c .before .before .before in
-    let g = good-zero _ (sym (c .before .before .good-extent .ensures .0) ∙ c .before .if3 .taken) in
+    let g = good-zero _ _ (sym (c .before .before .good-extent .ensures .0) ∙ c .before .if3 .taken) in
     record { said = λ bs q. rw (c .refuse3 .ensures, typed (r .before .before .before), ranked r, g) }
 
 returns-4 : tie.Need-returns-4

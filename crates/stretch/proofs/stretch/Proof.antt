@@ -16,10 +16,10 @@ module _ (c : tie.After-plan-stretch) where
   s = c .before .before .before .before
 
   abbrev L : Side
-  L = sided (s .args .left-kind) (s .args .left) (now (s .args .left-cells))
+  L = sided (s .args .left-kind) (s .args .left-names) (s .args .left) (now (s .args .left-cells))
 
   abbrev R : Side
-  R = sided (s .args .right-kind) (s .args .right) (now (s .args .right-cells))
+  R = sided (s .args .right-kind) (s .args .right-names) (s .args .right) (now (s .args .right-cells))
 
   answer : {a : StretchAnswer} → c .plan-stretch .result ≡ a → stretchSaid a ≡ stretch L R (s .args .axis .0) (s .args .o .0)
   answer e = ap stretchSaid (sym e) ∙ c .plan-stretch .ensures .said (L .bytes) (R .bytes) refl refl

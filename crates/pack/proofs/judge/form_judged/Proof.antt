@@ -4,9 +4,11 @@ use mathlib.Core.Bool.{true}
 use native.Mathlib.Omega.{arith}
 use borrow.Author.Needs.{needs}
 use borrow.Author.Tests.{not-true, not-false}
+use lib.ListN.{length}
 use Rattle.paper.specs.Limits.{mostAxes}
 use Rattle.paper.specs.Refusals.{between}
 use Rattle.paper.specs.Cells.{isType}
+use Rattle.laws.specs.Loops.{length-mapped}
 use Rattle.pack.specs.Judging.{form-type, form-count, form-bad, form-got}
 use Rattle.pack.proofs.judge.form_judged.Statement.{statement}
 use Rattle.pack.proofs.judge.form_judged.Tie as tie
@@ -18,6 +20,9 @@ module _ (c : tie.Else1) where
 
   abbrev start : tie.Start
   start = counted .before .before
+
+  full : length (start .args .form .names) ≡ mostAxes
+  full = search (needs, length-mapped)
 
   typed : isType (start .args .form .kind) ≡ true
   typed = sym (c .before .in-range .ensures) ∙ not-false _ (c .if1 .left)
@@ -54,7 +59,7 @@ returns-4 : tie.Need-returns-4
 returns-4 c =
     let o = c .before .before .before .before in
     let t = kind (o .before) in
-    form-got (typed t) (counted t .rank-of .ensures) (ranked (o .before)) (o .array-of .ensures) (start t .pre)
+    form-got (typed t) (counted t .rank-of .ensures) (ranked (o .before)) (o .array-of .ensures) (full t) (start t .pre)
     (c .before .before .if3 .left)
 
 pub form-judged-spec : {M : Type 1} → statement M

@@ -9,7 +9,7 @@ returns : tie.Need-returns
 returns c =
     let high = c .before .before in
     let low = high .before .before .before .before in
-    let s = low .before .before .before in
+    let s = low .before .before .before .before .before in
     name-put (now (s .args .d)) (low .put4 .last .0) (high .put42 .last .0) (s .args .at) (s .args .n) (s .pre) (low .put4 .ensures)
     (high .put42 .ensures)
 

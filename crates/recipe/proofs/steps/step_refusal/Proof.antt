@@ -73,12 +73,12 @@ module _ (c : tie.After-types-fit) where
 -- 8
 module _ (c : tie.After-agrees) where
   abbrev past7 : tie.Else3
-  past7 = c .before .before
+  past7 = c .before .before .before .before
 
   abbrev in7 : tie.After-types-fit
   in7 = past7 .before
 
-  agrees-told : (b : Bool) → c .agrees .result ≡ b → agree (st (in5 (past5 in7)) .operation) (st (in5 (past5 in7)) .axis) (A (in5 (past5 in7)) .axes) (B (in5 (past5 in7)) .axes) ≡ b
+  agrees-told : (b : Bool) → c .agrees .result ≡ b → agree (st (in5 (past5 in7)) .operation) (st (in5 (past5 in7)) .axis) (A (in5 (past5 in7)) .names) (A (in5 (past5 in7)) .axes) (B (in5 (past5 in7)) .names) (B (in5 (past5 in7)) .axes) ≡ b
   agrees-told b e = sym (c .agrees .ensures) ∙ e
 
 -- 6, where the tests before it held

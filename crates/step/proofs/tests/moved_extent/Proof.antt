@@ -28,7 +28,6 @@ moved-extent-spec =
     (λ c. search needs) (λ c. search needs) (λ c κs. tt) (λ c. rw (c .before .before .enum-told2 .given .1) (c .removed .ensures))
     (λ c. search needs) (λ c κs. search needs) (λ c. rw (c .before .enum-told3 .given .1) (c .with-limits2 .ensures))
     (λ c. search needs) (λ c κs. search needs) (λ c. rw (c .before .enum-told4 .given .1) (c .shifted-by .ensures))
-    (λ c. search needs) (λ c κs. search needs) (λ c. rw (c .before .enum-told5 .given .1) (c .with-names .ensures))
-    (λ c. search needs) (λ c. rw (c .enum-told6 .given .1)) (λ c. search needs) (λ c. rw (c .enum-told7 .given .1))
+    (λ c. search needs) (λ c. rw (c .enum-told5 .given .1)) (λ c. search needs) (λ c. rw (c .enum-told6 .given .1)) (λ c. search needs) (λ c. rw (c .enum-told7 .given .1))
     (λ c. search needs) (λ c. search needs) glued-along-requires
     (λ c. rw (c .before .before .enum-told8 .given .1) (c .glued-along .ensures)))

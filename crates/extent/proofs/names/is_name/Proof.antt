@@ -1,4 +1,4 @@
--- `extent::is_name` meets its contract.
+-- `extent::names::is_name` meets its contract.
 -- The first byte is a letter; the loop keeps the test of the bytes left, from byte i on, equal to that of all after the first.
 use Prim.Native.Nat.{_-_, _<_, _^_, _≤_}
 use mathlib.Core.Path.{refl, sym, _∙_, _≡_}
@@ -9,8 +9,8 @@ use Rattle.extent.specs.Names.{name-first, name-high, name-low, rest-end
 use Rattle.paper.specs.Axes.{nameRest}
 use Rattle.paper.specs.Limits.{nameBytes}
 use Rattle.paper.specs.Numbers.{leBytes}
-use Rattle.extent.proofs.is_name.Statement.{statement}
-use Rattle.extent.proofs.is_name.Tie as tie
+use Rattle.extent.proofs.names.is_name.Statement.{statement}
+use Rattle.extent.proofs.names.is_name.Tie as tie
 
 abbrev Inv-loop : tie.InvT-loop
 Inv-loop n left₀ i₀ left i = (i ≤ nameBytes) × (left < 256 ^ (nameBytes - i)) × (nameRest (leBytes (nameBytes - i) left) ≡ nameRest (leBytes (nameBytes - 1) left₀))

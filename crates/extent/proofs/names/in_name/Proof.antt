@@ -1,10 +1,10 @@
--- `extent::in_name` meets its contract.
+-- `extent::names::in_name` meets its contract.
 -- The ranges of the digits, the underscore and the letters, from the lowest code up.
 use mathlib.Core.Path.{ap, sym}
 use Rattle.extent.specs.Names.{below-digits, between-them, by-letter, digit}
 use Rattle.paper.specs.Axes.{inName}
-use Rattle.extent.proofs.in_name.Statement.{statement}
-use Rattle.extent.proofs.in_name.Tie as tie
+use Rattle.extent.proofs.names.in_name.Statement.{statement}
+use Rattle.extent.proofs.names.in_name.Tie as tie
 
 returns : tie.Need-returns
 returns c = below-digits (c .before .args .b) (c .if1 .taken)
