@@ -17,7 +17,7 @@ extern "C" {
 }
 
 const SIDE: usize = 64;
-const LONGEST: usize = 110_602; // bytes: room for every text
+const LONGEST: usize = 110_602; // bytes: room for every text on up to four axes
 const HEAD: usize = 6 + 2 + 2 * 24; // bytes of a bundle of one array on two axes, before its cells
 const NAMES: [&str; 4] = ["rust (d)", "rust (e)", "rust (f)", "engine"];
 

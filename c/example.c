@@ -1,14 +1,17 @@
 /* Calls the engine from C. `example FOLDER` lists roster.rma and recipe.bin of the folder page by page, and prints what the program
- * `rests` prints. `example` alone packs the two arrays of that roster from numbers, reads them back and asks about them. */
+ * `rests` prints. `example` alone packs the two arrays of that roster from numbers, reads them back and asks about them; then it packs
+ * an array of six axes with longer names as a bundle of version 2, and lists it. */
 #include <stdio.h>
 #include <stdlib.h>
+#include <string.h>
 #include "rma.h"
 
 #define MOST 32768 /* bytes of a file, and of the work area */
 
 struct bytes { uint8_t *at; size_t len; };
 
-static struct bytes roster, recipe, work, row, text; /* each on the heap and of its exact length, so that valgrind guards its ends */
+/* Each on the heap and of its exact length, so that valgrind guards its ends. */
+static struct bytes roster, recipe, work, row, text, extent;
 static uint8_t said[RMA_SAID];
 
 /* Gives a buffer another length. One of length 0 has a pointer too: the engine takes no NULL. */
@@ -79,15 +82,21 @@ static void print_listing(void)
 #define TURN 't', 'u', 'r', 'n', 0, 0, 0, 0, NUMBER(1), NUMBER(3), STAR
 #define AT(minute) {1, (minute) % 256, (minute) / 256} /* a filled cell */
 
-/* Packs starts and ends of two people's three turns. Refused, the roster stays empty. */
+/* Packs arrays as the roster, in that version. Refused, the roster stays empty. */
+static void pack(uint32_t version, const uint8_t *heads, size_t heads_len, const uint8_t *cells, size_t cells_len)
+{
+    resize(&roster, MOST);
+    uint32_t refused = rma_pack(version, heads, heads_len, cells, cells_len, roster.at, roster.len, said, sizeof said);
+    resize(&roster, refused ? 0 : rma_u32(said));
+}
+
+/* Packs starts and ends of two people's three turns. */
 static void pack_roster(void)
 {
-    static const uint8_t heads[2][RMA_HEAD] = {{1, 2, WHO, TURN}, {1, 2, WHO, TURN}}; /* type INT, two axes */
+    static const uint8_t heads[2][RMA_HEAD_1] = {{1, 2, WHO, TURN}, {1, 2, WHO, TURN}}; /* type INT, two axes */
     static const uint8_t cells[12][9] = {AT(1320), AT(2760), AT(4200), AT(360), AT(1200), AT(3240),
                                          AT(1800), AT(3240), AT(4680), AT(840), AT(1680), AT(3720)};
-    resize(&roster, MOST);
-    uint32_t refused = rma_pack(&heads[0][0], sizeof heads, &cells[0][0], sizeof cells, roster.at, roster.len, said, sizeof said);
-    resize(&roster, refused ? 0 : rma_u32(said));
+    pack(1, &heads[0][0], sizeof heads, &cells[0][0], sizeof cells);
 }
 
 /* Asks about the packed roster. Minutes of a week fit in the lowest four bytes of a cell. */
@@ -108,6 +117,42 @@ static void ask(void)
         printf("starts: %.*s\n", (int)rma_u32(said), (const char *)text.at);
 }
 
+/* Puts an axis in a head of version 2: a name of up to 16 letters, limits from 1 on, the widest maximum. */
+static void put_axis(uint8_t *head, int axis, const char *name, uint8_t upper)
+{
+    const uint8_t limits[] = {NUMBER(1), NUMBER(upper), STAR};
+    uint8_t *slot = head + 2 + 32 * axis;
+    memset(slot, 0, 16);
+    memcpy(slot, name, strlen(name));
+    memcpy(slot + 16, limits, sizeof limits);
+}
+
+/* Packs the rests of two people after two turns, on six axes. */
+static void pack_rests(void)
+{
+    static const char *const names[] = {"branch", "depot", "line", "person_on_call", "week", "turn"};
+    static const uint8_t upper[] = {1, 1, 1, 2, 1, 2};
+    static const uint8_t cells[4][9] = {AT(960), AT(960), AT(360), AT(1560)};
+    uint8_t head[RMA_HEAD_2] = {1, 6}; /* type INT, six axes */
+    for (int axis = 0; axis < 6; axis++)
+        put_axis(head, axis, names[axis], upper[axis]);
+    pack(2, head, sizeof head, &cells[0][0], sizeof cells);
+    printf("packed in version 2: %zu bytes\n", roster.len);
+}
+
+/* Lists those below 660 minutes by a recipe of one step of 100 bytes, and prints the axes of its result. */
+static void list_rests(void)
+{
+    static const uint8_t below_660[100] = {10, 1, 0, 0, 8, 0, 0, 0, 660 % 256, 660 / 256}; /* right scalar, array 1, operator < */
+    resize(&recipe, sizeof below_660);
+    memcpy(recipe.at, below_660, sizeof below_660);
+    print_listing();
+    resize(&extent, RMA_HEAD_2);
+    if (rma_extent(roster.at, roster.len, recipe.at, recipe.len, extent.at, extent.len, said, sizeof said) == 0)
+        for (int axis = 0; axis < extent.at[1]; axis++)
+            printf("%.16s%c", (const char *)extent.at + 2 + 32 * axis, axis + 1 < extent.at[1] ? ' ' : '\n');
+}
+
 /* Lists the two files of a folder. */
 static void list_folder(const char *folder)
 {
@@ -124,6 +169,8 @@ int main(int argc, char **argv)
     if (argc < 2) {
         pack_roster();
         ask();
+        pack_rests();
+        list_rests();
     } else {
         list_folder(argv[1]);
     }
@@ -132,5 +179,6 @@ int main(int argc, char **argv)
     free(work.at);
     free(row.at);
     free(text.at);
+    free(extent.at);
     return 0;
 }

@@ -17,6 +17,10 @@ start of person 2, turn 1: 360
 walked: 1320 2760 4200 360 1200 3240
 last end: 4680
 starts: {"data":[[1320,2760,4200],[360,1200,3240]]}
+packed in version 2: 236 bytes
+found 1
+3 1 1 1 2 1 1
+branch depot line person_on_call week turn
 END
 
 # prints FILE COMMAND..: the command must print the file, byte for byte, and exit with 0.

@@ -1,6 +1,7 @@
 /* Makes the texts that the readers read: packs arrays of INT and BOOLEAN, and has the engine write each as JSON. `write FOLDER` puts the
  * texts in FOLDER/texts, and in FOLDER/want what a reader must find, printed from the cells: for each text its name, the widths, and a
- * line a cell. It also checks refusals and what stays of the buffer; its status is the number of checks that failed, 100 at most. */
+ * line a cell. Bundles are of version 1, and of version 2 where an array has over four axes. It also checks refusals and what stays of
+ * the buffer; its status is the number of checks that failed, 100 at most. */
 #include <inttypes.h>
 #include <stdio.h>
 #include <stdlib.h>
@@ -8,17 +9,18 @@
 #include "rma.h"
 
 #define MOST 4096 /* cells of an array */
+#define AXES 6    /* the most axes, in version 2 */
 #define MARK 0xA5 /* fills what is lent: no byte of a text */
 
 enum { INT = 1, FLOAT, BOOLEAN };
 enum { MIXED, EDGES, LEAST, NONE }; /* cells: of all sorts, edge values in turn, the smallest number only, all empty */
 
 struct cell { int filled; int64_t number; };
-struct array { int type, rank, width[4], count; struct cell cells[MOST]; };
+struct array { int type, rank, width[AXES], count; struct cell cells[MOST]; };
 
 static struct array held[4]; /* the arrays of the next bundle */
 static int holding, together = 1, texts, failed;
-static uint8_t bundle[4 * (RMA_HEAD + 9 * MOST) + 6], room[RMA_JSON + 64], said[RMA_SAID];
+static uint8_t bundle[4 * (RMA_HEAD_2 + 9 * MOST) + 6], room[RMA_JSON + 64], said[RMA_SAID];
 static size_t bundle_len, longest;
 static int64_t edges[128];
 static int edge_count;
@@ -94,37 +96,42 @@ static void put(uint8_t *to, uint64_t number, int bytes)
         to[i] = (uint8_t)(number >> 8 * i);
 }
 
-/* An array's head. Lower limits and maxima vary: a text tells nothing of them. */
-static void put_head(uint8_t *head, const struct array *a)
+/* An array's head, whose names fill all their bytes. Lower limits and maxima vary: a text tells nothing of them. */
+static void put_head(uint8_t *head, const struct array *a, int name)
 {
-    memset(head, 0, RMA_HEAD);
     head[0] = (uint8_t)a->type;
     head[1] = (uint8_t)a->rank;
     for (int i = 0; i < a->rank; i++) {
-        uint8_t *slot = head + 2 + 24 * i;
+        uint8_t *slot = head + 2 + (name + 16) * i, *limits = slot + name;
         int64_t lower = (int64_t)(next() % 9) - 4, upper = lower + a->width[i] - 1;
-        slot[0] = (uint8_t)('a' + i);
-        put(slot + 8, (uint64_t)lower, 4);
-        put(slot + 12, (uint64_t)upper, 4);
-        put(slot + 16, (uint64_t)(lower - (int64_t)(next() % 3)), 4);
-        put(slot + 20, (uint64_t)(upper + (int64_t)(next() % 3)), 4);
+        memset(slot, 'a', (size_t)name);
+        slot[name - 1] = (uint8_t)('a' + i);
+        put(limits, (uint64_t)lower, 4);
+        put(limits + 4, (uint64_t)upper, 4);
+        put(limits + 8, (uint64_t)(lower - (int64_t)(next() % 3)), 4);
+        put(limits + 12, (uint64_t)(upper + (int64_t)(next() % 3)), 4);
     }
 }
 
-/* Packs the arrays that are held. */
+/* Packs the arrays that are held: in version 1 where all have up to four axes. */
 static void pack(void)
 {
-    static uint8_t heads[4 * RMA_HEAD], cells[4 * 9 * MOST];
+    static uint8_t heads[4 * RMA_HEAD_2], cells[4 * 9 * MOST];
+    uint32_t version = 1;
     size_t len = 0;
+    for (int k = 0; k < holding; k++)
+        version = held[k].rank > 4 ? 2 : version;
+    size_t head = version == 1 ? RMA_HEAD_1 : RMA_HEAD_2;
+    memset(heads, 0, sizeof heads);
     memset(cells, 0, sizeof cells);
     for (int k = 0; k < holding; k++) {
-        put_head(heads + k * RMA_HEAD, &held[k]);
+        put_head(heads + (size_t)k * head, &held[k], version == 1 ? 8 : 16);
         for (int i = 0; i < held[k].count; i++, len += 9) {
             cells[len] = (uint8_t)held[k].cells[i].filled;
             put(cells + len + 1, (uint64_t)held[k].cells[i].number, 8);
         }
     }
-    uint32_t refused = rma_pack(heads, (size_t)holding * RMA_HEAD, cells, len, bundle, sizeof bundle, said, sizeof said);
+    uint32_t refused = rma_pack(version, heads, (size_t)holding * head, cells, len, bundle, sizeof bundle, said, sizeof said);
     must(refused == 0, "a bundle is packed");
     bundle_len = refused ? 0 : rma_u32(said);
 }
@@ -201,14 +208,13 @@ static void write_held(void)
 }
 
 /* Holds an array of these widths; 0 ends them. */
-static void hold(int type, int fill, int w0, int w1, int w2, int w3)
+static void hold(int type, int fill, const int widths[AXES])
 {
     struct array *a = &held[holding++];
-    int widths[4] = {w0, w1, w2, w3};
     a->type = type;
     a->rank = 0;
     a->count = 1;
-    while (a->rank < 4 && widths[a->rank] > 0) {
+    while (a->rank < AXES && widths[a->rank] > 0) {
         a->width[a->rank] = widths[a->rank];
         a->count *= widths[a->rank++];
     }
@@ -216,68 +222,85 @@ static void hold(int type, int fill, int w0, int w1, int w2, int w3)
         a->cells[i] = made(type, fill, i);
 }
 
-static void add(int type, int fill, int w0, int w1, int w2, int w3)
+static void add(int type, int fill, const int widths[AXES])
 {
-    hold(type, fill, w0, w1, w2, w3);
+    hold(type, fill, widths);
     if (holding == together)
         write_held();
 }
 
-/* Every rank with every choice of widths 1 to 3, both types. */
+/* Widths of 1 on so many axes; 0 ends them. */
+static void ones(int rank, int widths[AXES])
+{
+    for (int i = 0; i < AXES; i++)
+        widths[i] = i < rank;
+}
+
+/* Every rank up to 4 with every choice of widths 1 to 3, 5 and 6 with every choice of 1 and 2; both types. */
 static void small_ones(void)
 {
-    for (int a = 1; a <= 3; a++)
-        for (int b = 0; b <= 3; b++)
-            for (int c = 0; c <= (b ? 3 : 0); c++)
-                for (int d = 0; d <= (c ? 3 : 0); d++) {
-                    add(INT, MIXED, a, b, c, d);
-                    add(BOOLEAN, MIXED, a, b, c, d);
-                }
+    for (int rank = 1; rank <= AXES; rank++) {
+        int most = rank <= 4 ? 3 : 2, choices = 1, widths[AXES];
+        for (int i = 0; i < rank; i++)
+            choices *= most;
+        for (int k = 0; k < choices; k++) {
+            ones(rank, widths);
+            for (int i = rank - 1, left = k; i >= 0; i--, left /= most)
+                widths[i] += left % most;
+            add(INT, MIXED, widths);
+            add(BOOLEAN, MIXED, widths);
+        }
+    }
 }
 
 /* Every rank with n cells along one axis and 1 along the others: edge values, and all empty. */
 static void long_ones(void)
 {
-    for (int rank = 1; rank <= 4; rank++)
+    for (int rank = 1; rank <= AXES; rank++)
         for (int axis = 0; axis < rank; axis++) {
-            int n[4] = {1, rank > 1, rank > 2, rank > 3}, e[4];
-            memcpy(e, n, sizeof e);
+            int n[AXES], e[AXES];
+            ones(rank, n);
+            ones(rank, e);
             n[axis] = edge_count;
             e[axis] = 5;
-            add(INT, EDGES, n[0], n[1], n[2], n[3]);
-            add(BOOLEAN, MIXED, n[0], n[1], n[2], n[3]);
-            add(INT, NONE, e[0], e[1], e[2], e[3]);
-            add(BOOLEAN, NONE, e[0], e[1], e[2], e[3]);
+            add(INT, EDGES, n);
+            add(BOOLEAN, MIXED, n);
+            add(INT, NONE, e);
+            add(BOOLEAN, NONE, e);
         }
 }
 
-/* Every rank with one empty cell; 4,096 cells; the longest text. */
+/* Every rank with one empty cell; 4,096 cells; the longest text of each version. */
 static void ends(void)
 {
+    static const int large[][AXES] = {{MOST}, {64, 64}, {16, 16, 16}, {8, 8, 8, 8}, {1, 1, 1, MOST},
+                                      {4, 4, 4, 4, 4, 4}, {1, 1, 1, 1, 1, MOST}};
     for (int type = INT; type <= BOOLEAN; type += BOOLEAN - INT) {
-        add(type, NONE, 1, 0, 0, 0);
-        add(type, NONE, 1, 1, 0, 0);
-        add(type, NONE, 1, 1, 1, 0);
-        add(type, NONE, 1, 1, 1, 1);
-        add(type, MIXED, MOST, 0, 0, 0);
-        add(type, MIXED, 64, 64, 0, 0);
-        add(type, MIXED, 16, 16, 16, 0);
-        add(type, MIXED, 8, 8, 8, 8);
-        add(type, MIXED, 1, 1, 1, MOST);
+        for (int rank = 1; rank <= AXES; rank++) {
+            int widths[AXES];
+            ones(rank, widths);
+            add(type, NONE, widths);
+        }
+        for (size_t k = 0; k < sizeof large / sizeof *large; k++)
+            add(type, MIXED, large[k]);
     }
-    add(INT, LEAST, MOST, 1, 1, 1);
     if (holding > 0)
         write_held();
+    hold(INT, LEAST, (const int[AXES]){MOST, 1, 1, 1});
+    write_held();
+    must(longest == 110602, "the longest text of version 1 has 110,602 bytes");
+    hold(INT, LEAST, (const int[AXES]){MOST, 1, 1, 1, 1, 1});
+    write_held();
     must(longest == RMA_JSON, "the longest text has RMA_JSON bytes");
 }
 
 /* FLOAT, filled with 0.0 or empty, before the room is looked at; no such array; a bundle that is cut. */
 static void refusals(void)
 {
-    hold(INT, MIXED, 2, 2, 0, 0);
-    hold(FLOAT, NONE, 2, 2, 0, 0);
-    hold(FLOAT, NONE, 3, 0, 0, 0);
-    hold(BOOLEAN, MIXED, 2, 2, 0, 0);
+    hold(INT, MIXED, (const int[AXES]){2, 2});
+    hold(FLOAT, NONE, (const int[AXES]){2, 2});
+    hold(FLOAT, NONE, (const int[AXES]){3});
+    hold(BOOLEAN, MIXED, (const int[AXES]){2, 2});
     for (int i = 0; i < held[1].count; i++)
         held[1].cells[i].filled = 1;
     pack();

@@ -13,9 +13,26 @@
  *
  * A cell is nine bytes: nine zeros when empty, else 1 and eight bytes (INT: two's complement, FLOAT: binary64, BOOLEAN: 0 or 1).
  * Arithmetic and comparisons with an empty cell give an empty cell, which is not TRUE.
- * A head tells an array without its cells, in RMA_HEAD bytes: type (1 INT, 2 FLOAT, 3 BOOLEAN), axis count, then four slots of 24
- * bytes an axis: name (8, padded with zeros), lower, upper, maximum lower, maximum upper (i32 each). Slots past the last axis are
- * not looked at. An axis count over 4 is taken as 0, which is refused.
+ *
+ * A bundle is of version 1 or 2. They differ in the bytes of a name, in the number of axes, and in what follows from these:
+ *
+ *                                        version 1            version 2
+ *     a name, padded with zeros          8 bytes              16 bytes
+ *     axes of an array                   1 to 4               1 to 6
+ *     an axis: name and four limits      24 bytes             32 bytes
+ *     a head                             RMA_HEAD_1, 98       RMA_HEAD_2, 194
+ *     a step: 4 and its detail           36 bytes, 32 of them 100 bytes, 96 of them
+ *     a recipe, 1 to 16 steps            36 to 576 bytes      100 to 1,600 bytes
+ *     a coordinate, and a row with it    to 16 and 20 bytes   to 24 and 28 bytes
+ *
+ * What takes a bundle finds its version in its bytes; a recipe is one of the bundle's version, and steps of the other version are 4.
+ * rma_pack and rma_stretch are told the version by their first argument, which is judged in all its 32 bits: other than 1 and 2 is
+ * refused with 1, place 0, before all else.
+ *
+ * A head tells an array without its cells: type (1 INT, 2 FLOAT, 3 BOOLEAN), axis count, then a slot for each axis that the version has:
+ * name, lower, upper, maximum lower, maximum upper (i32 each). Slots past the last axis are not looked at. An axis count over 4 in
+ * version 1, over 6 in version 2, is taken as 0, which is refused. Where a head is made from a name that is too long for the version,
+ * the name is not cut, but put down as one that is refused, such as all zeros: so it is refused with 2 in its turn.
  *
  * Refusals: 1 mark, version, count, type, axis count or length bad. 2 extent bad: names, limits, maximum, over 4,096 cells.
  * 3 not a cell. 4 recipe length, operation, operand, operator, unused byte, or no such array. 5 no such axis, or wrong number of
@@ -29,30 +46,33 @@
 #include <stdint.h>
 
 #define RMA_SAID 16 /* bytes: the longest answer */
-#define RMA_HEAD 98 /* bytes: a head */
-#define RMA_JSON 110602 /* bytes: the longest text of rma_write_json */
+#define RMA_HEAD_1 98 /* bytes: a head of version 1 */
+#define RMA_HEAD_2 194 /* bytes: a head of version 2 */
+#define RMA_JSON 126986 /* bytes: the longest text of rma_write_json, on six axes; on four it is 110602 */
 
 #ifdef __cplusplus
 extern "C" {
 #endif
 
-/* Judges a bundle. `said`: the count of its arrays (u32). Refused 1, 2 or 3, with the array as place (0: the first six bytes, or
- * bytes left over). */
+/* Judges a bundle of either version. `said`: the count of its arrays (u32). Refused 1, 2 or 3, with the array as place (0: the first
+ * six bytes, a version other than 1 and 2 among them, or bytes left over). */
 uint32_t rma_read(const uint8_t *bundle, size_t bundle_len, uint8_t *said, size_t said_len);
 
 /* Tells where an array of a bundle lies. `said`: type, axis count, number of cells, and the byte of the bundle at which its cells
- * begin (four u32); its axes end there, 24 bytes each. Refused as rma_read, then 4 (no such array, place: the array asked for). */
+ * begin (four u32); its axes end there, 24 bytes each in version 1, 32 in version 2; the version is the u16 at byte 3 of the bundle.
+ * Refused as rma_read, then 4 (no such array, place: the array asked for). */
 uint32_t rma_array(const uint8_t *bundle, size_t bundle_len, uint32_t array, uint8_t *said, size_t said_len);
 
-/* Packs 1 to 4 arrays: `heads` in turn, `cells` of all of them in turn. `said`: the bundle's length (u32). `out`: the bundle, then
- * what was there; untouched by a refusal. Refused as rma_read refuses the bundle, 1 with place 0 where `heads` is not 1 to 4 times
- * RMA_HEAD bytes; then 14 (`out` is shorter than the bundle). */
-uint32_t rma_pack(const uint8_t *heads, size_t heads_len, const uint8_t *cells, size_t cells_len, uint8_t *out, size_t out_len,
-                  uint8_t *said, size_t said_len);
+/* Packs 1 to 4 arrays as a bundle of `version`, 1 or 2: `heads` of that version in turn, `cells` of all arrays in turn. `said`: the
+ * bundle's length (u32). `out`: the bundle, then what was there; untouched by a refusal. Refused 1 with place 0 for another version,
+ * then where `heads` is not 1 to 4 times RMA_HEAD_1 bytes in version 1, RMA_HEAD_2 in version 2; then as rma_read refuses the bundle;
+ * then 14 (`out` is shorter than the bundle). */
+uint32_t rma_pack(uint32_t version, const uint8_t *heads, size_t heads_len, const uint8_t *cells, size_t cells_len, uint8_t *out,
+                  size_t out_len, uint8_t *said, size_t said_len);
 
 /* Refers to a cell. `coordinate`: an i32 for each axis. `said`: the cell (nine bytes), empty where the coordinate lies inside the
  * maximum but not the extent. Refused as rma_read, then with the array as place 4 (no such array), 5 (wrong number of coordinates;
- * also for a length over 16 or no multiple of 4), 6 (beyond the maximum). */
+ * also for a length over 24 or no multiple of 4), 6 (beyond the maximum). */
 uint32_t rma_refer(const uint8_t *bundle, size_t bundle_len, uint32_t array, const uint8_t *coordinate, size_t coordinate_len,
                    uint8_t *said, size_t said_len);
 
@@ -73,22 +93,24 @@ uint32_t rma_total(const uint8_t *bundle, size_t bundle_len, uint32_t array, uin
  * outermost. No space, no newline, no zero byte at the end. INT in shortest decimal, BOOLEAN as true and false, an empty cell as null.
  * `said`: the text's length (u32). `out`: the text, then what was there; untouched by a refusal. Refused as rma_read, then with the
  * array as place 4 (no such array), 7 (FLOAT), then with place 0 14 (`out` is shorter than the text). RMA_JSON bytes are room for
- * every text; n cells on d axes take at most 10 + n * (19 + 2 * d). */
+ * every text of either version; n cells on d axes take at most 10 + n * (19 + 2 * d). */
 uint32_t rma_write_json(const uint8_t *bundle, size_t bundle_len, uint32_t array, uint8_t *out, size_t out_len, uint8_t *said,
                         size_t said_len);
 
 /* Plans a recipe over a bundle: nothing is lent, and nothing is run. `said`: T, the number of cells of all results together, then of the
  * last result the type, the axis count and the number of cells (four u32). So a work area of 9T bytes is enough, and a row has 4 and 4
- * times the axis count. Refused as rma_read, 4 with place 0 (recipe length), with the step as place 4, 5, 7, 8, 6, 9. */
+ * times the axis count. Refused as rma_read, 4 with place 0 (recipe length: not 1 to 16 steps of the bundle's version), with the step as
+ * place 4, 5, 7, 8, 6, 9. */
 uint32_t rma_plan(const uint8_t *bundle, size_t bundle_len, const uint8_t *recipe, size_t recipe_len, uint8_t *said, size_t said_len);
 
-/* Tells the extent of a recipe's last result. `said`: the head's length, RMA_HEAD (u32). `extent`: a whole head, as rma_pack takes it:
- * maxima -1,000,000 and 1,000,000, slots past the last axis zeros; then what was there; untouched by a refusal. Refused as rma_plan, then
- * with place 0 14 (`extent` is shorter than RMA_HEAD). */
+/* Tells the extent of a recipe's last result. `said`: the head's length (u32), RMA_HEAD_1 or RMA_HEAD_2 by the bundle's version.
+ * `extent`: a whole head of that version, as rma_pack takes it: maxima -1,000,000 and 1,000,000, slots past the last axis zeros; then
+ * what was there; untouched by a refusal. Refused as rma_plan, then with place 0 14 (`extent` is shorter than the head). */
 uint32_t rma_extent(const uint8_t *bundle, size_t bundle_len, const uint8_t *recipe, size_t recipe_len, uint8_t *extent,
                     size_t extent_len, uint8_t *said, size_t said_len);
 
-/* Runs a recipe of 1 to 16 steps, 36 bytes each, over a bundle. `said`: T, the number of cells of all results together (u32).
+/* Runs a recipe of 1 to 16 steps over a bundle: 36 bytes each over one of version 1, 100 over one of version 2. `said`: T, the number
+ * of cells of all results together (u32).
  * `work`: these cells in step order, 9T bytes, then what was there. Refused as rma_read, 4 with place 0 (recipe length), with the
  * step as place 4, 5, 7, 8, 6, 9, then 10: `work` is untouched. Then 12 or 13, with step and ordinality: the first 9T bytes of `work`
  * are zeros, the rest is untouched. */
@@ -104,13 +126,14 @@ uint32_t rma_page(const uint8_t *bundle, size_t bundle_len, const uint8_t *recip
                   uint32_t start, uint8_t *rows, size_t rows_len, uint8_t *said, size_t said_len);
 
 /* Reads the array that left and right glued along `axis` would be, without building it: the stretch from the cell at `ordinality` up
- * to where the other side begins, or to the end. `said`: the side (1 left, 2 right), and from which byte up to which byte of that
- * side's cells (three u32). Cells are not judged, maxima not looked at. Refused for left (place 1), then right (place 2): 1 (type or
- * axis count; a head of other than RMA_HEAD bytes), 2 (extent), 1 (cells not nine bytes each); then with place 0 as a glue: 5, 7, 8,
- * 9; then 6 (ordinality 0 or past the end). */
-uint32_t rma_stretch(const uint8_t *left_head, size_t left_head_len, const uint8_t *left_cells, size_t left_cells_len,
-                     const uint8_t *right_head, size_t right_head_len, const uint8_t *right_cells, size_t right_cells_len,
-                     uint32_t axis, uint32_t ordinality, uint8_t *said, size_t said_len);
+ * to where the other side begins, or to the end. Both heads are of `version`, 1 or 2. `said`: the side (1 left, 2 right), and from which
+ * byte up to which byte of that side's cells (three u32). Cells are not judged, maxima not looked at. Refused 1 with place 0 for another
+ * version; then for left (place 1), then right (place 2): 1 (a head of other than RMA_HEAD_1 bytes in version 1, RMA_HEAD_2 in version
+ * 2; type or axis count), 2 (extent), 1 (cells not nine bytes each); then with place 0 as a glue: 5, 7, 8, 9; then 6 (ordinality 0 or
+ * past the end). */
+uint32_t rma_stretch(uint32_t version, const uint8_t *left_head, size_t left_head_len, const uint8_t *left_cells,
+                     size_t left_cells_len, const uint8_t *right_head, size_t right_head_len, const uint8_t *right_cells,
+                     size_t right_cells_len, uint32_t axis, uint32_t ordinality, uint8_t *said, size_t said_len);
 
 /* A refusal's number in words, for a person; "done" for 0. Place and ordinality say where: an array, a step or a side, and a cell. */
 static inline const char *rma_words(uint32_t number)

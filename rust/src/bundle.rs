@@ -4,13 +4,16 @@ use std::iter::FusedIterator;
 
 use crate::call;
 use crate::cell::{Cell, Kind, CELL};
-use crate::extent::{Axis, Head, AXIS};
+use crate::extent::{Axis, Head};
+use crate::recipe::Recipe;
 use crate::refusal::Refusal;
+use crate::version::{Version, OPENING};
 
 /// A bundle of one to four arrays that the engine has read and accepted. Arrays are counted from 1.
 #[derive(Clone, Debug, PartialEq, Eq)]
 pub struct Bundle<'a> {
     pub(crate) bytes: &'a [u8],
+    version: Version,
     arrays: Vec<Lies>,
 }
 
@@ -26,31 +29,39 @@ struct Lies {
 
 impl Lies {
     /// The array that begins at byte `from` of an accepted bundle: type, axis count, axes, cells.
-    fn at(bytes: &[u8], from: usize) -> Lies {
+    fn at(version: Version, bytes: &[u8], from: usize) -> Lies {
         let axes = from + 2;
-        let cells = axes + AXIS * usize::from(bytes[from + 1]);
-        let head = Head { kind: Kind::of(u32::from(bytes[from])), axes: axes_in(&bytes[axes..cells]) };
+        let cells = axes + version.axis() * usize::from(bytes[from + 1]);
+        let head = Head { kind: Kind::of(u32::from(bytes[from])), axes: axes_in(version, &bytes[axes..cells]) };
         Lies { kind: head.kind, axes, cells, end: cells + CELL * head.cells() }
     }
 }
 
 /// The axes in bytes of a bundle that was accepted.
-fn axes_in(bytes: &[u8]) -> Vec<Axis> {
-    bytes.chunks_exact(AXIS).map(Axis::judged).collect()
+fn axes_in(version: Version, bytes: &[u8]) -> Vec<Axis> {
+    bytes.chunks_exact(version.axis()).map(|axis| Axis::judged(version, axis)).collect()
 }
-
-/// The bytes before a bundle's first array: mark, version, count.
-const OPENING: usize = 6;
 
 impl<'a> Bundle<'a> {
     /// Reads a bundle: the engine judges it, once; where its arrays lie then stands in the accepted bytes. Refused 1, 2, 3.
     pub fn read(bytes: &'a [u8]) -> Result<Bundle<'a>, Refusal> {
         let count = call::read(bytes)?.number(0);
+        let version = Version::judged(bytes);
         let mut arrays: Vec<Lies> = Vec::new();
         for _ in 0..count {
-            arrays.push(Lies::at(bytes, arrays.last().map_or(OPENING, |before| before.end)));
+            arrays.push(Lies::at(version, bytes, arrays.last().map_or(OPENING, |before| before.end)));
         }
-        Ok(Bundle { bytes, arrays })
+        Ok(Bundle { bytes, version, arrays })
+    }
+
+    /// Its version.
+    pub fn version(&self) -> Version {
+        self.version
+    }
+
+    /// A recipe of no step yet, for this bundle: one of its version.
+    pub fn recipe(&self) -> Recipe {
+        Recipe::new(self.version)
     }
 
     /// The number of arrays.
@@ -66,7 +77,7 @@ impl<'a> Bundle<'a> {
     /// Array k: its type, its axes, its cells. Refused 4.
     pub fn array(&self, k: u32) -> Result<Array<'a>, Refusal> {
         let lies = self.lies(k)?;
-        let head = Head { kind: lies.kind, axes: axes_in(&self.bytes[lies.axes..lies.cells]) };
+        let head = Head { kind: lies.kind, axes: axes_in(self.version, &self.bytes[lies.axes..lies.cells]) };
         Ok(Array { head, bytes: &self.bytes[lies.cells..lies.end], bundle: self.bytes, number: k })
     }
 
@@ -185,11 +196,11 @@ impl<'a> Array<'a> {
     /// no newline. INT in shortest decimal, BOOLEAN as `true` and `false`, an empty cell as `null`. Refused 7 for FLOAT.
     ///
     /// ```
-    /// use rovgrint::{pack, Axis, Bundle, Cell, Head, Kind};
+    /// use rovgrint::{pack, Axis, Bundle, Cell, Head, Kind, Version};
     ///
     /// let square = Head { kind: Kind::Int, axes: vec![Axis::new("x", 1, 2), Axis::new("y", 1, 2)] };
     /// let mut bytes = [0; 92];
-    /// let length = pack(&[square], &[Cell::Int(1), Cell::Int(2), Cell::Empty, Cell::Int(-6)], &mut bytes)?;
+    /// let length = pack(Version::One, &[square], &[Cell::Int(1), Cell::Int(2), Cell::Empty, Cell::Int(-6)], &mut bytes)?;
     /// let bundle = Bundle::read(&bytes[..length])?;
     /// assert_eq!(bundle.array(1)?.to_json()?, r#"{"data":[[1,2],[null,-6]]}"#);
     /// # Ok::<(), rovgrint::Refusal>(())

@@ -3,6 +3,7 @@
 
 use crate::raw;
 use crate::refusal::{Counts, Refusal};
+use crate::version::Version;
 
 /// What a call said: its answer, then zeros.
 pub(crate) struct Said([u8; raw::SAID]);
@@ -51,11 +52,12 @@ pub(crate) fn array(bundle: &[u8], array: u32) -> Answer {
     })
 }
 
-pub(crate) fn pack(heads: &[u8], cells: &[u8], out: &mut [u8]) -> Answer {
+pub(crate) fn pack(version: Version, heads: &[u8], cells: &[u8], out: &mut [u8]) -> Answer {
     answer(Counts::Arrays, |said| {
         // SAFETY: each pointer and length are one slice's; `out` and `said`, which are written to, are borrowed alone.
         unsafe {
             raw::rma_pack(
+                version as u32,
                 heads.as_ptr(),
                 heads.len(),
                 cells.as_ptr(),
@@ -167,11 +169,12 @@ pub(crate) fn page(bundle: &[u8], recipe: &[u8], work: &mut [u8], start: u32, ro
 /// One side of a glue: its head's bytes and its cells'.
 type Side<'a> = (&'a [u8], &'a [u8]);
 
-pub(crate) fn stretch(left: Side<'_>, right: Side<'_>, axis: u32, ordinality: u32) -> Answer {
+pub(crate) fn stretch(version: Version, left: Side<'_>, right: Side<'_>, axis: u32, ordinality: u32) -> Answer {
     answer(Counts::Sides, |said| {
         // SAFETY: each pointer and length are one slice's; `said`, which is written to, is borrowed alone.
         unsafe {
             raw::rma_stretch(
+                version as u32,
                 left.0.as_ptr(),
                 left.0.len(),
                 left.1.as_ptr(),

@@ -1,18 +1,15 @@
 //! An array without its cells: its type and its axes, and the bytes that tell them to the engine.
 
 use crate::cell::Kind;
-use crate::raw::HEAD;
+use crate::version::Version;
 
 /// The range of every limit. `*` in a declared maximum stands for its ends.
 pub const STAR: (i32, i32) = (-1_000_000, 1_000_000);
 
-/// The bytes of an axis in a bundle or a head.
-pub(crate) const AXIS: usize = 24;
-
 /// An axis: a name, closed limits, and the declared maximum of these.
 ///
 /// Any text and any numbers can stand here; the engine judges them when they are handed to it. A name is a letter a-z, then letters,
-/// digits or underscore, eight at most.
+/// digits or underscore, 8 at most in version 1 and 16 in version 2.
 #[derive(Clone, Debug, PartialEq, Eq, Hash)]
 pub struct Axis {
     /// The name.
@@ -43,34 +40,30 @@ impl Axis {
         usize::try_from(i64::from(self.upper) - i64::from(self.lower) + 1).unwrap_or(0)
     }
 
-    /// The axis as it stands in a bundle.
-    fn to_bytes(&self) -> [u8; AXIS] {
-        let mut bytes = [0; AXIS];
-        bytes[..8].copy_from_slice(&name_bytes(&self.name));
-        let limits = [self.lower, self.upper, self.max_lower, self.max_upper];
-        for (slot, limit) in bytes[8..].chunks_exact_mut(4).zip(limits) {
-            slot.copy_from_slice(&limit.to_le_bytes());
-        }
-        bytes
+    /// The axis as it stands in a bundle of that version.
+    fn to_bytes(&self, version: Version) -> Vec<u8> {
+        let limits = [self.lower, self.upper, self.max_lower, self.max_upper].map(i32::to_le_bytes);
+        [name_bytes(version, &self.name), limits.concat()].concat()
     }
 
-    /// The axis in 24 bytes of a bundle that the engine has read.
-    pub(crate) fn judged(bytes: &[u8]) -> Axis {
-        let name = bytes[..8].iter().take_while(|&&byte| byte != 0).map(|&byte| char::from(byte)).collect();
-        let limit = |at: usize| i32::from_le_bytes(bytes[at..at + 4].try_into().expect("four bytes"));
-        Axis { name, lower: limit(8), upper: limit(12), max_lower: limit(16), max_upper: limit(20) }
+    /// The axis in the bytes of a bundle that the engine has read, or of a head that it has written.
+    pub(crate) fn judged(version: Version, bytes: &[u8]) -> Axis {
+        let (name, limits) = bytes.split_at(version.most_letters());
+        let name = name.iter().take_while(|&&byte| byte != 0).map(|&byte| char::from(byte)).collect();
+        let limit = |k: usize| i32::from_le_bytes(limits[4 * k..4 * k + 4].try_into().expect("four bytes"));
+        Axis { name, lower: limit(0), upper: limit(1), max_lower: limit(2), max_upper: limit(3) }
     }
 }
 
-/// A name's eight bytes, padded with zeros. Text that eight bytes can't tell (empty, longer, or with a zero byte) is written as eight
-/// bytes that are no name: the engine refuses them, with 2 in an extent, with 9 in a rename, and with 4 past the last axis.
-pub(crate) fn name_bytes(name: &str) -> [u8; 8] {
-    let text = name.as_bytes();
-    if text.is_empty() || text.len() > 8 || text.contains(&0) {
-        return [0xff; 8];
+/// A name's bytes in that version, padded with zeros. Text that they can't tell (empty, longer, or with a zero byte) is not cut: it is
+/// written as bytes that are no name, which the engine refuses, with 2 in an extent, with 9 in a rename, and with 4 past the last axis.
+pub(crate) fn name_bytes(version: Version, name: &str) -> Vec<u8> {
+    let (text, room) = (name.as_bytes(), version.most_letters());
+    if text.is_empty() || text.len() > room || text.contains(&0) {
+        return vec![0xff; room];
     }
-    let mut bytes = [0; 8];
-    bytes[..text.len()].copy_from_slice(text);
+    let mut bytes = text.to_vec();
+    bytes.resize(room, 0);
     bytes
 }
 
@@ -79,7 +72,7 @@ pub(crate) fn name_bytes(name: &str) -> [u8; 8] {
 pub struct Head {
     /// The type of its cells.
     pub kind: Kind,
-    /// Its axes, one to four; the engine refuses another number with 1.
+    /// Its axes, one to four in version 1, to six in version 2; the engine refuses another number with 1.
     pub axes: Vec<Axis>,
 }
 
@@ -90,19 +83,18 @@ impl Head {
     }
 
     /// The head in bytes that the engine has written.
-    pub(crate) fn judged(bytes: &[u8; HEAD]) -> Head {
-        let axes = bytes[2..].chunks_exact(AXIS).take(usize::from(bytes[1]));
-        Head { kind: Kind::of(u32::from(bytes[0])), axes: axes.map(Axis::judged).collect() }
+    pub(crate) fn judged(version: Version, bytes: &[u8]) -> Head {
+        let slots = bytes[2..].chunks_exact(version.axis()).take(usize::from(bytes[1]));
+        Head { kind: Kind::of(u32::from(bytes[0])), axes: slots.map(|slot| Axis::judged(version, slot)).collect() }
     }
 
-    /// The head's bytes, as the engine takes them. More than four axes are told by their number alone, which is refused.
-    pub(crate) fn to_bytes(&self) -> [u8; HEAD] {
-        let mut bytes = [0; HEAD];
-        bytes[0] = self.kind as u8;
-        bytes[1] = u8::try_from(self.axes.len()).unwrap_or(u8::MAX);
-        for (slot, axis) in bytes[2..].chunks_exact_mut(AXIS).zip(&self.axes) {
-            slot.copy_from_slice(&axis.to_bytes());
-        }
+    /// The head's bytes, as the engine takes them in that version. More axes than there is room for are told by their number alone, which
+    /// is refused.
+    pub(crate) fn to_bytes(&self, version: Version) -> Vec<u8> {
+        let mut bytes = vec![self.kind as u8, u8::try_from(self.axes.len()).unwrap_or(u8::MAX)];
+        let axes = self.axes.iter().take(version.most_axes());
+        bytes.extend(axes.flat_map(|axis| axis.to_bytes(version)));
+        bytes.resize(version.head(), 0);
         bytes
     }
 }

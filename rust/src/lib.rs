@@ -5,7 +5,7 @@
 //! answer: a value, or a [`Refusal`] with its number, place and ordinality.
 //!
 //! The engine is the static library `librma.a`, proved in Rattle. This crate adds types and iterators, and judges nothing itself: what
-//! a type here can say and the engine's bytes can't (a name of nine letters, a FLOAT among INTs, a fifth pair) is handed on as bytes
+//! a type here can say and the engine's bytes can't (a name that is too long, a FLOAT among INTs, a pair too many) is handed on as bytes
 //! that the engine refuses, at the place where it stands. [`raw`] has the twelve functions as they are; the repository's `docs/FORMAT.md`
 //! has every byte that they take and give.
 //!
@@ -15,16 +15,17 @@
 //! has to be moved onto this turn first.
 //!
 //! ```
-//! use rovgrint::{pack, step, Axis, Bundle, Cell, Head, Kind, Operator, Recipe, Row};
+//! use rovgrint::{pack, step, Axis, Bundle, Cell, Head, Kind, Operator, Row, Version};
 //!
 //! let turns = Head { kind: Kind::Int, axes: vec![Axis::new("who", 1, 2), Axis::new("turn", 1, 3)] };
 //! let starts = [1320, 2760, 4200, 360, 1200, 3240].map(Cell::Int);
 //! let ends = [1800, 3240, 4680, 840, 1680, 3720].map(Cell::Int);
 //! let mut bytes = [0; 214];
-//! let length = pack(&[turns.clone(), turns], &[starts, ends].concat(), &mut bytes)?;
+//! let length = pack(Version::One, &[turns.clone(), turns], &[starts, ends].concat(), &mut bytes)?;
 //! let roster = Bundle::read(&bytes[..length])?;
 //!
-//! let recipe = Recipe::new()
+//! let recipe = roster
+//!     .recipe() // of no step yet, in the roster's version
 //!     .trim(1, &[(1, 2), (2, 3)]) // step 1: starts of the turns 2:3
 //!     .shift(step(1), &[0, -1]) // step 2: each at the turn before it
 //!     .trim(2, &[(1, 2), (1, 2)]) // step 3: ends of the turns 1:2
@@ -34,7 +35,8 @@
 //! let rows: Vec<Row> = roster.listing(&recipe)?.collect();
 //! assert_eq!(rows, [Row { ordinality: 3, coordinate: vec![2, 1] }]); // person 2, turn 1
 //!
-//! let no_shift = Recipe::new()
+//! let no_shift = roster
+//!     .recipe()
 //!     .trim(1, &[(1, 2), (2, 3)])
 //!     .trim(2, &[(1, 2), (1, 2)])
 //!     .pair(step(1), step(2), Operator::Minus) // the turns 2:3 and 1:2 don't meet
@@ -42,6 +44,31 @@
 //! let refusal = roster.listing(&no_shift).unwrap_err();
 //! assert_eq!(refusal.to_string(), "refused 8 3 0");
 //! assert_eq!(refusal.words(), "step 3: the two arrays do not agree in axes, names or limits");
+//! # Ok::<(), rovgrint::Refusal>(())
+//! ```
+//!
+//! # Longer names, six axes
+//!
+//! A bundle of [`Version::Two`] has names of up to 16 letters and arrays of up to 6 axes; [`Version::One`], as above, has 8 and 4. The
+//! version is told where a bundle is made, and stands in its bytes; everything else is called alike. A recipe is built for the version
+//! of its bundle: [`Bundle::recipe`] knows it, [`Recipe::new`] is told it. A recipe of the other version is refused with 4.
+//!
+//! ```
+//! use rovgrint::{pack, Axis, Bundle, Cell, Head, Kind, Operator, Recipe, Row, Version};
+//!
+//! let axes = ["branch", "depot", "line", "person_on_call", "week", "turn"].map(|name| Axis::new(name, 1, 1));
+//! let mut rests = Head { kind: Kind::Int, axes: axes.to_vec() };
+//! (rests.axes[3].upper, rests.axes[5].upper) = (2, 2);
+//! let mut bytes = [0; 236];
+//! let length = pack(Version::Two, &[rests], &[960, 960, 360, 1560].map(Cell::Int), &mut bytes)?;
+//! let bundle = Bundle::read(&bytes[..length])?;
+//!
+//! let below = bundle.recipe().right_scalar(1, Operator::Less, Cell::Int(660));
+//! let rows: Vec<Row> = bundle.listing(&below)?.collect();
+//! assert_eq!(rows, [Row { ordinality: 3, coordinate: vec![1, 1, 1, 2, 1, 1] }]); // person 2, turn 1
+//!
+//! let of_version_one = Recipe::new(Version::One).right_scalar(1, Operator::Less, Cell::Int(660));
+//! assert_eq!(bundle.listing(&of_version_one).unwrap_err().figures(), [4, 0, 0]);
 //! # Ok::<(), rovgrint::Refusal>(())
 //! ```
 
@@ -60,6 +87,7 @@ pub mod raw;
 mod recipe;
 mod refusal;
 mod stretch;
+mod version;
 
 pub use bundle::{Array, Bundle, Total, Walk};
 pub use cell::{Cell, Kind, CELL};
@@ -69,3 +97,4 @@ pub use pack::pack;
 pub use recipe::{step, Operator, Recipe, Single};
 pub use refusal::{Counts, Refusal};
 pub use stretch::stretch;
+pub use version::Version;

@@ -7,7 +7,6 @@ use crate::bundle::Bundle;
 use crate::call;
 use crate::cell::{Kind, CELL};
 use crate::extent::Head;
-use crate::raw;
 use crate::refusal::Refusal;
 
 /// A work area for every recipe: sixteen results of 4,096 cells.
@@ -79,13 +78,13 @@ impl Bundle<'_> {
     /// as a run is.
     ///
     /// ```
-    /// use rovgrint::{pack, Axis, Bundle, Cell, Head, Kind, Operator, Recipe};
+    /// use rovgrint::{pack, Axis, Bundle, Cell, Head, Kind, Operator, Version};
     ///
     /// let hours = Head { kind: Kind::Int, axes: vec![Axis::new("day", 1, 7)] };
     /// let mut bytes = [0; 95];
-    /// pack(&[hours], &[9, 9, 8, 8, 6, 0, 0].map(Cell::Int), &mut bytes)?;
+    /// pack(Version::One, &[hours], &[9, 9, 8, 8, 6, 0, 0].map(Cell::Int), &mut bytes)?;
     /// let week = Bundle::read(&bytes)?;
-    /// let plan = week.plan(&Recipe::new().right_scalar(1, Operator::Greater, Cell::Int(8)))?;
+    /// let plan = week.plan(&week.recipe().right_scalar(1, Operator::Greater, Cell::Int(8)))?;
     /// assert_eq!((plan.kind, plan.axes, plan.cells), (Kind::Boolean, 1, 7));
     /// assert_eq!((plan.total, plan.work(), plan.row()), (7, 63, 8));
     /// # Ok::<(), rovgrint::Refusal>(())
@@ -97,9 +96,9 @@ impl Bundle<'_> {
 
     /// The last result's type and axes, before anything is run; a result's maxima are `*`. Refused as [`plan`](Bundle::plan).
     pub fn extent(&self, recipe: &(impl AsRef<[u8]> + ?Sized)) -> Result<Head, Refusal> {
-        let mut head = [0; raw::HEAD];
+        let mut head = vec![0; self.version().head()];
         call::extent(self.bytes, recipe.as_ref(), &mut head)?;
-        Ok(Head::judged(&head))
+        Ok(Head::judged(self.version(), &head))
     }
 
     /// Runs a recipe and answers T, the number of cells of all results together.

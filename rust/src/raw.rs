@@ -9,29 +9,38 @@
 //! the bytes that the function names. Bytes of `said` after these stay; an answer longer than `said` is cut there. [`SAID`] bytes are
 //! room for every answer.
 //!
-//! A head is [`HEAD`] bytes: type, axis count, then four slots of 24 bytes an axis as in a bundle; slots past the last axis are not
-//! looked at, and an axis count over 4 is taken as 0, which is refused.
+//! A bundle is of version 1 or 2; what takes a bundle finds its version in its bytes, and [`rma_pack`] and [`rma_stretch`] are told it as
+//! their first argument. A told version other than 1 and 2, in all its 32 bits, is refused with 1, place 0, before all else.
+//!
+//! A head is type, axis count, then slots as in a bundle, an axis each: in version 1 [`HEAD_1`] bytes with four slots of 24, in version 2
+//! [`HEAD_2`] bytes with six slots of 32. Slots past the last axis are not looked at, and an axis count over 4, in version 2 over 6, is
+//! taken as 0, which is refused. A recipe's step has 36 bytes in version 1 and 100 in version 2.
 
 /// The bytes of the longest answer.
 pub const SAID: usize = 16;
 
-/// The bytes of a head.
-pub const HEAD: usize = 98;
+/// The bytes of a head in version 1.
+pub const HEAD_1: usize = 98;
+
+/// The bytes of a head in version 2.
+pub const HEAD_2: usize = 194;
 
 /// The bytes of the longest text of [`rma_write_json`].
-pub const JSON: usize = 110_602;
+pub const JSON: usize = 126_986;
 
 extern "C" {
     /// Judges a bundle. `said`: the count of its arrays. Refused 1, 2, 3.
     pub fn rma_read(bundle: *const u8, bundle_len: usize, said: *mut u8, said_len: usize) -> u32;
 
     /// Tells where an array lies. `said`: type, axis count, number of cells, and the byte of the bundle at which its cells begin (its
-    /// axes end there, 24 bytes each). Refused as [`rma_read`], then 4.
+    /// axes end there, 24 bytes each in version 1, 32 in version 2). Refused as [`rma_read`], then 4.
     pub fn rma_array(bundle: *const u8, bundle_len: usize, array: u32, said: *mut u8, said_len: usize) -> u32;
 
-    /// Packs the arrays of 1 to 4 heads; `cells` of all of them in turn. `said`: the bundle's length. `out`: the bundle, then what was
-    /// there; untouched by a refusal. Refused as [`rma_read`] refuses the bundle, then 14.
+    /// Packs the arrays of 1 to 4 heads of that version; `cells` of all of them in turn. `said`: the bundle's length. `out`: the bundle,
+    /// then what was there; untouched by a refusal. Refused as [`rma_read`] refuses the bundle, 1 with place 0 for the version and for
+    /// heads of another length, then 14.
     pub fn rma_pack(
+        version: u32,
         heads: *const u8,
         heads_len: usize,
         cells: *const u8,
@@ -42,7 +51,8 @@ extern "C" {
         said_len: usize,
     ) -> u32;
 
-    /// Refers to the cell at a coordinate, an i32 for each axis. `said`: the cell's nine bytes. Refused as [`rma_read`], then 4, 5, 6.
+    /// Refers to the cell at a coordinate, an i32 for each axis. `said`: the cell's nine bytes. Refused as [`rma_read`], then 4, 5 (also
+    /// for a length over 24 or no multiple of 4), 6.
     pub fn rma_refer(
         bundle: *const u8,
         bundle_len: usize,
@@ -85,8 +95,9 @@ extern "C" {
     /// last one. Refused as [`rma_read`], then 4 to 9 by step.
     pub fn rma_plan(bundle: *const u8, bundle_len: usize, recipe: *const u8, recipe_len: usize, said: *mut u8, said_len: usize) -> u32;
 
-    /// Tells the last result's extent. `said`: the head's length. `extent`: a whole head, the maxima -1,000,000 and 1,000,000, slots past
-    /// the last axis zeros, then what was there; untouched by a refusal. Refused as [`rma_plan`], then 14 (`extent` is shorter than a head).
+    /// Tells the last result's extent. `said`: the head's length. `extent`: a whole head of the bundle's version, the maxima -1,000,000 and
+    /// 1,000,000, slots past the last axis zeros, then what was there; untouched by a refusal. Refused as [`rma_plan`], then 14 (`extent` is
+    /// shorter than such a head).
     pub fn rma_extent(
         bundle: *const u8,
         bundle_len: usize,
@@ -128,9 +139,11 @@ extern "C" {
         said_len: usize,
     ) -> u32;
 
-    /// Reads two arrays as if they were glued. `said`: the side (1 left, 2 right), and from which byte up to which byte of its cells the
-    /// stretch goes. Refused 1, 2 at place 1, then at place 2, then 5, 7, 8, 9, 6 at place 0.
+    /// Reads two arrays, told by heads of that version, as if they were glued. `said`: the side (1 left, 2 right), and from which byte up to
+    /// which byte of its cells the stretch goes. Refused 1 at place 0 for the version, 1, 2 at place 1, then at place 2, then 5, 7, 8, 9, 6
+    /// at place 0.
     pub fn rma_stretch(
+        version: u32,
         left_head: *const u8,
         left_head_len: usize,
         left_cells: *const u8,

@@ -1,10 +1,8 @@
-//! A recipe built step by step: one function an operation, 36 bytes a step. The engine judges it when it is run.
+//! A recipe built step by step for a version: one function an operation. The engine judges it when it is run.
 
 use crate::cell::Cell;
 use crate::extent::name_bytes;
-
-/// The bytes of a step.
-const STEP: usize = 36;
+use crate::version::Version;
 
 /// The operation that removes an axis.
 const SLICE: u8 = 2;
@@ -59,13 +57,13 @@ pub enum Operator {
 /// is-true before it, NOT lists that turn too; is-unknown lists just such turns:
 ///
 /// ```
-/// use rovgrint::{pack, step, Axis, Bundle, Cell, Head, Kind, Operator, Recipe, Single};
+/// use rovgrint::{pack, step, Axis, Bundle, Cell, Head, Kind, Operator, Recipe, Single, Version};
 ///
 /// let turns = Head { kind: Kind::Int, axes: vec![Axis::new("turn", 1, 3)] };
 /// let mut bytes = [0; 59];
-/// pack(&[turns], &[Cell::Int(960), Cell::Empty, Cell::Int(360)], &mut bytes)?;
+/// pack(Version::One, &[turns], &[Cell::Int(960), Cell::Empty, Cell::Int(360)], &mut bytes)?;
 /// let rests = Bundle::read(&bytes)?;
-/// let below = Recipe::new().right_scalar(1, Operator::Less, Cell::Int(660)); // FALSE, empty, TRUE
+/// let below = rests.recipe().right_scalar(1, Operator::Less, Cell::Int(660)); // FALSE, empty, TRUE
 /// let listed = |recipe: Recipe| -> Result<Vec<i32>, rovgrint::Refusal> {
 ///     let (mut work, mut page) = ([0; 81], [0; 24]);
 ///     let rows = rests.rows(recipe.bytes(), &mut work, &mut page)?;
@@ -98,11 +96,23 @@ pub enum Single {
 
 /// The bytes of a recipe. Each function adds a step and gives the recipe back; operands are arrays (1 to 4) or [`step`]s.
 ///
+/// A recipe is built for one version, that of the bundle which it is for: [`Bundle::recipe`](crate::Bundle::recipe) begins one. Over a
+/// bundle of the other version it is refused with 4, place 0.
+///
 /// Pairs, amounts and names are given for each axis of A in turn. A step doesn't know A: a slot left out is zeros, so a pair left out
-/// is `0:0`. What a step has no bytes for (a fifth pair, amount or name; an empty scalar) makes it a step of no known operation,
-/// which the engine refuses with 4 there.
-#[derive(Clone, Debug, Default, PartialEq, Eq, Hash)]
+/// is `0:0`. What a step has no bytes for (a pair, amount or name more than the version's most axes; an empty scalar) makes it a step of
+/// no known operation, which the engine refuses with 4 there. A name longer than the version's is no name: refused with 9 at its step.
+///
+/// ```
+/// use rovgrint::{Recipe, Version};
+///
+/// let renamed = |version| Recipe::new(version).rename(1, &["person_on_call", "turn"]);
+/// assert_eq!(renamed(Version::One).bytes().len(), 36); // will be refused with 9: the first name has 14 letters
+/// assert_eq!(renamed(Version::Two).bytes().len(), 100);
+/// ```
+#[derive(Clone, Debug, PartialEq, Eq, Hash)]
 pub struct Recipe {
+    version: Version,
     bytes: Vec<u8>,
 }
 
@@ -113,9 +123,14 @@ impl AsRef<[u8]> for Recipe {
 }
 
 impl Recipe {
-    /// A recipe of no step yet.
-    pub fn new() -> Recipe {
-        Recipe::default()
+    /// A recipe of no step yet, for bundles of that version.
+    pub fn new(version: Version) -> Recipe {
+        Recipe { version, bytes: vec![] }
+    }
+
+    /// The version that it is built for.
+    pub fn version(&self) -> Version {
+        self.version
     }
 
     /// The recipe's bytes.
@@ -125,7 +140,7 @@ impl Recipe {
 
     /// Operation 1: those coordinates of A, which lie inside A. A pair is the lower and the upper limit.
     pub fn trim(self, a: u8, pairs: &[(i32, i32)]) -> Recipe {
-        self.with([1, a, 0, 0], each_axis(pairs, pair_bytes))
+        self.with_slots([1, a, 0, 0], pairs, pair_bytes)
     }
 
     /// Operation 2: that position of A, the axis removed.
@@ -135,17 +150,18 @@ impl Recipe {
 
     /// Operation 3: A with new limits; shared coordinates keep their cells, others are empty.
     pub fn reshape(self, a: u8, pairs: &[(i32, i32)]) -> Recipe {
-        self.with([3, a, 0, 0], each_axis(pairs, pair_bytes))
+        self.with_slots([3, a, 0, 0], pairs, pair_bytes)
     }
 
     /// Operation 4: A's limits moved by these amounts, and its cells with them.
     pub fn shift(self, a: u8, amounts: &[i32]) -> Recipe {
-        self.with([4, a, 0, 0], each_axis(amounts, |amount| amount.to_le_bytes()))
+        self.with_slots([4, a, 0, 0], amounts, |amount| amount.to_le_bytes())
     }
 
     /// Operation 5: A with other names.
     pub fn rename(self, a: u8, names: &[&str]) -> Recipe {
-        self.with([5, a, 0, 0], each_axis(names, |name| name_bytes(name)))
+        let version = self.version;
+        self.with_slots([5, a, 0, 0], names, |name| name_bytes(version, name))
     }
 
     /// Operation 6: A with B's cells, empty ones too, at B's coordinates, all inside A.
@@ -183,10 +199,16 @@ impl Recipe {
         self.with([12, a, 0, 0], Some(vec![operator as u8]))
     }
 
+    /// Adds a step whose detail has a slot for each axis; of more slots than the most axes there is no detail.
+    fn with_slots<T, Slot: IntoIterator<Item = u8>>(self, front: [u8; 4], slots: &[T], bytes: impl Fn(&T) -> Slot) -> Recipe {
+        let fits = slots.len() <= self.version.most_axes();
+        self.with(front, fits.then(|| slots.iter().flat_map(bytes).collect()))
+    }
+
     /// Adds a step: operation, operands and axis index, then its detail, both padded with zeros. With no detail it is all zeros, which
     /// is no operation.
     fn with(mut self, front: [u8; 4], detail: Option<Vec<u8>>) -> Recipe {
-        let end = self.bytes.len() + STEP;
+        let end = self.bytes.len() + self.version.step();
         if let Some(detail) = detail {
             self.bytes.extend(front);
             self.bytes.extend(detail);
@@ -194,11 +216,6 @@ impl Recipe {
         self.bytes.resize(end, 0);
         self
     }
-}
-
-/// The detail that has a slot for each axis; none of more than four slots.
-fn each_axis<T, const SLOT: usize>(slots: &[T], bytes: impl Fn(&T) -> [u8; SLOT]) -> Option<Vec<u8>> {
-    (slots.len() <= 4).then(|| slots.iter().flat_map(bytes).collect())
 }
 
 /// Lower and upper limit, four bytes each.

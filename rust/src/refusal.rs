@@ -88,7 +88,7 @@ impl Refusal {
             (2, _, _) => "its extent is bad: a name, a limit, the declared maximum, or over 4,096 cells",
             (3, _, _) => "this is no cell of the array's type",
             (4, Counts::Arrays, _) => "there is no such array",
-            (4, _, 0) => "a recipe is one to sixteen steps of 36 bytes",
+            (4, _, 0) => "a recipe is one to sixteen steps, of 36 bytes for a bundle of version 1, of 100 for one of version 2",
             (4, _, _) => "the operation, an operand or the operator is unknown, or a byte that is not used is not zero",
             (5, Counts::Arrays, _) => "a coordinate has one number for each axis",
             (5, _, _) => "there is no such axis",

@@ -1,17 +1,21 @@
 //! The examples in hex of docs/FORMAT.md, read out of the page and put to the engine: the bundle is read, each operation's step is run over
 //! it and leaves the cells that the page prints, the rows and the answer of a page are those printed, so are a plan and the head of a result,
-//! and a head packs to its bundle.
+//! and a head packs to its bundle; and so for the example in version 2. What the page's tables say of both versions is looked up too.
 
 use std::collections::BTreeMap;
 use std::fs;
 use std::path::PathBuf;
 
-use rovgrint::{raw, Bundle, Row};
+use rovgrint::{raw, Bundle, Recipe, Row, Version};
+
+fn page() -> String {
+    let path = PathBuf::from(env!("CARGO_MANIFEST_DIR")).join("../docs/FORMAT.md");
+    fs::read_to_string(path).expect("docs/FORMAT.md")
+}
 
 /// The blocks marked `hex`, by the name after the mark.
 fn blocks() -> BTreeMap<String, Vec<u8>> {
-    let path = PathBuf::from(env!("CARGO_MANIFEST_DIR")).join("../docs/FORMAT.md");
-    let page = fs::read_to_string(path).expect("docs/FORMAT.md");
+    let page = page();
     let mut found = BTreeMap::new();
     for block in page.split("\n```hex ").skip(1) {
         let (name, rest) = block.split_once('\n').expect("a name on the fence's line");
@@ -65,32 +69,93 @@ fn rows_and_their_answer() {
     assert_eq!(Row::from_bytes(&rows[..12]), Row { ordinality: 1, coordinate: vec![1, 1] });
 }
 
+/// The head of a recipe's result is that block.
+fn extent_is(bundle: &[u8], recipe: &[u8], head: &[u8]) {
+    let (mut said, mut extent) = ([0; 4], vec![7; head.len()]);
+    let (b, b_len, r, r_len) = (bundle.as_ptr(), bundle.len(), recipe.as_ptr(), recipe.len());
+    // SAFETY: each pointer and length are one slice's; `said` and `extent`, which are written to, are borrowed alone.
+    let refused = unsafe { raw::rma_extent(b, b_len, r, r_len, extent.as_mut_ptr(), extent.len(), said.as_mut_ptr(), said.len()) };
+    assert_eq!((refused, u32::from_le_bytes(said)), (0, head.len() as u32));
+    assert_eq!(extent, head);
+}
+
 #[test]
 fn plan_and_head_of_the_result() {
     let blocks = blocks();
     let (bundle, recipe) = (&blocks["bundle"], &blocks["step right scalar"]);
-    let (mut said, mut head) = ([0; 16], [7; 98]);
+    let mut said = [0; 16];
     let (b, b_len, r, r_len) = (bundle.as_ptr(), bundle.len(), recipe.as_ptr(), recipe.len());
-    // SAFETY: each pointer and length are one slice's; `said` and `head`, which are written to, are borrowed alone.
+    // SAFETY: each pointer and length are one slice's; `said`, which is written to, is borrowed alone.
     let refused = unsafe { raw::rma_plan(b, b_len, r, r_len, said.as_mut_ptr(), said.len()) };
     assert_eq!((refused, &said[..]), (0, &blocks["said plan"][..]));
-    // SAFETY: as above.
-    let refused = unsafe { raw::rma_extent(b, b_len, r, r_len, head.as_mut_ptr(), head.len(), said.as_mut_ptr(), said.len()) };
-    assert_eq!((refused, &head[..]), (0, &blocks["head of the result"][..]));
-    assert_eq!(said[..4], [98, 0, 0, 0]);
+    assert_eq!(blocks["head of the result"].len(), raw::HEAD_1);
+    extent_is(bundle, recipe, &blocks["head of the result"]);
+}
+
+/// A head and cells, told that version, pack to that bundle.
+fn packs_to(version: Version, head: &[u8], cells: &[u8], packed: &[u8]) {
+    let (mut out, mut said) = (vec![0; packed.len()], [0; 4]);
+    let (heads, heads_len, held, held_len, out_len) = (head.as_ptr(), head.len(), cells.as_ptr(), cells.len(), out.len());
+    // SAFETY: each pointer and length are one slice's; `out` and `said`, which are written to, are borrowed alone.
+    let refused =
+        unsafe { raw::rma_pack(version as u32, heads, heads_len, held, held_len, out.as_mut_ptr(), out_len, said.as_mut_ptr(), 4) };
+    assert_eq!((refused, u32::from_le_bytes(said)), (0, packed.len() as u32));
+    assert_eq!(out, packed);
 }
 
 #[test]
 fn head_packs_to_its_bundle() {
     let blocks = blocks();
-    let (head, cells, packed) = (&blocks["head"], &blocks["cells packed"], &blocks["packed"]);
-    assert_eq!(head.len(), 98);
-    let (mut out, mut said) = (vec![0; packed.len()], [0; 4]);
-    let (heads_len, cells_len, out_len, said_len) = (head.len(), cells.len(), out.len(), said.len());
-    // SAFETY: each pointer and length are one slice's; `out` and `said`, which are written to, are borrowed alone.
-    let refused = unsafe {
-        raw::rma_pack(head.as_ptr(), heads_len, cells.as_ptr(), cells_len, out.as_mut_ptr(), out_len, said.as_mut_ptr(), said_len)
+    assert_eq!(blocks["head"].len(), raw::HEAD_1);
+    packs_to(Version::One, &blocks["head"], &blocks["cells packed"], &blocks["packed"]);
+}
+
+/// The example in version 2: where its array lies, its rows, a rename to six names, the head of a result, and its own head.
+#[test]
+fn in_version_2() {
+    let blocks = blocks();
+    let block = |name: &str| &blocks[&format!("version 2 {name}")];
+    let bundle = Bundle::read(block("bundle")).expect("the page's bundle");
+    assert_eq!((bundle.version(), bundle.array(1).unwrap().axes().len()), (Version::Two, 6));
+    let mut said = [0; 16];
+    // SAFETY: each pointer and length are one slice's; `said`, which is written to, is borrowed alone.
+    let refused = unsafe { raw::rma_array(bundle.bytes().as_ptr(), bundle.bytes().len(), 1, said.as_mut_ptr(), said.len()) };
+    assert_eq!((refused, &said[..]), (0, &block("said array")[..]));
+
+    let (mut work, mut page) = ([0; 36], [7; 56]);
+    let answer = bundle.page(block("step right scalar"), &mut work, 1, &mut page).expect("a page");
+    assert_eq!((&page[..28], &page[28..]), (&block("rows")[..], &[7; 28][..]));
+    assert_eq!([answer.written, answer.next].map(u32::to_le_bytes).concat(), block("said page")[..]);
+
+    let renamed = bundle.extent(block("step rename")).expect("a rename");
+    assert_eq!(renamed.axes.iter().map(|axis| axis.name.as_str()).collect::<Vec<&str>>(), ["b", "d", "l", "who", "w", "turn"]);
+    for step in ["step right scalar", "step rename", "step slice"] {
+        assert_eq!(block(step).len(), 100, "{step}");
+    }
+    extent_is(bundle.bytes(), block("step slice"), block("head of the result"));
+    assert_eq!((block("head").len(), block("head of the result").len()), (raw::HEAD_2, raw::HEAD_2));
+    packs_to(Version::Two, block("head"), bundle.array(1).unwrap().bytes(), block("bundle"));
+}
+
+/// The figures of the table of versions.
+#[test]
+fn table_of_versions() {
+    let page = page();
+    let figures = |row: &str| {
+        let line = page.lines().find(|line| line.starts_with(&format!("| {row}"))).unwrap_or_else(|| panic!("no row {row}"));
+        let cells: Vec<String> = line.split('|').map(|cell| cell.trim().replace(',', "")).collect();
+        [2, 3].map(|at| cells[at].clone())
     };
-    assert_eq!((refused, u32::from_le_bytes(said)), (0, packed.len() as u32));
-    assert_eq!(&out, packed);
+    let both = [Version::One, Version::Two];
+    assert_eq!(figures("letters of a name"), both.map(|version| version.most_letters().to_string()));
+    assert_eq!(figures("axes of an array, and slots"), both.map(|version| version.most_axes().to_string()));
+    assert_eq!(figures("bytes of an axis"), both.map(|version| (version.most_letters() + 16).to_string()));
+    let step = both.map(|version| Recipe::new(version).update(1, 1).bytes().len());
+    assert_eq!(figures("bytes of a step "), step.map(|bytes| bytes.to_string()));
+    assert_eq!(figures("bytes of a step's detail"), step.map(|bytes| (bytes - 4).to_string()));
+    assert_eq!(figures("bytes of a recipe"), step.map(|bytes| format!("{bytes} to {}", 16 * bytes)));
+    assert_eq!(figures("bytes of a coordinate"), both.map(|version| (4 * version.most_axes()).to_string()));
+    assert_eq!(figures("bytes of a row"), both.map(|version| (4 + 4 * version.most_axes()).to_string()));
+    assert_eq!(figures("bytes of a head"), [raw::HEAD_1, raw::HEAD_2].map(|bytes| bytes.to_string()));
+    assert_eq!(figures("bytes of a JSON text"), ["110602".to_string(), raw::JSON.to_string()]);
 }

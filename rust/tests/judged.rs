@@ -36,10 +36,26 @@ fn bad(kind: u8) -> Vec<Nine> {
     words.iter().map(|&word| cell(1, word)).chain(marked).chain(unmarked).collect()
 }
 
-/// One array on one axis.
-fn bundle(kind: u8, cells: &[Nine]) -> Vec<u8> {
+/// A version, and the bytes of its names and its heads.
+type Version = (u8, usize, usize);
+
+const VERSIONS: [Version; 2] = [(1, 8, raw::HEAD_1), (2, 16, raw::HEAD_2)];
+
+/// One array on one axis, from its type to its last cell.
+fn array((_, name, _): Version, kind: u8, cells: &[Nine]) -> Vec<u8> {
     let limits = [1, cells.len() as i32, -1_000_000, 1_000_000].map(i32::to_le_bytes).concat();
-    [&b"RMA\x01\x00\x01"[..], &[kind, 1], b"turn\0\0\0\0", &limits, &cells.concat()].concat()
+    let padded = [&b"turn"[..], &vec![0; name - 4]].concat();
+    [&[kind, 1], &padded[..], &limits, &cells.concat()].concat()
+}
+
+/// A bundle of that array.
+fn bundle_in(version: Version, kind: u8, cells: &[Nine]) -> Vec<u8> {
+    [&b"RMA"[..], &[version.0, 0, 1], &array(version, kind, cells)].concat()
+}
+
+/// A bundle of version 1.
+fn bundle(kind: u8, cells: &[Nine]) -> Vec<u8> {
+    bundle_in(VERSIONS[0], kind, cells)
 }
 
 /// Number, place and ordinality of the refusal; zeros for none.
@@ -87,33 +103,34 @@ fn the_first_of_two() {
 
 #[test]
 fn in_the_largest() {
-    for kind in [INT, FLOAT, BOOLEAN] {
+    for (version, kind) in VERSIONS.iter().flat_map(|version| [INT, FLOAT, BOOLEAN].map(|kind| (*version, kind))) {
         for at in [0, 1, 2, 3, 2047, 2048, 4092, 4093, 4094, 4095] {
             for wrong in bad(kind) {
                 let mut held = cells(kind, 4096);
                 held[at] = wrong;
-                assert_eq!(read(&bundle(kind, &held)), [3, 1, at as u32 + 1]);
+                assert_eq!(read(&bundle_in(version, kind, &held)), [3, 1, at as u32 + 1]);
             }
         }
     }
 }
 
-/// Packing judges the cells that it is handed as reading does.
+/// Packing judges the cells that it is handed as reading does, in either version.
 #[test]
 fn packing_too() {
-    for kind in [INT, FLOAT, BOOLEAN] {
+    for (version, kind) in VERSIONS.iter().flat_map(|version| [INT, FLOAT, BOOLEAN].map(|kind| (*version, kind))) {
         for at in 0..9 {
             for wrong in bad(kind) {
                 let mut held = cells(kind, 9);
                 held[at] = wrong;
-                let bytes = bundle(kind, &held);
-                let (head, cells) = bytes[6..].split_at(26);
-                let head = [head, &[0; 72]].concat();
+                let (number, name, length) = version;
+                let bytes = array(version, kind, &held);
+                let (head, cells) = bytes.split_at(2 + name + 16);
+                let head = [head, &vec![0; length - head.len()]].concat();
                 let (mut out, mut said) = ([7; 200], [7; 8]);
-                let (heads, held) = (head.as_ptr(), cells.as_ptr());
+                let (version, heads, held) = (u32::from(number), head.as_ptr(), cells.as_ptr());
                 // SAFETY: each pointer and length are one slice's; those written to are borrowed alone.
                 let refused = unsafe {
-                    raw::rma_pack(heads, head.len(), held, cells.len(), out.as_mut_ptr(), out.len(), said.as_mut_ptr(), said.len())
+                    raw::rma_pack(version, heads, head.len(), held, cells.len(), out.as_mut_ptr(), out.len(), said.as_mut_ptr(), said.len())
                 };
                 assert_eq!((refused, said[4..].to_vec()), (3, (at as u32 + 1).to_le_bytes().to_vec()));
                 assert_eq!(out, [7; 200]);

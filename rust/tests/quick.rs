@@ -1,6 +1,7 @@
 //! Every operator, on each type that it takes, in each form of step (operations 9 to 12), over arrays of the bundle and over results in
-//! the work area: the engine's run and page against the second implementation in `paper`, every byte lent. What refuses is expected from
-//! the requirements' own words: number, step and ordinality, and the buffers after it. Each test counts its cases.
+//! the work area: the engine's run and page against the second implementation in `paper`, every byte lent; and the same in version 2 of
+//! the bundle, which must leave the same bytes. What refuses is expected from the requirements' own words: number, step and ordinality,
+//! and the buffers after it. Each test counts its cases.
 
 #[allow(dead_code)] // the differential test uses all of it
 mod paper;
@@ -52,6 +53,25 @@ fn bundle(kind: u8, shape: Shape, arrays: [&[Nine]; 2]) -> Vec<u8> {
         bytes.extend(cells.concat());
     }
     bytes
+}
+
+/// Such a bundle as one of version 2: names of 16 bytes.
+fn bundle_in_version_2(bundle: &[u8]) -> Vec<u8> {
+    let mut bytes = b"RMA\x02\x00\x02".to_vec();
+    for array in bundle[6..].chunks((bundle.len() - 6) / 2) {
+        let (head, cells) = array.split_at(2 + 2 * 24);
+        bytes.extend(&head[..2]);
+        for axis in head[2..].chunks(24) {
+            bytes.extend([&axis[..8], &[0; 8], &axis[8..]].concat());
+        }
+        bytes.extend(cells);
+    }
+    bytes
+}
+
+/// Steps as those of version 2: 100 bytes each.
+fn recipe_in_version_2(recipe: &[u8]) -> Vec<u8> {
+    recipe.chunks(36).flat_map(|step| [step, &[0; 64]].concat()).collect()
 }
 
 /// How a step meets its cells.
@@ -136,7 +156,14 @@ impl After {
 impl Call<'_> {
     /// The bytes of all results.
     fn results(&self) -> usize {
-        9 * self.shape.0 * self.shape.1 * (self.recipe.len() / 36)
+        let step = if self.bundle[3] == 1 { 36 } else { 100 };
+        9 * self.shape.0 * self.shape.1 * (self.recipe.len() / step)
+    }
+
+    /// What the engine leaves of the same call in version 2.
+    fn by_engine_in_version_2(&self) -> After {
+        let (bundle, recipe) = (bundle_in_version_2(self.bundle), recipe_in_version_2(self.recipe));
+        Call { bundle: &bundle, recipe: &recipe, ..*self }.by_engine()
     }
 
     fn before(&self) -> After {
@@ -176,6 +203,7 @@ impl Call<'_> {
         assert_eq!((engine.number, &engine.said), (paper.number, &paper.said), "{what}: number and answer");
         assert!(engine.work == paper.work, "{what}: the work area differs at byte {:?}", first_difference(&engine.work, &paper.work));
         assert!(engine.rows == paper.rows, "{what}: the rows differ at byte {:?}", first_difference(&engine.rows, &paper.rows));
+        assert!(engine == self.by_engine_in_version_2(), "{what}: version 2 differs");
         engine
     }
 

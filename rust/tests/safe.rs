@@ -1,9 +1,13 @@
-//! The safe layer, tried: the requirements' cases on both sides of each line, iterators against the calls that they stand on, and what
-//! a Rust value can say and a bundle can't, which the engine has to refuse.
+//! The safe layer, tried: the requirements' cases on both sides of each line, iterators against the calls that they stand on, what
+//! a Rust value can say and a bundle can't, which the engine has to refuse, and both versions of the bundle.
 
 use rovgrint::{
-    pack, step, stretch, Axis, Bundle, Cell, Counts, Head, Kind, Operator, Page, Recipe, Refusal, Row, Single, Total, CELL, MOST_WORK,
+    pack, step, stretch, Axis, Bundle, Cell, Counts, Head, Kind, Operator, Page, Recipe, Refusal, Row, Single, Total, Version, CELL,
+    MOST_WORK,
 };
+
+const ONE: Version = Version::One;
+const TWO: Version = Version::Two;
 
 fn refused(number: u32, place: u32, ordinality: u32) -> Refusal {
     Refusal { number, place, ordinality, counts: Counts::Arrays } // equal by its figures
@@ -22,10 +26,15 @@ fn line(kind: Kind, cells: &[Cell]) -> Vec<u8> {
     packed(&[Head { kind, axes: vec![Axis::new("i", 1, cells.len() as i32)] }], cells)
 }
 
-/// The packed bundle, where packing must go well.
+/// The packed bundle of version 1, where packing must go well.
 fn packed(heads: &[Head], cells: &[Cell]) -> Vec<u8> {
+    packed_in(ONE, heads, cells)
+}
+
+/// The packed bundle of that version, where packing must go well.
+fn packed_in(version: Version, heads: &[Head], cells: &[Cell]) -> Vec<u8> {
     let mut out = vec![0; 1 << 16];
-    let length = pack(heads, cells, &mut out).expect("packs");
+    let length = pack(version, heads, cells, &mut out).expect("packs");
     out.truncate(length);
     out
 }
@@ -47,7 +56,7 @@ fn roster() -> Vec<u8> {
 
 /// The recipe that finds the rests below eleven hours: five steps of 4 cells.
 fn rests() -> Recipe {
-    let moved = Recipe::new().trim(1, &[(1, 2), (2, 3)]).shift(step(1), &[0, -1]).trim(2, &[(1, 2), (1, 2)]);
+    let moved = Recipe::new(ONE).trim(1, &[(1, 2), (2, 3)]).shift(step(1), &[0, -1]).trim(2, &[(1, 2), (1, 2)]);
     moved.pair(step(2), step(3), Operator::Minus).right_scalar(step(4), Operator::Less, Cell::Int(660))
 }
 
@@ -77,9 +86,9 @@ mod both_sides_of_each_line {
     #[test]
     fn trim() {
         let bytes = packed(&[int_head(&[("i", -1, 1), ("j", -1, 1)])], &ints(1..=9));
-        let inside = Recipe::new().trim(1, &[(-1, 1), (-1, 1)]);
+        let inside = Recipe::new(ONE).trim(1, &[(-1, 1), (-1, 1)]);
         assert_eq!(last_cells(&bytes, &inside, Kind::Int, 9), Ok(ints(1..=9)));
-        let outside = Recipe::new().trim(1, &[(-2, 1), (-1, 1)]);
+        let outside = Recipe::new(ONE).trim(1, &[(-2, 1), (-1, 1)]);
         assert_eq!(last_cells(&bytes, &outside, Kind::Int, 9), Err(refused(6, 1, 0)));
     }
 
@@ -87,7 +96,7 @@ mod both_sides_of_each_line {
     fn glue() {
         let heads = [int_head(&[("i", -1, 1), ("j", -1, 1)]), int_head(&[("i", 0, 0), ("j", -1, 1)])];
         let bytes = packed(&heads, &ints(1..=12));
-        let glued = Recipe::new().glue(1, 2, 1);
+        let glued = Recipe::new(ONE).glue(1, 2, 1);
         assert_eq!(last_cells(&bytes, &glued, Kind::Int, 12), Ok(ints(1..=12)));
         let tenth = glued.right_scalar(step(1), Operator::Equal, Cell::Int(10));
         let (mut work, mut page) = (vec![0; MOST_WORK], [0; 12]);
@@ -99,7 +108,7 @@ mod both_sides_of_each_line {
     #[test]
     fn division() {
         let of = |cell: Cell, operator, scalar| {
-            let recipe = Recipe::new().right_scalar(1, operator, Cell::Int(scalar));
+            let recipe = Recipe::new(ONE).right_scalar(1, operator, Cell::Int(scalar));
             last_cells(&line(Kind::Int, &[cell]), &recipe, Kind::Int, 1).map(|cells| cells[0])
         };
         let smallest = Cell::Int(i64::MIN);
@@ -121,7 +130,7 @@ mod both_sides_of_each_line {
     #[test]
     fn shift_and_start() {
         let bytes = packed(&[int_head(&[("i", -1_000_000, -999_999)])], &ints([1, 2]));
-        let below = Recipe::new().shift(1, &[-1]);
+        let below = Recipe::new(ONE).shift(1, &[-1]);
         assert_eq!(last_cells(&bytes, &below, Kind::Int, 2), Err(refused(9, 1, 0)));
         let bytes = roster();
         let (mut work, mut rows) = ([0; 180], [0; 12]);
@@ -135,7 +144,7 @@ mod both_sides_of_each_line {
         let square = packed(&[int_head(&[("i", 1, 64), ("j", 1, 64)])], &ints(1..=4096));
         assert_eq!(Bundle::read(&square).unwrap().array(1).unwrap().cells().len(), 4096);
         let mut out = vec![0; 1 << 16];
-        assert_eq!(pack(&[int_head(&[("i", 1, 4097)])], &ints(1..=4097), &mut out), Err(refused(2, 1, 0)));
+        assert_eq!(pack(ONE, &[int_head(&[("i", 1, 4097)])], &ints(1..=4097), &mut out), Err(refused(2, 1, 0)));
     }
 
     #[test]
@@ -184,9 +193,9 @@ mod blank_turns {
             let heads = vec![Head { kind, axes: vec![Axis::new("i", 1, 2)] }; 2];
             let bytes = packed(&heads, &[filled, Cell::Empty, Cell::Empty, Cell::Empty]);
             for operator in COMPARISONS {
-                let pair = Recipe::new().pair(1, 2, operator);
-                let right = Recipe::new().right_scalar(2, operator, filled);
-                let left = Recipe::new().left_scalar(2, operator, filled);
+                let pair = Recipe::new(ONE).pair(1, 2, operator);
+                let right = Recipe::new(ONE).right_scalar(2, operator, filled);
+                let left = Recipe::new(ONE).left_scalar(2, operator, filled);
                 let taken = kind != Kind::Boolean || matches!(operator, Operator::Equal | Operator::Unequal);
                 let expected = if taken { Ok(vec![Cell::Empty; 2]) } else { Err(refused(7, 1, 0)) };
                 for recipe in [pair, right, left] {
@@ -202,7 +211,7 @@ mod blank_turns {
         let bytes = line(Kind::Boolean, &[yes, no, Cell::Empty]);
         let expected = [(Single::IsTrue, [yes, no, no]), (Single::IsFalse, [no, yes, no]), (Single::IsUnknown, [no, no, yes])];
         for (operator, cells) in expected {
-            let recipe = Recipe::new().single(1, operator);
+            let recipe = Recipe::new(ONE).single(1, operator);
             assert_eq!(last_cells(&bytes, &recipe, Kind::Boolean, 3), Ok(cells.to_vec()), "{operator:?}");
             for kind in [Kind::Int, Kind::Float] {
                 let number = line(kind, &[Cell::Empty]);
@@ -254,7 +263,7 @@ mod json {
     fn the_longest() {
         let axes = [("a", 1, 4096), ("b", 1, 1), ("c", 1, 1), ("d", 1, 1)];
         let longest = text(Kind::Int, &axes, &vec![Cell::Int(i64::MIN); 4096]).unwrap();
-        assert_eq!(longest.len(), rovgrint::raw::JSON);
+        assert_eq!(longest.len(), 110_602);
     }
 
     #[test]
@@ -283,7 +292,7 @@ mod iterators {
     fn mixed() -> (Vec<u8>, Recipe) {
         let cells: Vec<Cell> = (0..105).map(|n| if n % 4 == 3 { Cell::Empty } else { Cell::Int(n * 37 % 11) }).collect();
         let bytes = packed(&[int_head(&[("a", -2, 2), ("b", 0, 6), ("c", 9, 11)])], &cells);
-        (bytes, Recipe::new().right_scalar(1, Operator::Less, Cell::Int(5)))
+        (bytes, Recipe::new(ONE).right_scalar(1, Operator::Less, Cell::Int(5)))
     }
 
     #[test]
@@ -308,7 +317,7 @@ mod iterators {
         for axes in 1..=4 {
             let bytes = packed(&[int_head(&names[..axes])], &ints(0..1 << axes));
             let bundle = Bundle::read(&bytes).unwrap();
-            let recipe = Recipe::new().right_scalar(1, Operator::GreaterOrEqual, Cell::Int(0));
+            let recipe = Recipe::new(ONE).right_scalar(1, Operator::GreaterOrEqual, Cell::Int(0));
             let (mut work, mut page) = (vec![0; 16 * CELL], [0; 20]);
             let rows: Vec<Row> = bundle.rows(recipe.bytes(), &mut work, &mut page).unwrap().collect();
             let last = Row { ordinality: 1 << axes, coordinate: vec![5; axes] };
@@ -321,7 +330,7 @@ mod iterators {
     fn rows_of_a_sliced_result() {
         let bytes = packed(&[int_head(&[("a", 1, 2), ("b", 3, 4), ("c", 5, 6)])], &ints(0..8));
         let bundle = Bundle::read(&bytes).unwrap();
-        let recipe = Recipe::new()
+        let recipe = Recipe::new(ONE)
             .slice(1, 2, 4) // step 1: a, c: 2 3, 6 7
             .slice(step(1), 1, 2) // step 2: c: 6 7
             .glue(step(2), step(2), 1) // step 3: c 5:8: 6 7 6 7
@@ -329,7 +338,7 @@ mod iterators {
         let (mut work, mut page) = (vec![0; 14 * CELL], [0; 19]); // room for two rows, and three bytes
         let rows: Vec<Row> = bundle.rows(recipe.bytes(), &mut work, &mut page).unwrap().collect();
         assert_eq!(rows, [2, 4].map(|ordinality| Row { ordinality, coordinate: vec![4 + ordinality as i32] }));
-        let plane = Recipe::new().slice(1, 2, 4).right_scalar(step(1), Operator::Greater, Cell::Int(6));
+        let plane = Recipe::new(ONE).slice(1, 2, 4).right_scalar(step(1), Operator::Greater, Cell::Int(6));
         let rows: Vec<Row> = bundle.rows(plane.bytes(), &mut work, &mut page).unwrap().collect();
         assert_eq!(rows, [Row { ordinality: 4, coordinate: vec![2, 6] }]);
     }
@@ -338,7 +347,7 @@ mod iterators {
     fn refused_as_one_page_is() {
         let bytes = line(Kind::Int, &ints([1, 0]));
         let bundle = Bundle::read(&bytes).unwrap();
-        let divided = Recipe::new().left_scalar(1, Operator::Divide, Cell::Int(9));
+        let divided = Recipe::new(ONE).left_scalar(1, Operator::Divide, Cell::Int(9));
         let listed = divided.clone().right_scalar(step(1), Operator::Less, Cell::Int(5));
         let ask =
             |recipe: &Recipe, work: &mut [u8], room: usize| bundle.rows(recipe.bytes(), work, &mut vec![0; room]).map(|_| ()).unwrap_err();
@@ -384,12 +393,12 @@ mod iterators {
         let bytes = packed(&sides, &ints(1..=20));
         let bundle = Bundle::read(&bytes).unwrap();
         let mut glued = [0; 20 * CELL];
-        assert_eq!(bundle.run(Recipe::new().glue(1, 2, 2).bytes(), &mut glued), Ok(20));
+        assert_eq!(bundle.run(Recipe::new(ONE).glue(1, 2, 2).bytes(), &mut glued), Ok(20));
         let (left, right) = (bundle.array(1).unwrap(), bundle.array(2).unwrap());
         let (mut joined, mut parts) = (vec![], 0);
         let end = loop {
             let ordinality = (joined.len() / CELL + 1) as u32;
-            match stretch(left.head(), left.bytes(), right.head(), right.bytes(), 2, ordinality) {
+            match stretch(ONE, left.head(), left.bytes(), right.head(), right.bytes(), 2, ordinality) {
                 Ok(part) => joined.extend_from_slice(part),
                 Err(refusal) => break refusal,
             }
@@ -397,7 +406,7 @@ mod iterators {
         };
         assert_eq!((end, parts), (refused(6, 0, 0), 4));
         assert_eq!(joined, glued);
-        let first = stretch(left.head(), left.bytes(), right.head(), right.bytes(), 2, 1).unwrap();
+        let first = stretch(ONE, left.head(), left.bytes(), right.head(), right.bytes(), 2, 1).unwrap();
         assert_eq!(first.as_ptr(), left.bytes().as_ptr(), "a part of the left buffer, not a copy");
     }
 }
@@ -453,16 +462,16 @@ mod values {
     fn every_operation() {
         let bytes = packed(&[int_head(&[("i", 1, 2), ("j", 1, 2)]), int_head(&[("j", 1, 2)])], &ints([1, 2, 3, 4, 8, 9]));
         let of = |recipe: Recipe, n: usize| last_cells(&bytes, &recipe, Kind::Int, n);
-        assert_eq!(of(Recipe::new().slice(1, 1, 2), 2), Ok(ints([3, 4])));
+        assert_eq!(of(Recipe::new(ONE).slice(1, 1, 2), 2), Ok(ints([3, 4])));
         let wider = [ints([1, 2, 3, 4]), vec![Cell::Empty; 2]].concat();
-        assert_eq!(of(Recipe::new().reshape(1, &[(1, 3), (1, 2)]), 6), Ok(wider));
-        assert_eq!(of(Recipe::new().place(1, 2, 1, 1), 4), Ok(ints([8, 9, 3, 4])));
-        let renamed = Recipe::new().rename(1, &["k", "l"]);
+        assert_eq!(of(Recipe::new(ONE).reshape(1, &[(1, 3), (1, 2)]), 6), Ok(wider));
+        assert_eq!(of(Recipe::new(ONE).place(1, 2, 1, 1), 4), Ok(ints([8, 9, 3, 4])));
+        let renamed = Recipe::new(ONE).rename(1, &["k", "l"]);
         assert_eq!(of(renamed.clone().update(1, step(1)), 4), Err(refused(8, 2, 0)));
         assert_eq!(of(renamed.rename(step(1), &["i", "j"]).update(1, step(2)), 4), Ok(ints([1, 2, 3, 4])));
-        assert_eq!(of(Recipe::new().single(1, Single::Negate), 4), Ok(ints([-1, -2, -3, -4])));
-        assert_eq!(of(Recipe::new().left_scalar(1, Operator::Minus, Cell::Int(10)), 4), Ok(ints([9, 8, 7, 6])));
-        let filled = Recipe::new().single(1, Single::IsEmpty).single(step(1), Single::Not);
+        assert_eq!(of(Recipe::new(ONE).single(1, Single::Negate), 4), Ok(ints([-1, -2, -3, -4])));
+        assert_eq!(of(Recipe::new(ONE).left_scalar(1, Operator::Minus, Cell::Int(10)), 4), Ok(ints([9, 8, 7, 6])));
+        let filled = Recipe::new(ONE).single(1, Single::IsEmpty).single(step(1), Single::Not);
         assert_eq!(last_cells(&bytes, &filled, Kind::Boolean, 4), Ok(vec![Cell::Truth(true); 4]));
     }
 
@@ -483,7 +492,7 @@ mod not_hidden {
     /// Packing must be refused so, and leave the buffer untouched.
     fn pack_refused(heads: &[Head], cells: &[Cell], refusal: Refusal) {
         let mut out = [7; 1000];
-        assert_eq!(pack(heads, cells, &mut out), Err(refusal), "{heads:?}");
+        assert_eq!(pack(ONE, heads, cells, &mut out), Err(refusal), "{heads:?}");
         assert_eq!(out, [7; 1000]);
     }
 
@@ -492,7 +501,7 @@ mod not_hidden {
         for name in ["", "nine_long", "a\0", "a\0b", "\0", "é", "A"] {
             pack_refused(&[int_head(&[(name, 1, 1)])], &ints([1]), refused(2, 1, 0));
             let bytes = line(Kind::Int, &ints([1]));
-            let rename = |names: &[&str]| last_cells(&bytes, &Recipe::new().rename(1, names), Kind::Int, 1);
+            let rename = |names: &[&str]| last_cells(&bytes, &Recipe::new(ONE).rename(1, names), Kind::Int, 1);
             assert_eq!(rename(&[name]), Err(refused(9, 1, 0)), "{name:?}");
             assert_eq!(rename(&["a", name]), Err(refused(4, 1, 0)), "{name:?}");
         }
@@ -508,11 +517,11 @@ mod not_hidden {
         for axes in [0, 5, 256, 257] {
             let head = Head { kind: Kind::Int, axes: vec![Axis::new("i", 1, 1); axes] };
             pack_refused(std::slice::from_ref(&head), &ints([1]), refused(1, 1, 0));
-            assert_eq!(stretch(&head, &[0; 9], &one, &[0; 9], 1, 1), Err(refused(1, 1, 0)));
+            assert_eq!(stretch(ONE, &head, &[0; 9], &one, &[0; 9], 1, 1), Err(refused(1, 1, 0)));
         }
         pack_refused(&[int_head(&[("i", 2, 1)])], &[], refused(2, 1, 0));
         pack_refused(&[int_head(&[("i", i32::MIN, i32::MAX)])], &[], refused(2, 1, 0));
-        assert_eq!(pack(&[one], &ints([1]), &mut [0; 40]), Err(refused(14, 0, 0)));
+        assert_eq!(pack(ONE, &[one], &ints([1]), &mut [0; 40]), Err(refused(14, 0, 0)));
     }
 
     #[test]
@@ -532,15 +541,15 @@ mod not_hidden {
     fn steps_that_have_no_bytes() {
         let bytes = line(Kind::Int, &ints([1]));
         let of = |recipe: Recipe| last_cells(&bytes, &recipe, Kind::Int, 1);
-        let front = || Recipe::new().trim(1, &[(1, 1)]);
+        let front = || Recipe::new(ONE).trim(1, &[(1, 1)]);
         assert_eq!(of(front()), Ok(ints([1])));
         assert_eq!(of(front().trim(1, &[(1, 1), (0, 0), (0, 0), (0, 0), (0, 0)])), Err(refused(4, 2, 0)));
         assert_eq!(of(front().shift(1, &[0; 5])), Err(refused(4, 2, 0)));
         assert_eq!(of(front().right_scalar(1, Operator::Plus, Cell::Empty)), Err(refused(4, 2, 0)));
         assert_eq!(of(front().single(step(0), Single::Negate)), Err(refused(4, 2, 0)));
         assert_eq!(of(front().single(step(255), Single::Negate)), Err(refused(4, 2, 0)));
-        assert_eq!(of(Recipe::new()), Err(refused(4, 0, 0)));
-        assert_eq!(of((0..17).fold(Recipe::new(), |recipe, _| recipe.shift(1, &[0]))), Err(refused(4, 0, 0)));
+        assert_eq!(of(Recipe::new(ONE)), Err(refused(4, 0, 0)));
+        assert_eq!(of((0..17).fold(Recipe::new(ONE), |recipe, _| recipe.shift(1, &[0]))), Err(refused(4, 0, 0)));
     }
 
     #[test]
@@ -593,13 +602,13 @@ mod plans {
         let bytes = roster();
         let bundle = Bundle::read(&bytes).unwrap();
         let bad = [
-            (Recipe::new(), refused(4, 0, 0)),
-            (Recipe::new().trim(5, &[(1, 2), (2, 3)]), refused(4, 1, 0)),
-            (Recipe::new().slice(1, 3, 1), refused(5, 1, 0)),
-            (Recipe::new().slice(1, 1, 1).slice(step(1), 1, 9), refused(6, 2, 0)),
-            (Recipe::new().right_scalar(1, Operator::And, Cell::Int(1)), refused(7, 1, 0)),
-            (Recipe::new().trim(1, &[(1, 1), (1, 3)]).pair(1, step(1), Operator::Minus), refused(8, 2, 0)),
-            (Recipe::new().reshape(1, &[(1, 64), (1, 65)]), refused(9, 1, 0)),
+            (Recipe::new(ONE), refused(4, 0, 0)),
+            (Recipe::new(ONE).trim(5, &[(1, 2), (2, 3)]), refused(4, 1, 0)),
+            (Recipe::new(ONE).slice(1, 3, 1), refused(5, 1, 0)),
+            (Recipe::new(ONE).slice(1, 1, 1).slice(step(1), 1, 9), refused(6, 2, 0)),
+            (Recipe::new(ONE).right_scalar(1, Operator::And, Cell::Int(1)), refused(7, 1, 0)),
+            (Recipe::new(ONE).trim(1, &[(1, 1), (1, 3)]).pair(1, step(1), Operator::Minus), refused(8, 2, 0)),
+            (Recipe::new(ONE).reshape(1, &[(1, 64), (1, 65)]), refused(9, 1, 0)),
         ];
         for (recipe, refusal) in bad {
             assert_eq!(bundle.plan(&recipe), Err(refusal));
@@ -608,7 +617,7 @@ mod plans {
             assert_eq!(bundle.run(recipe.bytes(), &mut [0; MOST_WORK]), Err(refusal));
             assert_eq!(bundle.listing(&recipe).err(), Some(refusal));
         }
-        let no_truth = Recipe::new().pair(1, 2, Operator::Plus);
+        let no_truth = Recipe::new(ONE).pair(1, 2, Operator::Plus);
         assert_eq!(bundle.plan(&no_truth).map(|plan| plan.kind), Ok(Kind::Int));
         assert_eq!(bundle.listing(&no_truth).err(), Some(refused(7, 1, 0)));
     }
@@ -616,7 +625,7 @@ mod plans {
     #[test]
     fn a_whole_head_or_nothing() {
         let bytes = roster();
-        let recipe = Recipe::new().slice(1, 1, 2);
+        let recipe = Recipe::new(ONE).slice(1, 1, 2);
         let (mut said, mut extent) = ([9; 16], [9; 100]);
         let mut ask = |extent: &mut [u8]| {
             let (at, len) = (extent.as_mut_ptr(), extent.len());
@@ -638,8 +647,8 @@ mod plans {
     fn a_listing_that_is_lent_nothing() {
         let bytes = packed(&[int_head(&[("x", -3, 8), ("y", 1, 5)])], &ints(1..=60));
         let bundle = Bundle::read(&bytes).unwrap();
-        let odd = Recipe::new().right_scalar(1, Operator::Mod, Cell::Int(2)).right_scalar(step(1), Operator::Equal, Cell::Int(1));
-        let none = Recipe::new().right_scalar(1, Operator::Less, Cell::Int(0));
+        let odd = Recipe::new(ONE).right_scalar(1, Operator::Mod, Cell::Int(2)).right_scalar(step(1), Operator::Equal, Cell::Int(1));
+        let none = Recipe::new(ONE).right_scalar(1, Operator::Less, Cell::Int(0));
         let rows: Vec<Row> = bundle.listing(&odd).unwrap().collect();
         assert_eq!(rows.len(), 30);
         assert!(rows.iter().all(|row| row.ordinality % 2 == 1));
@@ -662,16 +671,19 @@ mod words {
         let bytes = roster();
         let bundle = Bundle::read(&bytes).unwrap();
         let said = |refusal: Option<Refusal>| refusal.expect("refused").words();
-        let apart = Recipe::new().trim(1, &[(1, 1), (1, 3)]).pair(1, step(1), Operator::Minus);
+        let apart = Recipe::new(ONE).trim(1, &[(1, 1), (1, 3)]).pair(1, step(1), Operator::Minus);
         assert_eq!(said(bundle.plan(&apart).err()), "step 2: the two arrays do not agree in axes, names or limits");
         assert_eq!(said(bundle.total(2, Total::True).err()), "array 2: this cannot be asked of an array of that type");
         assert_eq!(said(bundle.array(3).err()), "array 3: there is no such array");
-        assert_eq!(said(bundle.plan(&Recipe::new()).err()), "a recipe is one to sixteen steps of 36 bytes");
-        let by_zero = Recipe::new().right_scalar(1, Operator::Divide, Cell::Int(0));
+        assert_eq!(
+            said(bundle.plan(&Recipe::new(ONE)).err()),
+            "a recipe is one to sixteen steps, of 36 bytes for a bundle of version 1, of 100 for one of version 2"
+        );
+        let by_zero = Recipe::new(ONE).right_scalar(1, Operator::Divide, Cell::Int(0));
         assert_eq!(said(bundle.run(by_zero.bytes(), &mut [0; 54]).err()), "step 1, cell 1: division by zero");
         let head = int_head(&[("x", 1, 2)]);
         let crossed = int_head(&[("x", 2, 1)]);
-        let side = stretch(&head, &[0; 18], &crossed, &[0; 0], 1, 1).err();
+        let side = stretch(ONE, &head, &[0; 18], &crossed, &[0; 0], 1, 1).err();
         assert!(said(side).starts_with("the right side: its extent is bad"));
         assert!(said(Bundle::read(&bytes[..7]).err()).starts_with("array 1: its type"));
         assert!(said(Bundle::read(b"RMB").err()).starts_with("the bundle's mark"));
@@ -743,5 +755,287 @@ mod judged_once {
             seen.push(cell);
         }
         assert_eq!(bundle.walk(2).unwrap().collect::<Vec<Cell>>(), seen);
+    }
+}
+
+/// Version 1 and version 2: names, axes, recipes, and what is refused where one is told and not the other.
+mod versions {
+    use super::*;
+    use rovgrint::raw;
+
+    const BOTH: [Version; 2] = [ONE, TWO];
+    const LETTERS: &str = "abcdefghijklmnopq";
+
+    /// So many axes of one position, with names of so many letters.
+    fn deep(axes: usize, letters: usize) -> Head {
+        let name = |k: usize| format!("{}{}", &LETTERS[..letters - 1], (b'a' + k as u8 % 26) as char);
+        Head { kind: Kind::Int, axes: (0..axes).map(|k| Axis::new(&name(k), 1, 1)).collect() }
+    }
+
+    /// Packing told that version, with room for every answer.
+    fn told(version: Version, heads: &[Head], cells: &[Cell]) -> Result<usize, Refusal> {
+        pack(version, heads, cells, &mut [0; 2000])
+    }
+
+    #[test]
+    fn sizes() {
+        let version_one = (ONE.most_letters(), ONE.most_axes(), Recipe::new(ONE).single(1, Single::Not).bytes().len());
+        assert_eq!((version_one, raw::HEAD_1), ((8, 4, 36), 98));
+        let version_two = (TWO.most_letters(), TWO.most_axes(), Recipe::new(TWO).single(1, Single::Not).bytes().len());
+        assert_eq!((version_two, raw::HEAD_2), ((16, 6, 100), 194));
+        assert_eq!(BOTH.map(|version| version as u32), [1, 2]);
+        assert_eq!(BOTH.map(|version| Recipe::new(version).version()), BOTH);
+    }
+
+    /// A name fits if the version has room for its letters; else it is refused with 2 at its array or its side, and never cut.
+    #[test]
+    fn names_of_every_length() {
+        let short = deep(1, 1);
+        for version in BOTH {
+            for letters in 1..=17 {
+                let head = deep(1, letters);
+                let fits = letters <= version.most_letters();
+                let heads = [short.clone(), head.clone()];
+                let expected = if fits { Ok(()) } else { Err(refused(2, 2, 0)) };
+                assert_eq!(told(version, &heads, &ints([1, 2])).map(|_| ()), expected, "{letters} letters in {version:?}");
+                let glued = |left: &Head, right: &Head| stretch(version, left, &[0; 9], right, &[0; 9], 1, 1).map(|part| part.len());
+                assert_eq!(glued(&head, &head), if fits { Ok(9) } else { Err(refused(2, 1, 0)) });
+                let beside = match letters {
+                    1 => Ok(9),
+                    _ if fits => Err(refused(8, 0, 0)), // two names, which don't agree
+                    _ => Err(refused(2, 2, 0)),
+                };
+                assert_eq!(glued(&short, &head), beside, "{letters} letters in {version:?}");
+                if fits {
+                    let bytes = packed_in(version, &heads, &ints([1, 2]));
+                    let bundle = Bundle::read(&bytes).unwrap();
+                    assert_eq!((bundle.version(), bundle.array(2).unwrap().head()), (version, &head));
+                }
+            }
+        }
+    }
+
+    #[test]
+    fn axes_of_every_number() {
+        let one = deep(1, 1);
+        for version in BOTH {
+            for axes in [0, 1, 2, 3, 4, 5, 6, 7, 8, 255, 256, 257, 258] {
+                let head = deep(axes, 8);
+                let fits = (1..=version.most_axes()).contains(&axes);
+                let expected = if fits { Ok(()) } else { Err(refused(1, 2, 0)) };
+                assert_eq!(told(version, &[one.clone(), head.clone()], &ints([1, 2])).map(|_| ()), expected, "{axes} axes in {version:?}");
+                let glued = stretch(version, &head, &[0; 9], &head, &[0; 9], 1, 2).map(|part| part.len());
+                assert_eq!(glued, if fits { Ok(9) } else { Err(refused(1, 1, 0)) }, "{axes} axes in {version:?}");
+            }
+        }
+    }
+
+    /// Told version 1, a name of nine letters is met where any bad name is: after what comes before its array's extent, and before the rest.
+    #[test]
+    fn a_long_name_in_turn() {
+        let (good, long) = (deep(1, 8), deep(1, 9));
+        let two = [good.clone(), long.clone()];
+        assert_eq!(told(ONE, &two, &ints([1, 2])), Err(refused(2, 2, 0)));
+        assert_eq!(told(ONE, &two, &[Cell::Truth(true), Cell::Int(2)]), Err(refused(3, 1, 1)), "array 1's cells come first");
+        assert_eq!(told(ONE, &two, &[]), Err(refused(1, 1, 0)), "array 1's cells come first");
+        assert_eq!(told(ONE, &two, &ints([1])), Err(refused(2, 2, 0)), "its own cells come after it");
+        assert_eq!(told(ONE, &two, &[Cell::Int(1), Cell::Truth(true)]), Err(refused(2, 2, 0)), "its own cells come after it");
+        assert_eq!(told(ONE, &two, &ints([1, 2, 3])), Err(refused(2, 2, 0)), "cells left over come after it");
+        assert_eq!(told(ONE, &[long.clone(), deep(5, 1)], &ints([1, 2])), Err(refused(2, 1, 0)), "array 2 comes after it");
+        assert_eq!(told(ONE, &[deep(5, 9), good.clone()], &ints([1, 2])), Err(refused(1, 1, 0)), "the axis count comes first");
+        assert_eq!(told(ONE, &vec![long.clone(); 5], &ints(1..=5)), Err(refused(1, 0, 0)), "the number of arrays comes first");
+        let mut out = [7; 60];
+        assert_eq!(pack(ONE, std::slice::from_ref(&long), &ints([1]), &mut out[..3]), Err(refused(2, 1, 0)), "14 is last");
+        assert_eq!(pack(ONE, &two, &ints([1, 2]), &mut out), Err(refused(2, 2, 0)));
+        assert_eq!(out, [7; 60]);
+
+        let glued = |left: &Head, right: &Head, cells: [usize; 2], axis| {
+            let [left_cells, right_cells] = cells.map(|bytes| vec![0; bytes]);
+            stretch(ONE, left, &left_cells, right, &right_cells, axis, 1).map(|part| part.len())
+        };
+        assert_eq!(glued(&good, &good, [9, 9], 1), Ok(9));
+        assert_eq!(glued(&good, &long, [8, 9], 1), Err(refused(1, 1, 0)), "the left cells come first");
+        assert_eq!(glued(&good, &long, [9, 8], 1), Err(refused(2, 2, 0)), "the right cells come after it");
+        assert_eq!(glued(&long, &good, [8, 8], 1), Err(refused(2, 1, 0)), "so do the left ones");
+        assert_eq!(glued(&good, &long, [9, 9], 5), Err(refused(2, 2, 0)), "the axis comes after it");
+        assert_eq!(glued(&deep(5, 9), &long, [9, 9], 1), Err(refused(1, 1, 0)), "the axis count comes first");
+    }
+
+    /// The requirements' example in either version: the same rows, by a recipe of that version only.
+    #[test]
+    fn eleven_hours_in_both() {
+        let old = roster();
+        let old = Bundle::read(&old).unwrap();
+        let heads: Vec<Head> = (1..=2).map(|k| old.array(k).unwrap().head().clone()).collect();
+        let cells: Vec<Cell> = (1..=2).flat_map(|k| old.array(k).unwrap().cells().collect::<Vec<Cell>>()).collect();
+        let recipe = |version: Version| {
+            let moved = Recipe::new(version).trim(1, &[(1, 2), (2, 3)]).shift(step(1), &[0, -1]).trim(2, &[(1, 2), (1, 2)]);
+            moved.pair(step(2), step(3), Operator::Minus).right_scalar(step(4), Operator::Less, Cell::Int(660))
+        };
+        for (version, other) in [(ONE, TWO), (TWO, ONE)] {
+            let bytes = packed_in(version, &heads, &cells);
+            let bundle = Bundle::read(&bytes).unwrap();
+            assert_eq!((bundle.version(), bundle.array(1), bundle.array(2)), (version, old.array(1), old.array(2)));
+            assert_eq!(bundle.recipe(), Recipe::new(version));
+            let rows: Vec<Row> = bundle.listing(&recipe(version)).unwrap().collect();
+            assert_eq!(rows, [Row { ordinality: 3, coordinate: vec![2, 1] }]);
+            assert_eq!(bundle.extent(&recipe(version)), old.extent(&rests()));
+            assert_eq!(bundle.plan(&recipe(version)), old.plan(&rests()));
+            let wrong = recipe(other);
+            assert_eq!(bundle.plan(&wrong), Err(refused(4, 0, 0)));
+            assert_eq!(bundle.extent(&wrong), Err(refused(4, 0, 0)));
+            assert_eq!(bundle.run(wrong.bytes(), &mut [0; 180]), Err(refused(4, 0, 0)));
+            assert_eq!(bundle.listing(&wrong).err(), Some(refused(4, 0, 0)));
+        }
+    }
+
+    /// Rows, references, heads of results and JSON on as many axes as a version has.
+    #[test]
+    fn every_rank() {
+        for version in BOTH {
+            for axes in 1..=version.most_axes() {
+                let mut head = deep(axes, version.most_letters());
+                head.axes.iter_mut().for_each(|axis| (axis.lower, axis.upper) = (4, 5));
+                let bytes = packed_in(version, std::slice::from_ref(&head), &ints(0..1 << axes));
+                let bundle = Bundle::read(&bytes).unwrap();
+                assert_eq!(bytes.len(), 6 + 2 + axes * (version.most_letters() + 16) + (CELL << axes));
+                let all = bundle.recipe().right_scalar(1, Operator::GreaterOrEqual, Cell::Int(0));
+                let rows: Vec<Row> = bundle.listing(&all).unwrap().collect();
+                assert_eq!((rows.len(), bundle.plan(&all).unwrap().row()), (1 << axes, 4 + 4 * axes));
+                for row in &rows {
+                    assert_eq!(bundle.refer(1, &row.coordinate), Ok(Cell::Int(i64::from(row.ordinality) - 1)));
+                }
+                for wrong in (0..=8).filter(|positions| *positions != axes) {
+                    assert_eq!(bundle.refer(1, &vec![4; wrong]), Err(refused(5, 1, 0)), "{wrong} positions for {axes} axes");
+                }
+                assert_eq!(bundle.extent(&all), Ok(Head { kind: Kind::Boolean, ..head.clone() }));
+                let text = bundle.array(1).unwrap().to_json().unwrap();
+                let (open, close) = ("[".repeat(axes), "]".repeat(axes));
+                assert!(text.starts_with(&format!("{{\"data\":{open}0,1")) && text.ends_with(&format!("{}{close}}}", (1 << axes) - 1)));
+            }
+        }
+    }
+
+    /// Slots for the most axes: a name, pair or amount for each, of full length; one more is no step.
+    #[test]
+    fn steps_of_full_length() {
+        for version in BOTH {
+            let (axes, letters) = (version.most_axes(), version.most_letters());
+            let head = deep(axes, letters);
+            let bytes = packed_in(version, std::slice::from_ref(&head), &ints([7]));
+            let bundle = Bundle::read(&bytes).unwrap();
+            let names: Vec<&str> = head.axes.iter().rev().map(|axis| axis.name.as_str()).collect();
+            let renamed = bundle.extent(&bundle.recipe().rename(1, &names)).unwrap();
+            assert_eq!(renamed.axes.iter().map(|axis| axis.name.as_str()).collect::<Vec<&str>>(), names);
+            let too_long = &LETTERS[..=letters];
+            let with_long: Vec<&str> = names[1..].iter().copied().chain([too_long]).collect();
+            assert_eq!(bundle.extent(&bundle.recipe().rename(1, &with_long)), Err(refused(9, 1, 0)));
+            let one_more: Vec<&str> = names.iter().copied().chain(["x"]).collect();
+            let moved = bundle.extent(&bundle.recipe().shift(1, &vec![9; axes]).reshape(step(1), &vec![(10, 11); axes])).unwrap();
+            assert!(moved.axes.iter().all(|axis| (axis.lower, axis.upper) == (10, 11)));
+            let no_steps = [
+                bundle.recipe().rename(1, &one_more),
+                bundle.recipe().trim(1, &vec![(1, 1); axes + 1]),
+                bundle.recipe().reshape(1, &vec![(1, 1); axes + 1]),
+                bundle.recipe().shift(1, &vec![0; axes + 1]),
+            ];
+            for recipe in no_steps {
+                assert_eq!(bundle.plan(&recipe), Err(refused(4, 1, 0)));
+            }
+        }
+    }
+
+    /// Text that a name of either version can't tell: refused with 2 in a head, with 9 in a rename, with 4 past the last axis.
+    #[test]
+    fn names_that_are_none() {
+        for version in BOTH {
+            let bytes = packed_in(version, &[deep(1, 1)], &ints([1]));
+            let bundle = Bundle::read(&bytes).unwrap();
+            for name in ["", &LETTERS[..=version.most_letters()], "a\0", "abcdefgh\0i", "\0", "é", "abcdefghÉ", "A", "abcdefg h"] {
+                let head = Head { kind: Kind::Int, axes: vec![Axis::new(name, 1, 1)] };
+                assert_eq!(told(version, &[head], &ints([1])), Err(refused(2, 1, 0)), "{name:?} in {version:?}");
+                assert_eq!(bundle.plan(&bundle.recipe().rename(1, &[name])), Err(refused(9, 1, 0)), "{name:?} in {version:?}");
+                assert_eq!(bundle.plan(&bundle.recipe().rename(1, &["a", name])), Err(refused(4, 1, 0)), "{name:?} in {version:?}");
+            }
+        }
+    }
+
+    /// Names are compared in all their letters.
+    #[test]
+    fn names_that_differ_in_the_last_letter() {
+        for version in BOTH {
+            let head = deep(2, version.most_letters());
+            let other = Head { axes: vec![head.axes[1].clone(), head.axes[0].clone()], ..head.clone() };
+            let bytes = packed_in(version, &[head.clone(), other.clone()], &ints([1, 2]));
+            let bundle = Bundle::read(&bytes).unwrap();
+            assert_eq!(bundle.plan(&bundle.recipe().pair(1, 2, Operator::Plus)), Err(refused(8, 1, 0)));
+            assert_eq!(stretch(version, &head, &[0; 9], &other, &[0; 9], 1, 1), Err(refused(8, 0, 0)));
+        }
+    }
+
+    /// Arrays of six axes lie where the engine says, and are read where they lie.
+    #[test]
+    fn arrays_lie_where_the_engine_says() {
+        let mut heads = [deep(6, 16), deep(1, 9), deep(5, 8), deep(6, 1)];
+        heads[2].kind = Kind::Float;
+        heads[0].axes[2].upper = 3;
+        let cells: Vec<Cell> = heads.iter().flat_map(|head| vec![Cell::Empty; head.cells()]).collect();
+        let bytes = packed_in(TWO, &heads, &cells);
+        let bundle = Bundle::read(&bytes).unwrap();
+        for (k, head) in (1..).zip(&heads) {
+            let mut said = [0; 16];
+            // SAFETY: each pointer and length are one slice's, and `said` overlaps none.
+            let number = unsafe { raw::rma_array(bytes.as_ptr(), bytes.len(), k, said.as_mut_ptr(), said.len()) };
+            let figure = |at: usize| u32::from_le_bytes(said[at..at + 4].try_into().unwrap()) as usize;
+            let array = bundle.array(k).unwrap();
+            assert_eq!((number, array.head()), (0, head));
+            assert_eq!((figure(0), figure(4), figure(8)), (head.kind as usize, head.axes.len(), head.cells()));
+            assert_eq!(array.bytes().as_ptr(), bytes[figure(12)..].as_ptr());
+        }
+    }
+
+    #[test]
+    fn the_longest_text() {
+        let mut head = deep(6, 16);
+        head.axes[0].upper = 4096;
+        let bytes = packed_in(TWO, &[head], &vec![Cell::Int(i64::MIN); 4096]);
+        assert_eq!(Bundle::read(&bytes).unwrap().array(1).unwrap().to_json().unwrap().len(), raw::JSON);
+    }
+
+    /// A head of 194 bytes, or nothing.
+    #[test]
+    fn a_whole_head_or_nothing() {
+        let bytes = packed_in(TWO, &[deep(1, 16)], &ints([1]));
+        let recipe = Recipe::new(TWO).single(1, Single::IsEmpty);
+        let (mut said, mut extent) = ([9; 16], [9; 200]);
+        let mut ask = |extent: &mut [u8]| {
+            let (at, len) = (extent.as_mut_ptr(), extent.len());
+            // SAFETY: each pointer and length are one slice's, and none overlaps another.
+            unsafe {
+                let recipe = recipe.bytes();
+                raw::rma_extent(bytes.as_ptr(), bytes.len(), recipe.as_ptr(), recipe.len(), at, len, said.as_mut_ptr(), said.len())
+            }
+        };
+        assert_eq!(ask(&mut extent[..193]), 14);
+        assert_eq!(extent, [9; 200], "no byte of a buffer that is too short");
+        assert_eq!(ask(&mut extent[..194]), 0);
+        assert_eq!(extent[..34], [&[3, 1][..], b"abcdefghijklmnoa", &[1, 0, 0, 0, 1, 0, 0, 0, 192, 189, 240, 255, 64, 66, 15, 0]].concat());
+        assert_eq!((&extent[34..194], &extent[194..]), (&[0; 160][..], &[9; 6][..]));
+        assert_eq!(said[..4], [194, 0, 0, 0]);
+    }
+
+    /// Other versions in a bundle's bytes.
+    #[test]
+    fn other_versions_are_refused() {
+        for version in BOTH {
+            let mut bytes = packed_in(version, &[deep(1, 1)], &ints([1]));
+            for (low, high) in [(0, 0), (3, 0), (1, 1), (2, 1), (0, 1), (0, 2), (255, 255)] {
+                (bytes[3], bytes[4]) = (low, high);
+                assert_eq!(Bundle::read(&bytes).err(), Some(refused(1, 0, 0)), "version {low} {high}");
+            }
+            let other = 3 - version as u8;
+            (bytes[3], bytes[4]) = (other, 0);
+            assert_ne!(Bundle::read(&bytes).err(), None, "the sizes of the other version");
+        }
     }
 }

@@ -8,25 +8,27 @@ use borrow.Author.Tests.{ne-eqb, le-leb, lt-leb}
 use lib.Dec.{eqb, leb}
 use lib.ListN.{length, getD, drop, length-drop}
 use lib.Seq.{drop-drop, getD-drop}
+use Rattle.paper.specs.declared.Sizes.{Sizes}
 use Rattle.paper.specs.declared.Name.{Name}
 use Rattle.paper.specs.declared.Axis.{Axis}
 use Rattle.paper.specs.declared.Form.{Form}
 use Rattle.paper.specs.declared.Head.{Head}
 use Rattle.paper.specs.declared.Extent.{Extent}
 use Rattle.paper.specs.declared.Refusal.{Refusal}
-use Rattle.paper.specs.Limits.{mostAxes, mostCells, typeBytes, axisBytes, cellBytes}
+use Rattle.paper.specs.Limits.{mostCells, typeBytes, cellBytes}
 use Rattle.paper.specs.Refusals.{got, refused, _>>=_, _>>_, refusal, ensure, between, badBytes1, badExtent2, badCell3}
 use Rattle.paper.specs.Axes.{cells, goodExtent, within, Shape, shaped}
 use Rattle.paper.specs.Cells.{isType}
-use Rattle.paper.specs.Bundle.{nameFrom, axisOf, maximumOf, eachAxis, arrayOf, readArray}
+use Rattle.paper.specs.Bundle.{nameOf, axisOf, maximumOf, eachAxis, arrayOf, readArray}
 use Rattle.paper.specs.Answers.{extentOf, namesOf, shapeOf}
+use Rattle.laws.specs.Sizes.{Fits}
 use Rattle.laws.specs.Tests.{between-true}
 use Rattle.laws.specs.Judged.{firstBad, cellsFrom, judged, cells-judged}
 use Rattle.laws.specs.Answers.{unless-refused, formOf, form-shape}
 use Rattle.extent.specs.Judged.{cellsWithin, within-zero, within-some}
 use Rattle.bundle.specs.declared.ArrayRead.{ArrayRead}
 use Rattle.bundle.specs.Axes.{length-each}
-use Rattle.bundle.specs.Read.{cellsIn, arrayAt, oneOf, noArray, Fit, JudgedArray, ReadArray}
+use Rattle.bundle.specs.Read.{cellsIn, axesIn, arrayAt, oneOf, noArray, Fit, JudgedArray, ReadArray}
 
 -- ---- an answer that is a refusal
 
@@ -45,15 +47,16 @@ module _ (bs : List ℕ) (x : Refusal) (h : x .number ≡ 0 → ⊥) where
       }
 
   -- from its first byte
-  pub read-none : (at k : ℕ) (r : ArrayRead) → r ≡ noArray x → refused x ≡ readArray k (drop at bs) → ReadArray bs at k r
-  read-none at k r e q =
-      let z : r .refusal .number ≡ 0 → ⊥ = λ f. h (sym (ap (λ (o : ArrayRead). o .refusal .number) e) ∙ f) in
+  pub read-none : (z : Sizes) (at k : ℕ) (r : ArrayRead) → r ≡ noArray x → refused x ≡ readArray z k (drop at bs) → ReadArray z bs at k r
+  read-none z at k r e q =
+      let n : r .refusal .number ≡ 0 → ⊥ = λ f. h (sym (ap (λ (o : ArrayRead). o .refusal .number) e) ∙ f) in
       record {
         said = ap (oneOf bs) e ∙ unless-refused x _ h ∙ q;
         end = omega (arith, ap (λ (o : ArrayRead). o .end) e);
-        fit = λ f. absurd (z f);
-        tidy = λ f. absurd (z f);
-        lies = λ f. absurd (z f);
+        fit = λ f. absurd (n f);
+        tidy = λ f. absurd (n f);
+        lies = λ f. absurd (n f);
+        rank = λ f. absurd (n f);
       }
 
 -- ---- from the bytes after the axes
@@ -113,40 +116,40 @@ module _ (k : ℕ) (s : List ℕ) (from : ℕ) (form : Form) (n : ℕ)
 
 -- ---- from its first byte
 
-module _ (k : ℕ) (s : List ℕ) (at t n : ℕ) (et : t ≡ getD s at 0) (en : n ≡ getD s (at + 1) 0) where
+module _ (z : Sizes) (fits : Fits z) (k : ℕ) (s : List ℕ) (at t n : ℕ) (et : t ≡ getD s at 0) (en : n ≡ getD s (at + 1) 0) where
   abbrev N : List Name
-  N = eachAxis nameFrom n (drop (at + typeBytes) s)
+  N = eachAxis z (nameOf z) n (drop (at + typeBytes) s)
 
   abbrev E : List Axis
-  E = eachAxis axisOf n (drop (at + typeBytes) s)
+  E = eachAxis z (axisOf z) n (drop (at + typeBytes) s)
 
   abbrev M : List Axis
-  M = eachAxis maximumOf n (drop (at + typeBytes) s)
+  M = eachAxis z (maximumOf z) n (drop (at + typeBytes) s)
 
-  moved : readArray k (drop at s)
-      ≡ (ensure (isType t) badBytes1 k >> (ensure (between 1 mostAxes n) badBytes1 k >> (ensure (leb (typeBytes + n * axisBytes) (length s - at)) badBytes1 k
-      >> arrayOf k (shaped t N E M) (drop (at + typeBytes + n * axisBytes) s))))
+  moved : readArray z k (drop at s)
+      ≡ (ensure (isType t) badBytes1 k >> (ensure (between 1 (z .axes) n) badBytes1 k >> (ensure (leb (typeBytes + n * z .axis) (length s - at)) badBytes1 k
+      >> arrayOf k (shaped t N E M) (drop (at + typeBytes + n * z .axis) s))))
   unfolding readArray
   moved =
-      let z : at + 0 ≡ at = omega arith in
-      let p : getD (drop at s) 0 0 ≡ t = getD-drop at s 0 0 ∙ ap (λ (j : ℕ). getD s j 0) z ∙ sym et in
+      let o : at + 0 ≡ at = omega arith in
+      let p : getD (drop at s) 0 0 ≡ t = getD-drop at s 0 0 ∙ ap (λ (j : ℕ). getD s j 0) o ∙ sym et in
       let r : getD (drop at s) 1 0 ≡ n = getD-drop at s 1 0 ∙ sym en in
-      let w : at + (typeBytes + n * axisBytes) ≡ at + typeBytes + n * axisBytes = omega arith in
-      rw (p, r, length-drop at s, drop-drop typeBytes at s, drop-drop (typeBytes + n * axisBytes) at s, w)
+      let w : at + (typeBytes + n * z .axis) ≡ at + typeBytes + n * z .axis = omega arith in
+      rw (p, r, length-drop at s, drop-drop typeBytes at s, drop-drop (typeBytes + n * z .axis) at s, w)
 
-  pub head-type : isType t ≡ false → refused (refusal badBytes1 k 0) ≡ readArray k (drop at s)
+  pub head-type : isType t ≡ false → refused (refusal badBytes1 k 0) ≡ readArray z k (drop at s)
   head-type e = sym (moved ∙ rw e)
 
   module _ (e : isType t ≡ true) where
-    pub head-count : between 1 mostAxes n ≡ false → refused (refusal badBytes1 k 0) ≡ readArray k (drop at s)
+    pub head-count : between 1 (z .axes) n ≡ false → refused (refusal badBytes1 k 0) ≡ readArray z k (drop at s)
     head-count f = sym (moved ∙ rw (e, f))
 
-    module _ (f : between 1 mostAxes n ≡ true) where
-      pub head-short : length s - at < typeBytes + n * axisBytes → refused (refusal badBytes1 k 0) ≡ readArray k (drop at s)
-      head-short h = let g : leb (typeBytes + n * axisBytes) (length s - at) ≡ false = lt-leb _ _ h in sym (moved ∙ rw (e, f, g))
+    module _ (f : between 1 (z .axes) n ≡ true) where
+      pub head-short : length s - at < typeBytes + n * z .axis → refused (refusal badBytes1 k 0) ≡ readArray z k (drop at s)
+      head-short h = let g : leb (typeBytes + n * z .axis) (length s - at) ≡ false = lt-leb _ _ h in sym (moved ∙ rw (e, f, g))
 
       -- what array_of says of the form that was read
-      module _ (h : typeBytes + n * axisBytes ≤ length s - at) (l : List Name) (x m : Extent)
+      module _ (h : typeBytes + n * z .axis ≤ length s - at) (l : List Name) (x m : Extent)
           (el : l ≡ namesOf N) (ex : x ≡ extentOf E) (em : m ≡ extentOf M) where
         abbrev form : Form
         form = record { kind = t; names = l; extent = x; maximum = m }
@@ -156,28 +159,29 @@ module _ (k : ℕ) (s : List ℕ) (at t n : ℕ) (et : t ≡ getD s at 0) (en : 
 
         shape-is : shapeOf form ≡ shaped t N E M
         shape-is =
-            let few = between-true mostAxes n f .1 in
+            let few = between-true (z .axes) n f .1 in
             let d = drop (at + typeBytes) s in
-            let long = length-each axisOf n d in
-            ap shapeOf form-is ∙ form-shape (shaped t N E M) (length-each nameFrom n d ∙ sym long) (omega (arith, long))
-            (omega (arith, length-each maximumOf n d))
+            let long = length-each z (axisOf z) n d in
+            ap shapeOf form-is ∙ form-shape (shaped t N E M) (length-each z (nameOf z) n d ∙ sym long) (omega (arith, long, fits .axes))
+            (omega (arith, length-each z (maximumOf z) n d, fits .axes))
 
-        pub head-rest : (r : ArrayRead) → JudgedArray s (at + typeBytes + n * axisBytes) k form r → ReadArray s at k r
+        pub head-rest : (r : ArrayRead) → JudgedArray s (at + typeBytes + n * z .axis) k form r → ReadArray z s at k r
         head-rest r j =
-            let g : leb (typeBytes + n * axisBytes) (length s - at) ≡ true = le-leb _ _ h in
-            let from : ℕ = at + typeBytes + n * axisBytes in
-            let wide : length (shapeOf form .axes) ≡ n = ap (λ (y : Shape). length (y .axes)) shape-is ∙ length-each axisOf n (drop (at + typeBytes) s) in
+            let g : leb (typeBytes + n * z .axis) (length s - at) ≡ true = le-leb _ _ h in
+            let from : ℕ = at + typeBytes + n * z .axis in
+            let wide : length (shapeOf form .axes) ≡ n = ap (λ (y : Shape). length (y .axes)) shape-is ∙ length-each z (axisOf z) n (drop (at + typeBytes) s) in
             record {
               said = j .said ∙ ap (λ (y : Shape). arrayOf k y (drop from s)) shape-is ∙ sym (moved ∙ rw (e, f, g));
               end = j .end;
               fit = j .fit;
-              tidy = λ z.
-                  let w = j .held z in
-                  let y : shapeOf (r .head .form) ≡ shaped t N E M = ap (λ (o : Head). shapeOf (o .form)) w ∙ shape-is in
-                  w ∙ (λ i. record { form = (form-is ∙ sym (ap formOf y)) i; at = ap (λ (o : Head). o .at) (sym w) i; cells = ap (λ (o : Head). cellsIn (o .form)) (sym w) i });
-              lies = λ z.
-                  let w = j .held z in
+              tidy = λ y.
+                  let w = j .held y in
+                  let q : shapeOf (r .head .form) ≡ shaped t N E M = ap (λ (o : Head). shapeOf (o .form)) w ∙ shape-is in
+                  w ∙ (λ i. record { form = (form-is ∙ sym (ap formOf q)) i; at = ap (λ (o : Head). o .at) (sym w) i; cells = ap (λ (o : Head). cellsIn (o .form)) (sym w) i });
+              lies = λ y.
+                  let w = j .held y in
                   let a : r .head .at ≡ from = ap (λ (o : Head). o .at) w in
                   let l : length (shapeOf (r .head .form) .axes) ≡ n = ap (λ (o : Head). length (shapeOf (o .form) .axes)) w ∙ wide in
-                  record { begins = omega arith; ends = j .past z ∙ ap₂ (λ (x y : ℕ). x + y * cellBytes) (sym a) (sym (ap (λ (o : Head). cellsIn (o .form)) w)) };
+                  record { begins = a ∙ (omega arith) ∙ ap (λ (m : ℕ). at + (typeBytes + m * z .axis)) (sym l); ends = j .past y ∙ ap₂ (λ (x y : ℕ). x + y * cellBytes) (sym a) (sym (ap (λ (o : Head). cellsIn (o .form)) w)) };
+              rank = λ y. let few = between-true (z .axes) n f .1 in omega (arith, ap axesIn (j .held y), wide);
             }

@@ -3,6 +3,8 @@
 ghost use mathlib.Core.Path.{_≡_};
 ghost use Prim.Native.Nat.{_≤_};
 ghost use lib.ListN.{length};
+ghost use Rattle.paper.specs.declared.Version.the-variants.{One};
+ghost use Rattle.paper.specs.Limits.{sizesOf};
 ghost use Rattle.paper.specs.Refusals.{refused, refusal};
 ghost use Rattle.laws.specs.Answers.{noHead, readingOf};
 ghost use Rattle.bundle.specs.Read.{noArray, JudgedArray, ReadArray, ReadAll};
@@ -11,8 +13,7 @@ use extent::extent_cells;
 use judged::first_bad;
 use mark::byte_at;
 use mark::is_marked;
-use paper::AXES;
-use paper::AXIS_BYTES;
+use mark::version_in;
 use paper::CELL_BYTES;
 use paper::Form;
 use paper::Head;
@@ -21,11 +22,13 @@ use paper::OPENING_BYTES;
 use paper::Reading;
 use paper::Refusal;
 use paper::TYPE_BYTES;
+use paper::Version;
 use refusals::in_range;
 use refusals::none;
 use refusals::refuse_at;
 use shape::empty;
 use shape::names::no_names;
+use versions::sizes;
 
 pub mod axes;
 pub mod mark;
@@ -100,22 +103,23 @@ pub fn array_of(s: &[u8], from: usize, k: u32, form: Form) -> ArrayRead
 }
 
 // Array k from the byte `at` on: its type, axis count and axis bytes, and then the above.
-fn array_at(s: &[u8], at: usize, k: u32) -> ArrayRead
+fn array_at(s: &[u8], v: Version, at: usize, k: u32) -> ArrayRead
     requires { ⌜ at ≤ length (now s) ⌝ }
-    ensures { λ r. ⌜ ReadArray (now (s .entry)) at k r ⌝ }
+    ensures { λ r. ⌜ ReadArray (sizesOf v) (now (s .entry)) at k r ⌝ }
 {
+    let z = sizes(v);
     let kind = byte_at(s, at);
     let rank = byte_at(s, at + 1) as usize;
     if !in_range(kind as usize, paper::TYPES) {
         return no_array(1, k, 0);
     }
-    if !in_range(rank, AXES) {
+    if !in_range(rank, z.axes) {
         return no_array(1, k, 0);
     }
-    if s.len() - at < TYPE_BYTES + rank * AXIS_BYTES {
+    if s.len() - at < TYPE_BYTES + rank * z.axis {
         return no_array(1, k, 0);
     }
-    let bounds = bounds_at(s, at + TYPE_BYTES, rank);
+    let bounds = bounds_at(v, s, at + TYPE_BYTES, rank);
     let names = bounds.names;
     let extent = bounds.extent;
     let maximum = bounds.maximum;
@@ -125,16 +129,17 @@ fn array_at(s: &[u8], at: usize, k: u32) -> ArrayRead
         extent,
         maximum,
     };
-    array_of(s, at + TYPE_BYTES + rank * AXIS_BYTES, k, form)
+    array_of(s, at + TYPE_BYTES + rank * z.axis, k, form)
 }
 
 fn no_reading(refusal: Refusal) -> Reading
-    ensures { λ r. ⌜ r ≡ readingOf (refused refusal) ⌝ }
+    ensures { λ r. ⌜ r ≡ readingOf One (refused refusal) ⌝ }
 {
     let head = no_head();
     let heads = [head; paper::ARRAYS];
     Reading {
         refusal,
+        version: Version::One,
         count: 0,
         heads,
     }
@@ -152,7 +157,8 @@ pub fn read(s: &[u8]) -> Reading
     if s.len() < OPENING_BYTES {
         return no_reading(bad);
     }
-    if !is_marked(s) {
+    let v = version_in(s);
+    if !is_marked(s, v) {
         return no_reading(bad);
     }
     let n = byte_at(s, MARK_BYTES) as usize;
@@ -164,7 +170,7 @@ pub fn read(s: &[u8]) -> Reading
     let mut at = OPENING_BYTES;
     let mut i: usize = 0;
     while i < n {
-        let one = array_at(s, at, (i + 1) as u32);
+        let one = array_at(s, v, at, (i + 1) as u32);
         if one.refusal.number != 0 {
             return no_reading(one.refusal);
         }
@@ -179,6 +185,7 @@ pub fn read(s: &[u8]) -> Reading
     let refusal = none();
     Reading {
         refusal,
+        version: v,
         count: n,
         heads,
     }

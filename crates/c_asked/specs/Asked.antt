@@ -6,6 +6,8 @@ use mathlib.Core.Option.{none, some}
 use lib.Dec.{eqb, leb}
 use lib.ListN.{take, drop, length, getD}
 use lib.IntN.{ℤ}
+use Rattle.paper.specs.declared.Sizes.{Sizes}
+use Rattle.paper.specs.declared.Part.{Part}
 use Rattle.paper.specs.declared.Total.{Total}
 use Rattle.paper.specs.declared.Total.the-variants.{Filled, Trues, Smallest, Largest, Sum, Average}
 use Rattle.paper.specs.declared.Totalled.{Totalled}
@@ -13,11 +15,10 @@ use Rattle.paper.specs.Limits.{mostArrays, mostAxes, limitBytes, typeBytes}
 use Rattle.paper.specs.Refusals.{Res, got, refused, _>>=_, if_then_else_, refusal, unknown4}
 use Rattle.paper.specs.Numbers.{leOf, leBytes, signedAt, nth, over}
 use Rattle.paper.specs.Axes.{Shape, shaped}
-use Rattle.paper.specs.Bundle.{nameFrom, axisOf, maximumOf, eachAxis, readBundle, After, pack}
-use Rattle.paper.specs.Stretch.{Side}
+use Rattle.paper.specs.Bundle.{versionTold, nameOf, axisOf, maximumOf, eachAxis, readBundle, packed, After, putInto}
+use Rattle.paper.specs.Stretch.{Side, stretch}
 use Rattle.paper.specs.Reference.{chosen}
 use Rattle.paper.specs.Totals.{totals}
-use Rattle.paper.specs.Answers.{axisCount}
 use Rattle.pack.specs.Heads.{headLength}
 
 -- ---- pieces of one size
@@ -39,30 +40,40 @@ countOf bundle = do
   As ← readBundle bundle
   got (length As)
 
--- ---- heads: type, axis count, and room for as many axes as an array may have
+-- ---- heads: type, axis count, and room for as many axes as the version's arrays may have
+
+-- as many axes as the count tells of; none where the version has no room for so many
+abbrev pub headCount : Sizes → ℕ → ℕ
+headCount z n = if leb n (z .axes) then n else 0
 
 -- the shape that the first bytes describe
-unfoldable pub shapeIn : List ℕ → Shape
-shapeIn bs =
-    let n : ℕ = axisCount (getD bs 1 0) in
+unfoldable pub shapeIn : Sizes → List ℕ → Shape
+shapeIn z bs =
+    let n : ℕ = headCount z (getD bs 1 0) in
     let axes : List ℕ = drop typeBytes bs in
-    shaped (getD bs 0 0) (eachAxis nameFrom n axes) (eachAxis axisOf n axes) (eachAxis maximumOf n axes)
+    shaped (getD bs 0 0) (eachAxis z (nameOf z) n axes) (eachAxis z (axisOf z) n axes) (eachAxis z (maximumOf z) n axes)
 
 -- heads, one after the other; bytes of another length are no heads
-abbrev pub headsIn : List ℕ → List Shape
-headsIn bs = eachPiece shapeIn headLength (pieces mostArrays headLength (length bs)) bs
+abbrev pub headsIn : Sizes → List ℕ → List Shape
+headsIn z bs = eachPiece (shapeIn z) (headLength z) (pieces mostArrays (headLength z) (length bs)) bs
 
--- packing arrays of these heads
-abbrev pub packHeads : List ℕ → List ℕ → List ℕ → After
-packHeads heads cells out = pack (headsIn heads) cells out
+-- packing arrays of these heads, in the version told
+abbrev pub packHeads : ℕ → List ℕ → List ℕ → List ℕ → After
+packHeads v heads cells out = putInto out (versionTold v >>= (λ z. packed z (headsIn z heads) cells (length out)))
 
 -- a side's shape: a head of another length has no type and no axis
-abbrev pub sideShape : List ℕ → Shape
-sideShape head = if eqb (length head) headLength then shapeIn head else shaped 0 [] [] []
+abbrev pub sideShape : Sizes → List ℕ → Shape
+sideShape z head = if eqb (length head) (headLength z) then shapeIn z head else shaped 0 [] [] []
 
 -- a side of a stretch, from its head and its cells
-abbrev pub sideIn : List ℕ → List ℕ → Side
-sideIn head cells = record { type = sideShape head .type; names = sideShape head .names; axes = sideShape head .axes; bytes = cells }
+abbrev pub sideIn : Sizes → List ℕ → List ℕ → Side
+sideIn z head cells =
+    record { type = sideShape z head .type; names = sideShape z head .names; axes = sideShape z head .axes; bytes = cells }
+
+-- the stretch of two such sides, in the version told
+abbrev pub stretchHeads : ℕ → List ℕ → List ℕ → List ℕ → List ℕ → ℕ → ℕ → Res Part
+stretchHeads v leftHead left rightHead right k o =
+    versionTold v >>= (λ z. stretch v (sideIn z leftHead left) (sideIn z rightHead right) k o)
 
 -- ---- a coordinate
 

@@ -2,20 +2,19 @@
 ghost use mathlib.Core.Path.{_≡_};
 ghost use Prim.Native.Nat.{_+_, _≤_, _<_};
 ghost use lib.ListN.{length, drop};
-ghost use Rattle.paper.specs.Limits.{limitBytes};
+ghost use Rattle.paper.specs.Limits.{limitBytes, sizesOf};
 ghost use Rattle.paper.specs.Numbers.{signedAt};
 ghost use Rattle.paper.specs.Reference.{reference, walk};
 ghost use Rattle.paper.specs.Answers.{referenceSaid, seenSaid, totalSaid};
 ghost use Rattle.laws.specs.Answers.{formOf};
 ghost use Rattle.pack.specs.Heads.{headLength};
-ghost use Rattle.c_asked.specs.Asked.{pieces, sideShape, coordinateIn, placeIn, placeAfter, noTotal, totalAsked};
+ghost use Rattle.c_asked.specs.Asked.{pieces, headCount, sideShape, coordinateIn, placeIn, placeAfter, noTotal, totalAsked};
 ghost use Rattle.c_asked.specs.Heads.{formIn, HeadsIn};
 use bundle::axes::bounds_at;
 use bundle::no_head;
 use cell::bytes::half;
 use cell::bytes::put4;
-use extent::axis_count;
-use pack::put::WHOLE_HEAD;
+use pack::put::whole_head;
 use paper::Form;
 use paper::LIMIT_BYTES;
 use paper::Ordinality;
@@ -23,12 +22,14 @@ use paper::ReferenceAnswer;
 use paper::TYPE_BYTES;
 use paper::Total;
 use paper::TotalAnswer;
+use paper::Version;
 use paper::WalkAnswer;
 use refer::choose;
 use refer::refer;
 use refer::walk_step;
 use refusals::refuse;
 use totals::total;
+use versions::sizes;
 
 // The forms of the arrays to be packed, and how many.
 pub struct Forms {
@@ -38,7 +39,7 @@ pub struct Forms {
 
 // How many pieces of `size` bytes n bytes are; none where they are no whole pieces or more than `most`.
 fn pieces_of(most: usize, size: usize, n: usize) -> usize
-    requires { ⌜ (0 < size) × (size ≤ 98) × (most ≤ 4) ⌝ }
+    requires { ⌜ (0 < size) × (size ≤ 194) × (most ≤ 6) ⌝ }
     ensures { λ r. ⌜ r ≡ pieces most size n ⌝ }
 {
     if n % size != 0 {
@@ -52,14 +53,25 @@ fn pieces_of(most: usize, size: usize, n: usize) -> usize
 
 // ---- heads
 
+// As many axes as a head's count tells of; none where the version's arrays have no so many.
+fn head_count(v: Version, told: usize) -> usize
+    ensures { λ r. ⌜ r ≡ headCount (sizesOf v) told ⌝ }
+{
+    let z = sizes(v);
+    if told <= z.axes {
+        return told;
+    }
+    0
+}
+
 // The form that the head at `at` describes.
-fn form_at(s: &[u8], at: usize) -> Form
-    requires { ⌜ at + headLength ≤ length (now s) ⌝ }
-    ensures { λ r. ⌜ r ≡ formIn (drop at (now (s .entry))) ⌝ }
+fn form_at(v: Version, s: &[u8], at: usize) -> Form
+    requires { ⌜ at + headLength (sizesOf v) ≤ length (now s) ⌝ }
+    ensures { λ r. ⌜ r ≡ formIn (sizesOf v) (drop at (now (s .entry))) ⌝ }
 {
     let kind = s[at];
-    let rank = axis_count(s[at + 1] as usize);
-    let bounds = bounds_at(s, at + TYPE_BYTES, rank);
+    let rank = head_count(v, s[at + 1] as usize);
+    let bounds = bounds_at(v, s, at + TYPE_BYTES, rank);
     let names = bounds.names;
     let extent = bounds.extent;
     let maximum = bounds.maximum;
@@ -72,16 +84,17 @@ fn form_at(s: &[u8], at: usize) -> Form
 }
 
 // The forms of the arrays to be packed.
-pub fn forms_in(heads: &[u8]) -> Forms
-    ensures { λ r. ⌜ HeadsIn (now (heads .entry)) r ⌝ }
+pub fn forms_in(v: Version, heads: &[u8]) -> Forms
+    ensures { λ r. ⌜ HeadsIn (sizesOf v) (now (heads .entry)) r ⌝ }
 {
-    let count = pieces_of(paper::ARRAYS, WHOLE_HEAD, heads.len());
+    let size = whole_head(v);
+    let count = pieces_of(paper::ARRAYS, size, heads.len());
     let none = no_head();
     let blank = none.form;
     let mut forms = [blank; paper::ARRAYS];
     let mut i: usize = 0;
     while i < count {
-        let form = form_at(heads, i * WHOLE_HEAD);
+        let form = form_at(v, heads, i * size);
         forms[i] = form;
         i += 1;
     }
@@ -89,14 +102,14 @@ pub fn forms_in(heads: &[u8]) -> Forms
 }
 
 // The form of one side of a stretch: a head of another length has no type and no axis.
-pub fn side_form(head: &[u8]) -> Form
-    ensures { λ r. ⌜ r ≡ formOf (sideShape (now (head .entry))) ⌝ }
+pub fn side_form(v: Version, head: &[u8]) -> Form
+    ensures { λ r. ⌜ r ≡ formOf (sideShape (sizesOf v) (now (head .entry))) ⌝ }
 {
-    if head.len() != WHOLE_HEAD {
+    if head.len() != whole_head(v) {
         let none = no_head();
         return none.form;
     }
-    form_at(head, 0)
+    form_at(v, head, 0)
 }
 
 // ---- a reference

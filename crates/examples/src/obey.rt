@@ -1,6 +1,7 @@
 // A command of the script, told by its first letter: it puts something on the desk, or calls the engine and prints what it gives.
 //
-//     new                              nothing on the desk
+//     new                              nothing on the desk, and version 1 told
+//     declare VERSION                  the version told from here on: of steps, of a bundle made, of glued arrays
 //     array TYPE NAME LOWER UPPER MAXIMUM-LOWER MAXIMUM-UPPER ..
 //     cells CELL ..                    the cells of the arrays, in turn
 //     bundle [BYTES]                   the arrays packed; into so many bytes, and the answer
@@ -66,7 +67,7 @@ fn question(
     bundle: &[u8],
 ) {
     let arrays = first(bundle, desk.bundle);
-    ask_array(command, arrays, n, args, kinds);
+    ask_array(command, desk.version, arrays, n, args, kinds);
     ask_recipe(command, arrays, first(steps, desk.steps), args);
 }
 

@@ -9,13 +9,15 @@ use native.Mathlib.Omega.{arith}
 use lib.Dec.{leb}
 use lib.ListN.{length, take, drop, getD, drop-of-length-le}
 use lib.Seq.{length-take-le}
-use Rattle.paper.specs.Numbers.{alike}
+use Rattle.paper.specs.Numbers.{zeros, alike}
+use Rattle.paper.specs.Bundle.{namesFit}
 use Rattle.laws.specs.Loops.{drop-first-cons}
+use Rattle.paper.specs.declared.Sizes.{Sizes}
 use Rattle.paper.specs.declared.Name.{Name}
 use Rattle.paper.specs.declared.Axis.{Axis}
 use Rattle.paper.specs.declared.Extent.{Extent}
 use Rattle.paper.specs.Limits.{reach}
-use Rattle.paper.specs.Axes.{goodName, sameName, named, goodNames, noName, goodLimits, noAxis}
+use Rattle.paper.specs.Axes.{lettersOf, goodName, sameName, named, goodNames, noName, goodLimits, noAxis}
 use Rattle.paper.specs.Answers.{axesOf}
 use Rattle.laws.specs.Limits.{Sound}
 use Rattle.extent.specs.Rank.{Rank, axisNo, axes-up, axes-end}
@@ -65,6 +67,16 @@ module _ (N : List Name) (r : ℕ) (h : r ≤ length N) (i : ℕ) where
   pub names-end : r ≤ i → true ≡ goodNames (drop i (take r N))
   unfolding goodNames
   names-end b = rw (none-left b)
+
+-- each no longer than a version's names
+module _ (z : Sizes) (N : List Name) (r : ℕ) (h : r ≤ length N) (i : ℕ) where
+  pub fit-up : i < r → namesFit z (drop i (take r N)) ≡ (zeros (drop (z .name) (lettersOf (getD N i noName))) && namesFit z (drop (i + 1) (take r N)))
+  unfolding namesFit
+  fit-up b = rw (left N r h i b)
+
+  pub fit-end : r ≤ i → true ≡ namesFit z (drop i (take r N))
+  unfolding namesFit
+  fit-end b = rw (none-left N r h i b)
 
 -- two lists of names in step
 module _ (M N : List Name) (r : ℕ) (h : r ≤ length M) (k : r ≤ length N) (i : ℕ) where

@@ -1,14 +1,18 @@
 // Names judged and compared: a letter, then letters, digits or underscores, padded with zeros; no two of an array equal. Names are
 // compared in step, the first with the first.
 ghost use mathlib.Core.Path.{_≡_};
-ghost use Prim.Native.Nat.{_≤_};
+ghost use mathlib.Core.List.{List, _++_};
+ghost use Prim.Native.Nat.{ℕ, _-_, _≤_};
 ghost use lib.ListN.{take, drop};
-ghost use Rattle.paper.specs.Limits.{mostAxes, nameBytes};
-ghost use Rattle.paper.specs.Numbers.{leBytes, alike};
-ghost use Rattle.paper.specs.Axes.{inName, isName, sameName, named, goodNames};
+ghost use Rattle.paper.specs.Limits.{mostAxes, halfName, sizesOf};
+ghost use Rattle.paper.specs.Numbers.{leBytes, zeros, alike};
+ghost use Rattle.paper.specs.Axes.{inName, nameRest, lettersOf, goodName, sameName, named, goodNames};
+ghost use Rattle.paper.specs.Bundle.{namesFit};
+ghost use Rattle.extent.specs.Names.{Left};
 use paper::AXES;
-use paper::NAME_BYTES;
+use paper::HALF_NAME;
 use paper::Name;
+use paper::Version;
 
 // A letter, a digit or an underscore: 97 to 122, 48 to 57, 95.
 fn in_name(b: u64) -> bool
@@ -29,33 +33,75 @@ fn in_name(b: u64) -> bool
     b <= 122
 }
 
-// The eight bytes of n are a name.
-fn is_name(n: u64) -> bool
-    ensures { λ r. ⌜ r ≡ isName (leBytes nameBytes n) ⌝ }
+// The bytes of n from the i-th on, and then others: letters all of n, and `full` tells whether the others go on so; or letters and then
+// zeros to the end of n, and `blank` whether the others are zeros.
+fn goes_on(n: u64, i: usize, full: bool, blank: bool) -> bool
+    requires { ⌜ Left i n ⌝ }
+    ensures { λ r. ⌜ ((R : List ℕ) → full ≡ nameRest R → blank ≡ zeros R → r ≡ nameRest (leBytes (halfName - i) n ++ R)) ⌝ }
 {
-    if n % 256 < 97 {
-        return false;
-    }
-    if 122 < n % 256 {
-        return false;
-    }
-    let mut left = n / 256;
-    let mut i: usize = 1;
-    while i < NAME_BYTES {
+    let mut left = n;
+    let mut at = i;
+    while at < HALF_NAME {
         if !in_name(left % 256) {
-            return left == 0;
+            if left != 0 {
+                return false;
+            }
+            return blank;
         }
         left = left / 256;
-        i += 1;
+        at += 1;
     }
-    true
+    full
+}
+
+// The letters are a name.
+fn is_name(n: Name) -> bool
+    ensures { λ r. ⌜ r ≡ goodName n ⌝ }
+{
+    let initial = n.first % 256;
+    if initial < 97 {
+        return false;
+    }
+    if 122 < initial {
+        return false;
+    }
+    let last = goes_on(n.last, 0, true, true);
+    goes_on(n.first / 256, 1, last, n.last == 0)
 }
 
 // Both are one name.
 fn same_name(m: Name, n: Name) -> bool
     ensures { λ r. ⌜ r ≡ sameName m n ⌝ }
 {
-    m.first == n.first
+    if m.first != n.first {
+        return false;
+    }
+    m.last == n.last
+}
+
+// The name has no more letters than the version's names.
+fn name_fits(v: Version, n: Name) -> bool
+    ensures { λ r. ⌜ r ≡ zeros (drop (sizesOf v .name) (lettersOf n)) ⌝ }
+{
+    match v {
+        Version::One => return n.last == 0,
+        Version::Two => return true,
+    }
+}
+
+// So for each of the first `rank` names.
+pub fn names_fit(v: Version, names: [Name; AXES], rank: usize) -> bool
+    requires { ⌜ rank ≤ mostAxes ⌝ }
+    ensures { λ r. ⌜ r ≡ namesFit (sizesOf v) (take rank names) ⌝ }
+{
+    let mut i = 0;
+    while i < rank {
+        if !name_fits(v, names[i]) {
+            return false;
+        }
+        i += 1;
+    }
+    true
 }
 
 // One of the first `rank` names, from `first` on, is n.
@@ -81,7 +127,7 @@ pub fn good_names(names: [Name; AXES], rank: usize) -> bool
     let mut i = 0;
     while i < rank {
         let n = names[i];
-        if !is_name(n.first) {
+        if !is_name(n) {
             return false;
         }
         if is_named(n, names, rank, i + 1) {

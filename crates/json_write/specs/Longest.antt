@@ -1,5 +1,5 @@
 -- The longest text: an array that was read is valid, so no cell takes over 20 bytes; on d axes n cells take at most 10 + n * (19 + 2d)
--- bytes. So a buffer of 110,602 bytes holds every text, and one text needs all of them.
+-- bytes. So a buffer of 126,986 bytes holds every text, and one text needs all of them.
 use Prim.Native.String.{String}
 use Prim.Native.Nat.{ℕ, zero, suc, _+_, _*_, _≤_}
 use mathlib.Core.Path.{_≡_, refl, sym, ap, _∙_}
@@ -14,10 +14,12 @@ use lib.ListN.{length, getD}
 use mir.Syntax.{w64}
 use mir.Val.{SFits}
 use Rattle.paper.specs.declared.Name.{Name}
+use Rattle.paper.specs.declared.Version.{Version}
 use Rattle.paper.specs.declared.Axis.{Axis}
 use Rattle.paper.specs.declared.Cell.{Cell}
 use Rattle.paper.specs.declared.Cell.the-variants.{Empty, Int}
-use Rattle.paper.specs.Limits.{FLOAT, mostAxes, mostCells, smallestInt}
+use Rattle.paper.specs.Bundle.{versionIn}
+use Rattle.paper.specs.Limits.{FLOAT, mostAxes, mostCells, smallestInt, sizesOf}
 use Rattle.paper.specs.Refusals.{got}
 use Rattle.paper.specs.Numbers.{from}
 use Rattle.paper.specs.Axes.{cells, goodExtent, Array}
@@ -65,13 +67,13 @@ by-index (c ∷ cs) = ap (λ (l : List Cell). c ∷ l) (by-index cs ∙ sym (fro
 abbrev pub mostText : ℕ → ℕ → ℕ
 mostText n d = 10 + n * (19 + 2 * d)
 
-pub text-most : (A : Array) → Valid A
+pub text-most : (u : Version) (A : Array) → Valid (sizesOf u) A
     → length (jsonText (A .shape .axes) (A .cells)) ≤ mostText (cells (A .shape .axes)) (length (A .shape .axes))
-text-most A v =
+text-most u A v =
     let f : ℕ → Cell = λ k. getD (A .cells) k Empty in
     let s : Sound (A .shape .axes) = extent-true (A .shape .names) (A .shape .axes) (v .extent) .0 in
     let m = long-most f 20 (each-most (A .shape .type) (A .cells) (v .kinds)) (cells (A .shape .axes)) 0 in
-    rw (by-index (A .cells), v .full) (omega (arith, json-long f (A .shape .axes) s (its-axes A v .0), marks-most (A .shape .axes) s, m))
+    rw (by-index (A .cells), v .full) (omega (arith, json-long f (A .shape .axes) s (its-axes u A v .0), marks-most (A .shape .axes) s, m))
 
 -- ---- every text
 
@@ -79,17 +81,17 @@ text-most A v =
 abbrev pub longest : ℕ
 longest = mostText mostCells mostAxes
 
-pub longest-is : longest ≡ 110602
+pub longest-is : longest ≡ 126986
 longest-is = refl
 
 pub every-text : (bs : List ℕ) (k : ℕ) (A : Array) → Bytes bs → chosen bs k ≡ got A
     → length (jsonText (A .shape .axes) (A .cells)) ≤ longest
 every-text bs k A b e =
     let v = chosen-valid bs k A b e in
-    let d : 19 + 2 * length (A .shape .axes) ≤ 19 + 2 * mostAxes = omega (arith, its-axes A v) in
+    let d : 19 + 2 * length (A .shape .axes) ≤ 19 + 2 * mostAxes = omega (arith, its-axes (versionIn bs) A v) in
     omega (
       arith,
-      text-most A v,
+      text-most (versionIn bs) A v,
       mul-le-mul-left (cells (A .shape .axes)) d,
       mul-le-mul-right (19 + 2 * mostAxes) (extent-true (A .shape .names) (A .shape .axes) (v .extent) .1),
     )
@@ -100,12 +102,12 @@ pub never-14 : (bs : List ℕ) (k room : ℕ) (A : Array) → Bytes bs → chose
 unfolding written
 never-14 bs k room A b e t h = rw (e, t, le-leb (length (jsonText (A .shape .axes) (A .cells))) room (omega (arith, every-text bs k A b e)))
 
--- and one text needs all of it: the smallest INT in each of 4,096 cells, on axes of 4,096 positions, one, one and one
+-- and one text needs all of it: the smallest INT in each of 4,096 cells, on an axis of 4,096 positions and five of one
 abbrev single : String → Given
 single n = axis n (pos 1) (pos 1)
 
 abbrev longestGiven : List Given
-longestGiven = axis "a" (pos 1) (pos 4096) ∷ single "b" ∷ single "c" ∷ single "d" ∷ []
+longestGiven = axis "a" (pos 1) (pos 4096) ∷ single "b" ∷ single "c" ∷ single "d" ∷ single "e" ∷ single "f" ∷ []
 
 abbrev pub longestNames : List Name
 longestNames = map (λ g. g .name) longestGiven

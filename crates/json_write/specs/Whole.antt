@@ -6,20 +6,24 @@ use mathlib.Core.Bool.{false}
 use mathlib.Core.List.{List, [], _∷_, _++_, map}
 use mathlib.Core.Option.{some}
 use native.Mathlib.Nat.{zero-add}
+use native.Mathlib.Nat.{le-trans}
 use native.Mathlib.Omega.{arith}
+use Rattle.laws.specs.Sizes.{fits}
 use borrow.Author.Tests.{eq-eqb, ne-eqb, le-leb, lt-leb}
 use lib.Dec.{eqb}
 use lib.ListN.{length, drop, length-append}
 use lib.Seq.{drop-drop, sets-eq}
+use Rattle.paper.specs.declared.Version.{Version}
+use Rattle.paper.specs.declared.Sizes.{Sizes}
 use Rattle.paper.specs.declared.Axis.{Axis}
 use Rattle.paper.specs.declared.Cell.{Cell}
 use Rattle.paper.specs.declared.Refusal.{Refusal}
-use Rattle.paper.specs.Limits.{FLOAT, mostAxes, mostCells, cellBytes}
+use Rattle.paper.specs.Limits.{FLOAT, mostAxes, mostCells, cellBytes, sizesOf}
 use Rattle.paper.specs.Refusals.{Res, got, refused, refusal, present, unknown4, unfit7, smallOutput14}
 use Rattle.paper.specs.Numbers.{text, from, part, nth}
 use Rattle.paper.specs.Axes.{width, cells, Array}
 use Rattle.paper.specs.Cells.{cellOf}
-use Rattle.paper.specs.Bundle.{putInto, readBundle}
+use Rattle.paper.specs.Bundle.{versionIn, sizesIn, putInto, readBundle}
 use Rattle.paper.specs.Reference.{chosen}
 use Rattle.paper.specs.Answers.{axesOf}
 use Rattle.paper.specs.Json.{jsonText, written, writeJson}
@@ -171,20 +175,20 @@ module _ {bs : List ℕ} {at : ℕ} {E : List Axis} (v : Whole bs at E) where
 -- ---- an array of a bundle
 
 -- it is valid
-nth-valid : (As : List Array) (k : ℕ) (A : Array) → EachValid As → nth As k ≡ some A → Valid A
-nth-valid As zero A v e = absurd (no-none A e)
-nth-valid [] (suc k) A v e = absurd (no-none A e)
-nth-valid (B ∷ As) (suc zero) A v e = subst Valid (some-one B A e) (v .0)
-nth-valid (B ∷ As) (suc (suc k)) A v e = nth-valid As (suc k) A (v .1) e
+nth-valid : (z : Sizes) (As : List Array) (k : ℕ) (A : Array) → EachValid z As → nth As k ≡ some A → Valid z A
+nth-valid z As zero A v e = absurd (no-none A e)
+nth-valid z [] (suc k) A v e = absurd (no-none A e)
+nth-valid z (B ∷ As) (suc zero) A v e = subst (Valid z) (some-one B A e) (v .0)
+nth-valid z (B ∷ As) (suc (suc k)) A v e = nth-valid z As (suc k) A (v .1) e
 
-pub chosen-valid : (bs : List ℕ) (k : ℕ) (A : Array) → Bytes bs → chosen bs k ≡ got A → Valid A
+pub chosen-valid : (bs : List ℕ) (k : ℕ) (A : Array) → Bytes bs → chosen bs k ≡ got A → Valid (sizesIn bs) A
 unfolding chosen
 chosen-valid bs k A b e =
     let r = bind-got (readBundle bs) (λ As. present (nth As k) (refusal unknown4 k 0)) A e in
-    nth-valid (r .0) k A (bundle-read bs (r .0) b (r .1) .valid .each) (present-got (nth (r .0) k) (refusal unknown4 k 0) A (r .2))
+    nth-valid (sizesIn bs) (r .0) k A (bundle-read bs (r .0) b (r .1) .valid .each) (present-got (nth (r .0) k) (refusal unknown4 k 0) A (r .2))
 
-pub its-axes : (A : Array) → Valid A → (1 ≤ length (A .shape .axes)) × (length (A .shape .axes) ≤ mostAxes)
-its-axes A v = between-true mostAxes (length (A .shape .axes)) (v .rank)
+pub its-axes : (u : Version) (A : Array) → Valid (sizesOf u) A → (1 ≤ length (A .shape .axes)) × (length (A .shape .axes) ≤ mostAxes)
+its-axes u A v = let r = between-true (sizesOf u .axes) (length (A .shape .axes)) (v .rank) in (r .0, le-trans (r .1) (fits u .axes))
 
 -- what is answered and left in the buffer is what the paper says: a refusal leaves the buffer, a text stands in front of what was there
 abbrev pub Both : List ℕ → ℕ → List ℕ → Res ℕ → List ℕ → Type 0
@@ -223,5 +227,5 @@ module _ {bs : List ℕ} {k : ℕ} {c : Chosen} (v : ChosenHead bs k c) (out : L
     unfolding arrayAt
     its-whole b =
         let w = chosen-valid bs k (arrayAt bs (c .head)) b (sym (its-array v y)) in
-        let r = its-axes (arrayAt bs (c .head)) w in
+        let r = its-axes (versionIn bs) (arrayAt bs (c .head)) w in
         record { small = good-small _ _ (w .extent); some = r .0; rank = r .1; lies = v .fit y .fits }

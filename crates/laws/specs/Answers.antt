@@ -9,6 +9,8 @@ use borrow.Author.Tests.{eq-eqb, ne-eqb, le-leb, leb-true}
 use lib.Dec.{leb}
 use lib.ListN.{length, replicate, length-take}
 use lib.Seq.{take-at}
+use Rattle.paper.specs.declared.Version.{Version}
+use Rattle.paper.specs.declared.Version.the-variants.{One}
 use Rattle.paper.specs.declared.Name.{Name}
 use Rattle.paper.specs.declared.Axis.{Axis}
 use Rattle.paper.specs.declared.Extent.{Extent}
@@ -77,6 +79,8 @@ headOf x = record { form = formOf (x .0); at = x .1; cells = cells (x .0 .axes) 
 abbrev pub noHead : Head
 noHead = record { form = formOf (shaped 0 [] [] []); at = 0; cells = 0 }
 
-abbrev pub readingOf : Res (List (Shape × ℕ)) → Reading
-readingOf (got l) = record { refusal = refusal 0 0 0; count = length l; heads = map headOf l ++ replicate (mostArrays - length l) noHead }
-readingOf (refused r) = record { refusal = r; count = 0; heads = replicate mostArrays noHead }
+-- a refusal stands alone: the version is then no matter
+abbrev pub readingOf : Version → Res (List (Shape × ℕ)) → Reading
+readingOf v (got l) =
+    record { refusal = refusal 0 0 0; version = v; count = length l; heads = map headOf l ++ replicate (mostArrays - length l) noHead }
+readingOf v (refused r) = record { refusal = r; version = One; count = 0; heads = replicate mostArrays noHead }

@@ -10,20 +10,23 @@ use lib.ListN.{length, take, drop, length-append, length-take, length-drop}
 use Rattle.paper.specs.declared.Axis.{Axis}
 use Rattle.paper.specs.declared.Move.{Move}
 use Rattle.paper.specs.declared.Move.the-variants.{Slice, Update, Put, Glue}
-use Rattle.paper.specs.Limits.{reach, mostCells, mostAxes}
+use Rattle.paper.specs.Limits.{reach, mostCells, mostAxes, limitBytes}
 use Rattle.paper.specs.Refusals.{between}
 use Rattle.paper.specs.Numbers.{positionAt}
 use Rattle.paper.specs.Axes.{width, cells, noAxis, axisAt, onAxis, without}
-use Rattle.paper.specs.Recipe.{Step, uses, asMany, agree, fitsIn, resultAxes}
+use Rattle.paper.specs.Recipe.{Step, uses, asMany, agree, fitsIn, withLimits, resultAxes}
 use Rattle.laws.specs.Tests.{and-left, between-true}
 use Rattle.laws.specs.Places.{onAxis-true}
 use Rattle.laws.specs.Limits.{sound-at}
+use Rattle.laws.specs.Sizes.{fits}
 use Rattle.laws.specs.Joins.{cells-without, sound-without}
 use Rattle.laws.specs.Glue.{Gluable, gluable}
+use Rattle.positions.specs.Runs.{Holds}
 use Rattle.extent.specs.Judged.{Small}
 use Rattle.extent.specs.Tests.{sound-axis}
-use Rattle.shape.specs.Renewed.{renewed, length-renewed}
-use Rattle.shape.specs.declared.Change.the-variants.{Limits}
+use Rattle.shape.specs.Renewed.{length-anew}
+use Rattle.step.specs.declared.StepHead.{StepHead}
+use Rattle.step.specs.Steps.{detailOf, fewer}
 use Rattle.origin.specs.Origins.{Moving}
 use Rattle.origin.specs.Patches.{Insertable, length-in, spot, patch, small-patch}
 
@@ -77,6 +80,11 @@ small-without k E a =
 pub length-without : (k : ℕ) (E : List Axis) → 1 ≤ k → k ≤ length E → length (without k E) + 1 ≡ length E
 length-without k E one last = omega (arith, length-append (take (k - 1) E) (drop k E), length-take (k - 1) E, length-drop k E)
 
+-- ---- the position that a step's detail begins with
+
+pub position-asks : (s : StepHead) {bs : List ℕ} → Holds (s .at) (detailOf s) bs → Holds (s .at) limitBytes bs
+position-asks s h = fewer (s .at) limitBytes (detailOf s) _ (omega (arith, fits (s .version) .scalar)) h
+
 -- ---- from a step's tests
 
 -- the arrays' axes are as many
@@ -87,10 +95,10 @@ axial-in : {k : ℕ} {E : List Axis} → Small E → between 1 (length E) k ≡ 
 axial-in {k} {E} s e = let b = between-true (length E) k e in record { small = s; one = b .0; last = b .1 }
 
 module _ {st : Step} {E F G : List Axis} where
-  -- trim and reshape, whose detail lies in the bytes bs
-  pub limits-ask : {m : Move} {k : ℕ} (bs : List ℕ) (at : ℕ) → Moving m st E F G → k < cells G → G ≡ renewed Limits E bs at → Beside G E k
-  limits-ask bs at M h g =
-      record { here = M .result; there = M .first; same = sym (ap length g ∙ length-renewed Limits E bs at); lt = h }
+  -- trim and reshape
+  pub limits-ask : {m : Move} {k : ℕ} → Moving m st E F G → k < cells G → G ≡ withLimits E (st .detail) → Beside G E k
+  limits-ask M h g =
+      record { here = M .result; there = M .first; same = sym (ap length g ∙ length-anew _ _ E (st .detail)); lt = h }
 
   pub slice-asks : {k : ℕ} → Moving Slice st E F G → k < cells G → Sliced (st .axis) E (positionAt 0 (st .detail)) k
   unfolding resultAxes uses fitsIn

@@ -3,13 +3,13 @@
 ghost use mathlib.Core.Path.{_≡_};
 ghost use Prim.Native.Nat.{_+_, _*_, _≤_, _<_};
 ghost use lib.ListN.{length, drop};
-ghost use Rattle.paper.specs.Limits.{mostCells, detailBytes};
+ghost use Rattle.paper.specs.Limits.{mostCells};
 ghost use Rattle.paper.specs.Axes.{cells, offset, atOffset, axisAt, without, putIn};
 ghost use Rattle.paper.specs.Answers.{axesOf};
 ghost use Rattle.laws.specs.Glue.{blockCells};
 ghost use Rattle.positions.specs.Runs.{Holds};
 ghost use Rattle.extent.specs.Judged.{Small};
-ghost use Rattle.step.specs.Steps.{stepIn};
+ghost use Rattle.step.specs.Steps.{detailOf, stepIn};
 ghost use Rattle.origin.specs.Origins.{Moving, foundIn, inA, overA, turnOrigin};
 ghost use Rattle.origin.specs.Patches.{Insertable, spot};
 ghost use Rattle.origin.specs.Asks.{Beside, Axial, Sliced, InTurns, Countable};
@@ -187,7 +187,7 @@ pub fn origin_of(
     k: usize,
     s: &[u8],
 ) -> Origin
-    requires { ⌜ Holds (step .at) detailBytes (now s) ⌝ }
+    requires { ⌜ Holds (step .at) (detailOf step) (now s) ⌝ }
     requires { ⌜ Moving m (stepIn (now s) step) (axesOf a) (axesOf b) (axesOf t) ⌝ }
     requires { ⌜ k < cells (axesOf t) ⌝ }
     ensures { λ r. ⌜ r ≡ comes m (stepIn (now (s .entry)) step) (axesOf a) (axesOf b) (axesOf t) k ⌝ }

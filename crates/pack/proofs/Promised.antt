@@ -11,5 +11,5 @@ use Rattle.pack.proofs.pack.Reads.{Learnt}
 
 module _ (κs : Lfts 2) (a : Dens κs ps) (answer : NumberAnswer) (end : AtExit (endedOf 2 ps r) κs) where
   pub pack-promised : Learnt κs a answer end
-      → PackedInto (shapesOf (a .0) (a .1 .0)) (now (a .1 .1 .0)) (now (a .1 .1 .1 .0)) answer (now (end .1 .1 .1 .0))
+      → PackedInto (a .0) (shapesOf (a .1 .0) (a .1 .1 .0)) (now (a .1 .1 .1 .0)) (now (a .1 .1 .1 .1 .0)) answer (now (end .1 .1 .1 .1 .0))
   pack-promised l = l

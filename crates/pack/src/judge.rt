@@ -1,19 +1,22 @@
-// Judging what is to be packed, in the paper's order of tests: the count, each array's type, axis count, extent, cell bytes and
+// Judging what is to be packed, in the paper's order of tests: the count, each array's type, axis count, names, extent, cell bytes and
 // cells, and leftover cell bytes. A refusal with number 0 is none. Nothing is written here.
 ghost use mathlib.Core.Path.{_≡_};
 ghost use Prim.Native.Nat.{_≤_};
 ghost use lib.ListN.{length};
+ghost use Rattle.paper.specs.Limits.{sizesOf};
 ghost use Rattle.pack.specs.Judging.{JudgedForm, JudgedAll, stopped, over};
 use bundle::array_of;
+use extent::names::names_fit;
 use extent::rank_of;
-use paper::AXIS_BYTES;
 use paper::Form;
 use paper::OPENING_BYTES;
 use paper::Refusal;
 use paper::TYPE_BYTES;
+use paper::Version;
 use refusals::in_range;
 use refusals::none;
 use refusals::refuse;
+use versions::sizes;
 
 // One array judged: the byte after its cells, and the number of its bytes in the bundle.
 pub struct FormJudged {
@@ -45,17 +48,22 @@ fn all_refused(refusal: Refusal) -> Verdict
 }
 
 // Array k of a form, its cells from the byte `from` on. A rank over what an extent can hold is refused, never cut: such an extent has no
-// axes, so its axis count is bad, and nothing lies inside such a maximum.
-fn form_judged(cells: &[u8], from: usize, k: u32, form: Form) -> FormJudged
+// axes, so its axis count is bad, and nothing lies inside such a maximum. A name with more letters than the version's is refused too.
+fn form_judged(v: Version, cells: &[u8], from: usize, k: u32, form: Form) -> FormJudged
     requires { ⌜ from ≤ length (now cells) ⌝ }
-    ensures { λ r. ⌜ JudgedForm (now (cells .entry)) from k form r ⌝ }
+    ensures { λ r. ⌜ JudgedForm (sizesOf v) (now (cells .entry)) from k form r ⌝ }
 {
+    let z = sizes(v);
     let rank = rank_of(form.extent);
     if !in_range(form.kind as usize, paper::TYPES) {
         return form_refused(refuse(1, k));
     }
-    if !in_range(rank, paper::AXES) {
+    if !in_range(rank, z.axes) {
         return form_refused(refuse(1, k));
+    }
+    let names = form.names;
+    if !names_fit(v, names, rank) {
+        return form_refused(refuse(2, k));
     }
     let one = array_of(cells, from, k, form);
     if one.refusal.number != 0 {
@@ -65,13 +73,13 @@ fn form_judged(cells: &[u8], from: usize, k: u32, form: Form) -> FormJudged
     FormJudged {
         refusal,
         end: one.end,
-        long: TYPE_BYTES + rank * AXIS_BYTES + (one.end - from),
+        long: TYPE_BYTES + rank * z.axis + (one.end - from),
     }
 }
 
 // The first `count` forms, with their cells in one buffer.
-pub fn judged(count: usize, forms: [Form; paper::ARRAYS], cells: &[u8]) -> Verdict
-    ensures { λ r. ⌜ JudgedAll count forms (now (cells .entry)) r ⌝ }
+pub fn judged(v: Version, count: usize, forms: [Form; paper::ARRAYS], cells: &[u8]) -> Verdict
+    ensures { λ r. ⌜ JudgedAll (sizesOf v) count forms (now (cells .entry)) r ⌝ }
 {
     if !in_range(count, paper::ARRAYS) {
         return all_refused(refuse(1, 0));
@@ -80,7 +88,7 @@ pub fn judged(count: usize, forms: [Form; paper::ARRAYS], cells: &[u8]) -> Verdi
     let mut long = OPENING_BYTES;
     let mut i = 0;
     while i < count {
-        let one = form_judged(cells, at, (i + 1) as u32, forms[i]);
+        let one = form_judged(v, cells, at, (i + 1) as u32, forms[i]);
         if one.refusal.number != 0 {
             return all_refused(one.refusal);
         }

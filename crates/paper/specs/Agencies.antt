@@ -11,10 +11,10 @@ use Rattle.paper.specs.declared.Cell.{Cell}
 use Rattle.paper.specs.declared.Cell.the-variants.{Empty, Int, Truth}
 use Rattle.paper.specs.Limits.{INT, FLOAT, smallestInt, largestInt}
 use Rattle.paper.specs.Numbers.{text, same}
-use Rattle.paper.specs.Bundle.{After, bundleBytes}
+use Rattle.paper.specs.Bundle.{After}
 use Rattle.paper.specs.Json.{jsonText, writeJson}
 use Rattle.paper.specs.Opened.{opened}
-use Rattle.paper.specs.Written.{all, Given, axesIn, axis, array, ints, counted, said, one, m1}
+use Rattle.paper.specs.Written.{all, bundleOf, Given, axesIn, axis, array, ints, counted, said, one, m1}
 
 -- ---- a text alone
 
@@ -43,7 +43,7 @@ four = axis "a" (pos 5) (pos 6) ∷ axis "b" (pos 0) (pos 0) ∷ axis "c" m1 (po
 
 -- array 1 the printed example, array 2 of FLOAT
 abbrev bundle : List ℕ
-bundle = bundleBytes (array INT square (ints (pos 1 ∷ pos 2 ∷ pos 5 ∷ pos 6 ∷ [])) ∷ array FLOAT (line 1) (Empty ∷ []) ∷ [])
+bundle = bundleOf (array INT square (ints (pos 1 ∷ pos 2 ∷ pos 5 ∷ pos 6 ∷ [])) ∷ array FLOAT (line 1) (Empty ∷ []) ∷ [])
 
 -- what the call says and leaves: array k, in a buffer of n bytes, all 7
 abbrev call : List ℕ → ℕ → ℕ → After

@@ -4,6 +4,7 @@ use Prim.Native.Nat.{ℕ, _+_, _-_, _*_}
 use mathlib.Core.List.{List, [], _∷_, _++_, map}
 use lib.Dec.{eqb, leb}
 use lib.ListN.{take, length, replicate}
+use Rattle.paper.specs.declared.Sizes.{Sizes}
 use Rattle.paper.specs.declared.Name.{Name}
 use Rattle.paper.specs.declared.Axis.{Axis}
 use Rattle.paper.specs.declared.Extent.{Extent}
@@ -31,10 +32,10 @@ use Rattle.paper.specs.declared.PageAnswer.the-variants as Page
 use Rattle.paper.specs.declared.Part.{Part}
 use Rattle.paper.specs.declared.StretchAnswer.{StretchAnswer}
 use Rattle.paper.specs.declared.StretchAnswer.the-variants as Stretch
-use Rattle.paper.specs.Limits.{mostAxes, axisBytes, typeBytes, cellBytes}
+use Rattle.paper.specs.Limits.{mostAxes, typeBytes, cellBytes}
 use Rattle.paper.specs.Refusals.{Res, got, refused, _>>=_, if_then_else_}
 use Rattle.paper.specs.Axes.{noName, cells, noAxis, Shape, Array, shaped}
-use Rattle.paper.specs.Bundle.{markBytes, readBundle}
+use Rattle.paper.specs.Bundle.{markBytes, sizesIn, readBundle}
 use Rattle.paper.specs.Reference.{Walked}
 
 -- ---- extents
@@ -68,17 +69,17 @@ shapeOf f =
 -- ---- reading: the arrays' shapes, and where their cells lie
 
 -- of arrays, the first of which begins at byte i: each one's shape, and the byte at which its cells begin
-unfoldable pub lyingFrom : ℕ → List Array → List (Shape × ℕ)
-lyingFrom i [] = []
-lyingFrom i (A ∷ As) =
-    let c : ℕ = i + (typeBytes + length (A .shape .axes) * axisBytes) in
-    (A .shape, c) ∷ lyingFrom (c + cells (A .shape .axes) * cellBytes) As
+unfoldable pub lyingFrom : Sizes → ℕ → List Array → List (Shape × ℕ)
+lyingFrom z i [] = []
+lyingFrom z i (A ∷ As) =
+    let c : ℕ = i + (typeBytes + length (A .shape .axes) * z .axis) in
+    (A .shape, c) ∷ lyingFrom z (c + cells (A .shape .axes) * cellBytes) As
 
 -- what reading a bundle answers
 unfoldable pub reading : List ℕ → Res (List (Shape × ℕ))
 reading bs = do
   As ← readBundle bs
-  got (lyingFrom (markBytes + 1) As)
+  got (lyingFrom (sizesIn bs) (markBytes + 1) As)
 
 -- number 0 stands for no refusal
 abbrev pub unless : {A : Type 0} → Refusal → A → Res A

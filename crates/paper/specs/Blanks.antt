@@ -15,10 +15,9 @@ use Rattle.paper.specs.declared.SingleOp.the-variants.{IsTrue, IsFalse, 
 use Rattle.paper.specs.Limits.{INT, FLOAT, BOOLEAN, limitBytes, wordBytes}
 use Rattle.paper.specs.Numbers.{leBytes, distance, positionBytes, concat, same}
 use Rattle.paper.specs.Operators.{pairCell, singleCell}
-use Rattle.paper.specs.Bundle.{bundleBytes}
 use Rattle.paper.specs.Listing.{Paged, run, page}
 use Rattle.paper.specs.Opened.{opened}
-use Rattle.paper.specs.Written.{all, Given, axis, array, step, said, one, is, operated, paged}
+use Rattle.paper.specs.Written.{all, bundleOf, Given, axis, array, step, said, one, is, operated, paged}
 
 -- ---- at one cell
 
@@ -39,7 +38,7 @@ abbrev turns : List Given
 turns = axis "who" (pos 1) (pos 2) ∷ axis "turn" (pos 1) (pos 2) ∷ []
 
 abbrev rests : List ℕ
-rests = bundleBytes (array INT turns (Int (pos 960) ∷ Empty ∷ Int (pos 360) ∷ Int (pos 1560) ∷ []) ∷ [])
+rests = bundleOf (array INT turns (Int (pos 960) ∷ Empty ∷ Int (pos 360) ∷ Int (pos 1560) ∷ []) ∷ [])
 
 -- array 1 below 660; a single operator on an operand
 abbrev below660 : List ℕ
@@ -62,7 +61,7 @@ lists recipe n rows = all (same (said paged (listing recipe .answer)) (0 ∷ n �
 -- ---- a single operator on array 1 of a type, with one empty cell
 
 abbrev one-cell : ℕ → List ℕ
-one-cell t = bundleBytes (array t (axis "i" (pos 1) (pos 1) ∷ []) (Empty ∷ []) ∷ [])
+one-cell t = bundleOf (array t (axis "i" (pos 1) (pos 1) ∷ []) (Empty ∷ []) ∷ [])
 
 abbrev runs : ℕ → ℕ → List ℕ
 runs t o = said one (run (one-cell t) (single 1 o) (replicate 9 7) .answer)

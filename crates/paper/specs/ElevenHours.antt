@@ -9,11 +9,10 @@ use Rattle.paper.specs.declared.Cell.{Cell}
 use Rattle.paper.specs.Limits.{INT, wordBytes}
 use Rattle.paper.specs.Numbers.{leBytes, text, distance, positionBytes, same, part}
 use Rattle.paper.specs.Cells.{cellsBytes}
-use Rattle.paper.specs.Bundle.{bundleBytes}
 use Rattle.paper.specs.Listing.{Paged, run, page}
 use Rattle.paper.specs.Rests.{rests}
 use Rattle.paper.specs.Opened.{opened}
-use Rattle.paper.specs.Written.{all, Given, m1, axis, array, ints, step, numbers, said, one, paged}
+use Rattle.paper.specs.Written.{all, bundleOf, Given, m1, axis, array, ints, step, numbers, said, one, paged}
 
 -- ---- the roster: who 1:2, turn 1:3, minutes from Monday 00:00
 
@@ -27,7 +26,7 @@ abbrev ends : List Cell
 ends = ints (pos 1800 ∷ pos 3240 ∷ pos 4680 ∷ pos 840 ∷ pos 1680 ∷ pos 3720 ∷ [])
 
 abbrev roster : List ℕ
-roster = bundleBytes (array INT turns starts ∷ array INT turns ends ∷ [])
+roster = bundleOf (array INT turns starts ∷ array INT turns ends ∷ [])
 
 -- ---- the recipe
 

@@ -1,4 +1,5 @@
 -- What the computed tables open: the definitions of all sections, under one name.
+use Rattle.paper.specs.Limits as Limits
 use Rattle.paper.specs.Numbers as Numbers
 use Rattle.paper.specs.Axes as Axes
 use Rattle.paper.specs.Cells as Cells
@@ -14,13 +15,13 @@ use Rattle.paper.specs.Rests as Rests
 use Rattle.paper.specs.Json as Json
 
 unfoldable pub opened : Unit {0}
-unfolding Numbers.leBytes Numbers.position Numbers.distance Numbers.lastOf Numbers.from Numbers.concat Numbers.total Numbers.alike
+unfolding Limits.sizesOf Numbers.leBytes Numbers.position Numbers.distance Numbers.lastOf Numbers.from Numbers.concat Numbers.total Numbers.alike
     Numbers.zeros Axes.nameRest Axes.isName Axes.named Axes.goodNames Axes.goodLimits Axes.cells Axes.offset Axes.atOffset Axes.build
     Axes.placeOf Axes.at Cells.finite Cells.filled Cells.cellFrom Cells.encode Cells.isTruth Cells.trues Operators.takes Operators.gives
     Operators.takesOne Operators.givesOne Operators.fitInt Operators.fitFloat Operators.intBy Operators.floatDiv Operators.absFloat
     Operators.two Operators.worked Operators.compared Operators.andCell Operators.orCell Operators.notCell Operators.answered
     Operators.applied Operators.signed Operators.singleCell Bundle.eachAxis Bundle.cellsOf Bundle.arrayOf Bundle.readArray
-    Bundle.readArrays Bundle.readBundle Bundle.axesBytes Bundle.arrayBytes Bundle.bundleBytes Bundle.packArray Bundle.packArrays
+    Bundle.versionTold Bundle.versionIn Bundle.readArrays Bundle.readAs Bundle.namesFit Bundle.axesBytes Bundle.arrayBytes Bundle.bundleBytes Bundle.packArray Bundle.packArrays
     Bundle.packed Bundle.putInto Reference.chosen Reference.referred Reference.reference Reference.seen Reference.walkedOn Totals.totals?
     Totals.filledFrom Totals.holds Totals.best Totals.bestOf Totals.int Totals.intTotal Totals.intSum Totals.float Totals.sumOn
     Totals.floatSum Totals.totalOf Totals.totals Recipe.operation Recipe.operand Recipe.uses Recipe.unusedZero Recipe.isScalar

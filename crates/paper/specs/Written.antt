@@ -8,6 +8,7 @@ use lib.ListN.{take, replicate}
 use lib.IntN.{ℤ, pos, negsuc}
 use mir.Syntax.{w32}
 use mir.Val.{ofZ}
+use Rattle.paper.specs.declared.Sizes.{Sizes}
 use Rattle.paper.specs.declared.Name.{Name}
 use Rattle.paper.specs.declared.Axis.{Axis}
 use Rattle.paper.specs.declared.Cell.{Cell}
@@ -17,10 +18,11 @@ use Rattle.paper.specs.declared.Answer.the-variants.{Is, Refused}
 use Rattle.paper.specs.declared.Totalled.{Totalled}
 use Rattle.paper.specs.declared.Totalled.the-variants as Totalled
 use Rattle.paper.specs.declared.Listed.{Listed}
-use Rattle.paper.specs.Limits.{limitBytes, detailBytes, stepBytes}
+use Rattle.paper.specs.Limits.{limitBytes, version1}
 use Rattle.paper.specs.Refusals.{Res, got, refused}
 use Rattle.paper.specs.Numbers.{leOf, leBytes, text, distance, from}
 use Rattle.paper.specs.Axes.{limited, Array, shaped, result}
+use Rattle.paper.specs.Bundle.{nameFrom, bundleBytes}
 use Rattle.paper.specs.Cells.{encode}
 
 -- every line of a table holds
@@ -40,9 +42,13 @@ pub record Given : Type 0 where
   pub name : Name
   pub axis : Axis
 
+-- a name of up to sixteen letters
+abbrev pub named : String → Name
+named n = nameFrom (text n)
+
 -- from its name and its limits
 abbrev pub axis : String → ℤ → ℤ → Given
-axis n l h = record { name = record { first = leOf (text n) }; axis = limited (distance l) (distance h) }
+axis n l h = record { name = named n; axis = limited (distance l) (distance h) }
 
 -- the axes alone
 abbrev pub axesIn : List Given → List Axis
@@ -62,9 +68,16 @@ ints zs = map Int zs
 abbrev pub counted : ℕ → ℕ → List Cell
 counted k n = map (λ i. Int (pos i)) (from k n)
 
--- a step from its four bytes and its detail, padded with zeros
+-- a bundle of version 1
+abbrev pub bundleOf : List Array → List ℕ
+bundleOf As = bundleBytes version1 As
+
+-- a step from its four bytes and its detail, padded with zeros; one of version 1
+abbrev pub stepFor : Sizes → List ℕ → List ℕ → List ℕ
+stepFor z head detail = take (z .step) (head ++ (detail ++ replicate (z .detail) 0))
+
 abbrev pub step : List ℕ → List ℕ → List ℕ
-step head detail = take stepBytes (head ++ (detail ++ replicate detailBytes 0))
+step head detail = stepFor version1 head detail
 
 -- signed 32-bit numbers as detail
 abbrev pub numbers : List ℤ → List ℕ

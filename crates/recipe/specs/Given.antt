@@ -21,7 +21,10 @@ read-good bs r v = record {
   few = v .few;
   small = λ j d h.
       let s = shapeIn (getD (r .heads) j noHead) in
-      rw (← getD-any (r .heads) j noHead d (omega (arith, v .room))) (good-small (s .names) (s .axes) (and-left _ (within (s .axes) (s .maximum)) (v .fit j h .good)));
+      rw (← getD-any (r .heads) j noHead d (omega (arith, v .room))) (record {
+        small = good-small (s .names) (s .axes) (and-left _ (within (s .axes) (s .maximum)) (v .fit j h .good));
+        few = v .ranks j h;
+      });
 }
 
 pub read-shapes : (bs : List ℕ) (l : List Head) → map (λ (A : Array). A .shape) (map (arrayAt bs) l) ≡ map shapeIn l

@@ -6,10 +6,10 @@ pub mod steps;
 ghost use mathlib.Core.Path.{_≡_};
 ghost use lib.Dec.{eqb};
 ghost use mathlib.Core.Bool.{_&&_};
-ghost use Prim.Native.Nat.{_/_, _%_};
-ghost use Rattle.paper.specs.Limits.{stepBytes, mostSteps};
+ghost use Prim.Native.Nat.{_/_, _%_, _<_};
+ghost use Rattle.paper.specs.Limits.{mostSteps};
 ghost use Rattle.paper.specs.Refusals.{between};
-ghost use Rattle.recipe.specs.Whole.{noPlan, GoodArrays, Begun, PlannedAll};
+ghost use Rattle.recipe.specs.Whole.{emptyPlan, noPlan, GoodArrays, Begun, PlannedAll};
 use crate::operands::in_work;
 use crate::operands::no_operand;
 use crate::operands::numbered;
@@ -20,14 +20,15 @@ use paper::Head;
 use paper::RESULTS;
 use paper::Reading;
 use paper::Refusal;
-use paper::STEP_BYTES;
 use paper::STEPS;
 use paper::StepNumber;
+use paper::Version;
 use quick::operands::IN_BUNDLE;
 use refusals::in_range;
 use refusals::none;
 use refusals::refuse;
 use step::StepHead;
+use versions::sizes;
 
 // What a step can name by an operand's number: an array, and whether its cells lie in the bundle or in the work area; or nothing.
 pub struct Operand {
@@ -36,10 +37,11 @@ pub struct Operand {
     pub head: Head,
 }
 
-// The number of the bundle's arrays; the steps planned, the first `count` of these; the number of cells of all their results; and what
+// The bundle's version and the number of its arrays; the steps planned, the first `count` of these; the number of cells of all their results; and what
 // stands under each operand's number: from 1 on the arrays, from 17 on the results.
 pub struct Plan {
     pub refusal: Refusal,
+    pub version: Version,
     pub arrays: usize,
     pub count: usize,
     pub cells: usize,
@@ -50,8 +52,8 @@ pub struct Plan {
 // ---- no step yet
 
 // No step planned, and nothing to name.
-pub fn no_plan(refusal: Refusal) -> Plan
-    ensures { λ r. ⌜ r ≡ noPlan refusal ⌝ }
+fn empty_plan(refusal: Refusal, version: Version) -> Plan
+    ensures { λ r. ⌜ r ≡ emptyPlan refusal version ⌝ }
 {
     let step = no_step();
     let operand = no_operand(false);
@@ -59,6 +61,7 @@ pub fn no_plan(refusal: Refusal) -> Plan
     let operands = [operand; RESULTS + STEPS + 1];
     Plan {
         refusal,
+        version,
         arrays: 0,
         count: 0,
         cells: 0,
@@ -67,12 +70,20 @@ pub fn no_plan(refusal: Refusal) -> Plan
     }
 }
 
+// The refusal alone.
+pub fn no_plan(refusal: Refusal) -> Plan
+    ensures { λ r. ⌜ r ≡ noPlan refusal ⌝ }
+{
+    empty_plan(refusal, Version::One)
+}
+
 // No step planned yet over the bundle's arrays.
 fn over_arrays(reading: Reading) -> Plan
     requires { ⌜ GoodArrays reading ⌝ }
     ensures { λ r. ⌜ Begun reading r × (r .arrays ≡ reading .count) ⌝ }
 {
-    let mut plan = no_plan(none());
+    let version = reading.version;
+    let mut plan = empty_plan(none(), version);
     while plan.arrays < reading.count {
         let j = plan.arrays;
         let next = j + 1;
@@ -88,14 +99,15 @@ fn over_arrays(reading: Reading) -> Plan
 
 // ---- the recipe
 
-// A recipe has 1 to 16 steps of 36 bytes.
-fn good_length(n: usize) -> bool
-    ensures { λ r. ⌜ r ≡ (eqb (n % stepBytes) 0 && between 1 mostSteps (n / stepBytes)) ⌝ }
+// A recipe of n bytes has 1 to 16 steps of so many bytes.
+fn good_length(n: usize, step: usize) -> bool
+    requires { ⌜ 0 < step ⌝ }
+    ensures { λ r. ⌜ r ≡ (eqb (n % step) 0 && between 1 mostSteps (n / step)) ⌝ }
 {
-    if n % STEP_BYTES != 0 {
+    if n % step != 0 {
         return false;
     }
-    in_range(n / STEP_BYTES, STEPS)
+    in_range(n / step, STEPS)
 }
 
 // The recipe's steps planned over a bundle's arrays, or the first refusal.
@@ -103,19 +115,23 @@ pub fn plan_recipe(reading: Reading, s: &[u8]) -> Plan
     requires { ⌜ GoodArrays reading ⌝ }
     ensures { λ r. ⌜ PlannedAll reading (now (s .entry)) r ⌝ }
 {
-    if !good_length(s.len()) {
+    let v = reading.version;
+    let z = sizes(v);
+    let long = z.step;
+    if !good_length(s.len(), long) {
         return no_plan(refuse(4, 0));
     }
-    let n = s.len() / STEP_BYTES;
+    let n = s.len() / long;
     let mut plan = over_arrays(reading);
     while plan.count < n {
         let k = plan.count;
         let next = k + 1;
         let result_at = RESULTS + next;
-        let base = k * STEP_BYTES;
+        let base = k * long;
         let one = plan_step(
             plan.operands[numbered(s[base + 1])],
             plan.operands[numbered(s[base + 2])],
+            v,
             base,
             plan.cells * CELL_BYTES,
             StepNumber(next as u32),

@@ -2,14 +2,14 @@
 ghost use mathlib.Core.Path.{_≡_};
 ghost use Prim.Native.Nat.{_+_, _≤_};
 ghost use lib.ListN.{length};
-ghost use Rattle.paper.specs.Limits.{detailBytes, stepBytes};
+ghost use Rattle.paper.specs.Limits.{sizesOf};
 ghost use Rattle.paper.specs.Recipe.{stepTests};
 ghost use Rattle.paper.specs.Answers.{axesOf, shapeOf, unless};
 ghost use Rattle.positions.specs.Runs.{Holds};
 ghost use Rattle.extent.specs.Judged.{Small};
-ghost use Rattle.step.specs.Steps.{stepIn};
+ghost use Rattle.step.specs.Steps.{detailOf, stepIn, Detailed};
 ghost use Rattle.step.specs.Using.{usedBy};
-ghost use Rattle.recipe.specs.Stepped.{noStep, stopped, Finishing, Finished, Judged, PlannedAs};
+ghost use Rattle.recipe.specs.Stepped.{Fitting, noStep, stopped, Finishing, Finished, Judged, PlannedAs};
 use crate::Operand;
 use crate::operands::used_b;
 use bundle::no_head;
@@ -23,6 +23,7 @@ use paper::Move;
 use paper::Operation;
 use paper::Refusal;
 use paper::StepNumber;
+use paper::Version;
 use refusals::none;
 use refusals::refuse;
 use shape::starred;
@@ -57,6 +58,7 @@ pub fn no_step() -> StepHead
         b: 0,
         axis: 0,
         at: 0,
+        version: Version::One,
     }
 }
 
@@ -75,9 +77,9 @@ fn refused_step(refusal: Refusal) -> Stepped
 // What step k asks of A and B, in the order 4 (unused bytes), 5, 7, 8, 6; `used` is what it uses.
 fn step_refusal(step: StepHead, used: Used, a: Form, b: Form, k: StepNumber, s: &[u8]) -> Refusal
     requires { ⌜ Small (axesOf (a .extent)) ⌝ }
-    requires { ⌜ Holds (step .at) detailBytes (now s) ⌝ }
-    requires { ⌜ used ≡ usedBy (step .operation) (length (axesOf (a .extent))) ⌝ }
-    ensures { λ r. ⌜ unless r tt ≡ stepTests (k .0) (stepIn (now (s .entry)) step) (shapeOf a) (shapeOf b) ⌝ }
+    requires { ⌜ Detailed (now s) step (axesOf (a .extent)) ⌝ }
+    requires { ⌜ used ≡ usedBy (step .operation) (sizesOf (step .version) .name) (length (axesOf (a .extent))) ⌝ }
+    ensures { λ r. ⌜ unless r tt ≡ stepTests (sizesOf (step .version)) (k .0) (stepIn (now (s .entry)) step) (shapeOf a) (shapeOf b) ⌝ }
 {
     if !unused_zero(used, step, s) {
         return refuse(4, k.0);
@@ -134,13 +136,14 @@ fn finish(step: StepHead, a: Form, b: Form, at: usize, k: StepNumber, s: &[u8]) 
 
 // A step whose operation is known, over what stands under its operands' numbers.
 fn judge(step: StepHead, a: Operand, b: Operand, at: usize, k: StepNumber, s: &[u8]) -> Stepped
-    requires { ⌜ Small (axesOf (a .head .form .extent)) ⌝ }
-    requires { ⌜ Small (axesOf (b .head .form .extent)) ⌝ }
-    requires { ⌜ Holds (step .at) detailBytes (now s) ⌝ }
+    requires { ⌜ Fitting (step .version) (axesOf (a .head .form .extent)) ⌝ }
+    requires { ⌜ Fitting (step .version) (axesOf (b .head .form .extent)) ⌝ }
+    requires { ⌜ Holds (step .at) (detailOf step) (now s) ⌝ }
     ensures { λ r. ⌜ Judged (now (s .entry)) step a b at (k .0) r ⌝ }
 {
     let op = step.operation;
-    let used = used_by(op, rank_of(a.head.form.extent));
+    let v = step.version;
+    let used = used_by(op, v, rank_of(a.head.form.extent));
     let second = used_b(used.b, b);
     if !a.found {
         return refused_step(refuse(4, k.0));
@@ -155,12 +158,20 @@ fn judge(step: StepHead, a: Operand, b: Operand, at: usize, k: StepNumber, s: &[
     finish(step, a.head.form, second.head.form, at, k, s)
 }
 
-// Step k, from the byte `base` of the recipe on.
-pub fn plan_step(a: Operand, b: Operand, base: usize, at: usize, k: StepNumber, s: &[u8]) -> Stepped
-    requires { ⌜ Small (axesOf (a .head .form .extent)) ⌝ }
-    requires { ⌜ Small (axesOf (b .head .form .extent)) ⌝ }
-    requires { ⌜ base + stepBytes ≤ length (now s) ⌝ }
-    ensures { λ r. ⌜ PlannedAs (now (s .entry)) base a b at (k .0) r ⌝ }
+// Step k, from the byte `base` of a recipe of version v on.
+pub fn plan_step(
+    a: Operand,
+    b: Operand,
+    v: Version,
+    base: usize,
+    at: usize,
+    k: StepNumber,
+    s: &[u8],
+) -> Stepped
+    requires { ⌜ Fitting v (axesOf (a .head .form .extent)) ⌝ }
+    requires { ⌜ Fitting v (axesOf (b .head .form .extent)) ⌝ }
+    requires { ⌜ base + sizesOf v .step ≤ length (now s) ⌝ }
+    ensures { λ r. ⌜ PlannedAs (now (s .entry)) base v a b at (k .0) r ⌝ }
 {
     let got = operation_of(s[base], s[base + HEAD_BYTES]);
     match got {
@@ -171,6 +182,7 @@ pub fn plan_step(a: Operand, b: Operand, base: usize, at: usize, k: StepNumber, 
                 b: s[base + 2],
                 axis: s[base + 3],
                 at: base + HEAD_BYTES,
+                version: v,
             };
             return judge(step, a, b, at, k, s);
         }

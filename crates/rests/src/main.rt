@@ -11,7 +11,7 @@ const FILE: usize = FILE_BYTES + 1;
 // A row for each of 4,096 cells, and the longest text.
 const ROWS: usize = 4096 * (LIMIT_BYTES + LIMIT_BYTES * paper::AXES);
 
-const TEXT: usize = 454684;
+const TEXT: usize = 634908;
 
 // Reads the file into `buf`, as far as it goes; answers how many bytes.
 fn read_file(path: &[u8], buf: &mut [u8]) -> usize

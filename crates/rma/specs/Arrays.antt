@@ -1,20 +1,23 @@
 -- The arrays of a bundle, as the face tells of them: how many, and of one its shape and where its cells begin, a number small enough for
 -- four bytes.
-use Prim.Native.Nat.{ℕ, _*_, _^_, _≤_, _<_}
+use Prim.Native.Nat.{ℕ, _+_, _*_, _^_, _≤_, _<_}
 use mathlib.Core.Path.{_≡_, refl, sym, ap, _∙_}
 use mathlib.Core.List.{List, [], _∷_, map}
+use native.Mathlib.Nat.{mul-le-mul, le-trans}
 use native.Mathlib.Omega.{arith}
 use lib.ListN.{length, take, length-append, length-map}
 use lib.Seq.{length-take-le}
+use Rattle.paper.specs.declared.Version.{Version}
 use Rattle.paper.specs.declared.Reading.{Reading}
-use Rattle.paper.specs.Limits.{mostArrays, mostAxes}
+use Rattle.paper.specs.Limits.{mostArrays, mostAxes, halfName, limitsBytes, sizesOf}
 use Rattle.paper.specs.Refusals.{got, refused}
-use Rattle.paper.specs.Numbers.{concat}
+use Rattle.paper.specs.Numbers.{leBytes, concat}
 use Rattle.paper.specs.Axes.{Array}
 use Rattle.paper.specs.Cells.{cellsBytes}
-use Rattle.paper.specs.Bundle.{arrayBytes as bytesOf, bundleBytes, readBundle}
+use Rattle.paper.specs.Bundle.{versionIn, arrayBytes as bytesOf, bundleBytes, readBundle}
 use Rattle.paper.specs.Reference.{chosen}
 use Rattle.paper.specs.Answers.{axesOf}
+use Rattle.laws.specs.Sizes.{fits}
 use Rattle.laws.specs.Answers.{unless-refused, unless-got}
 use Rattle.laws.specs.Numbers.{Bytes}
 use Rattle.laws.specs.Tests.{between-true, bind-got}
@@ -50,19 +53,25 @@ module _ {bs : List ℕ} {o : Reading} (v : ReadAll bs o) where
 -- ---- one of them
 
 -- the bytes of valid arrays are few
-arrays-short : (As : List Array) → EachValid As → length (concat (map bytesOf As)) ≤ length As * mostBytes
+arrays-short : (u : Version) (As : List Array) → EachValid (sizesOf u) As → length (concat (map (bytesOf (sizesOf u)) As)) ≤ length As * mostBytes
 unfolding concat
-arrays-short [] v = omega arith
-arrays-short (A ∷ As) v =
-    let rest = concat (map bytesOf As) in
+arrays-short u [] v = omega arith
+arrays-short u (A ∷ As) v =
+    let z = sizesOf u in
+    let f = fits u in
+    let rest = concat (map (bytesOf z) As) in
+    let n = length (A .shape .axes) in
+    let r = between-true (z .axes) n (v .0 .rank) in
+    let wide : z .axis ≤ 2 * halfName + limitsBytes = omega (arith, f .axis, f .name) in
+    let few : n * z .axis ≤ mostAxes * (2 * halfName + limitsBytes) = mul-le-mul (le-trans (r .1) (f .axes)) wide in
     omega (
       arith,
-      array-long A rest (v .0),
+      array-long z f A rest (v .0),
       length-append (cellsBytes (A .cells)) rest,
       valid-length A (v .0),
       good-small (A .shape .names) (A .shape .axes) (v .0 .extent) .few,
-      between-true mostAxes (length (A .shape .axes)) (v .0 .rank),
-      arrays-short As (v .1),
+      few,
+      arrays-short u As (v .1),
     )
 
 module _ {bs : List ℕ} {k : ℕ} {c : Chosen} (v : ChosenHead bs k c) where
@@ -75,7 +84,7 @@ module _ {bs : List ℕ} {k : ℕ} {c : Chosen} (v : ChosenHead bs k c) where
 
     -- where its cells begin fits into four bytes: it lies in a bundle's, which are few
     pub array-near : Bytes bs → c .head .at < 2 ^ 32
-    unfolding chosen bundleBytes
+    unfolding chosen bundleBytes leBytes
     array-near g =
         let r = bind-got (readBundle bs) _ _ (sym (its-array v y)) in
         let w = bundle-read bs (r .0) g (r .1) in
@@ -83,7 +92,7 @@ module _ {bs : List ℕ} {k : ℕ} {c : Chosen} (v : ChosenHead bs k c) where
           arith,
           v .fit y .fits,
           ap length (w .bytes),
-          arrays-short (r .0) (w .valid .each),
+          arrays-short (versionIn bs) (r .0) (w .valid .each),
           between-true mostArrays (length (r .0)) (w .valid .count),
         )
 

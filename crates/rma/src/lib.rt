@@ -5,13 +5,13 @@ ghost use Rattle.paper.specs.Cells.{encode};
 ghost use Rattle.paper.specs.Json.{writeJson};
 ghost use Rattle.paper.specs.Listing.{plan as paperPlan, run as paperRun, page as paperPage};
 ghost use Rattle.paper.specs.Reference.{reference, walk as paperWalk};
-ghost use Rattle.paper.specs.Stretch.{stretch as paperStretch};
 ghost use Rattle.c_told.specs.Said.{answered, spoken};
 ghost use Rattle.refer.specs.Chosen.{arrayTold};
 ghost use Rattle.run.specs.Plans.{extent as lastExtent};
-ghost use Rattle.c_asked.specs.Asked.{countOf, packHeads, sideIn, coordinateIn, placeIn, placeAfter, totalAsked};
+ghost use Rattle.c_asked.specs.Asked.{countOf, packHeads, stretchHeads, coordinateIn, placeIn, placeAfter, totalAsked};
 ghost use Rattle.c_told.specs.Given.{numberBytes, arrayBytes, foreseenBytes, seenBytes, totalBytes, listedBytes, partBytes};
 ghost use Rattle.c_told.specs.Replies.{Tells};
+ghost use Rattle.rma.specs.Versions.{HeadsPacked, HeadsStretched};
 use bundle::read;
 use c_asked::forms_in;
 use c_asked::refer_bytes;
@@ -32,14 +32,19 @@ use c_told::of_walk;
 use c_told::refused;
 use extent::rank_of;
 use json_write::write;
-use pack::pack;
+use pack::pack_as;
 use paper::AxisIndex;
+use paper::NumberAnswer;
 use paper::Ordinality;
+use paper::StretchAnswer;
 use refer::choose;
+use refusals::refuse;
 use run::page;
 use run::plan;
 use run::run;
 use stretch::plan_stretch;
+use versions::Told;
+use versions::version_told;
 
 // ---- a bundle
 
@@ -88,16 +93,34 @@ pub extern "C" fn rma_array(bundle: &[u8], array: u32, said: &mut [u8]) -> u32
     give(said, array_told(bundle, array))
 }
 
+// The bundle of the arrays that `heads` describes, in the version told; another than 1 and 2 is refused before all else.
+fn pack_heads(version: u32, heads: &[u8], cells: &[u8], out: &mut [u8]) -> NumberAnswer
+    ensures { λ r. ⌜ HeadsPacked version (now (heads .entry)) (now (cells .entry)) (now (out .entry)) r (now (out .exit)) ⌝ }
+{
+    match version_told(version) {
+        Told::Is(v) => {
+            let asked = forms_in(v, heads);
+            let forms = asked.forms;
+            return pack_as(v, asked.count, forms, cells, out);
+        }
+        Told::Unknown => return NumberAnswer::Refused(refuse(1, 0)),
+    }
+}
+
 // The bundle of the arrays that `heads` describes, with their cells, in `out`: its length.
 #[no_mangle]
-pub extern "C" fn rma_pack(heads: &[u8], cells: &[u8], out: &mut [u8], said: &mut [u8]) -> u32
+pub extern "C" fn rma_pack(
+    version: u32,
+    heads: &[u8],
+    cells: &[u8],
+    out: &mut [u8],
+    said: &mut [u8],
+) -> u32
     ensures { λ r. ⌜ (record { number = r; said = now (said .exit) }
-        ≡ spoken numberBytes (packHeads (now (heads .entry)) (now (cells .entry)) (now (out .entry)) .answer) (now (said .entry)))
-        × (now (out .exit) ≡ packHeads (now (heads .entry)) (now (cells .entry)) (now (out .entry)) .buffer) ⌝ }
+        ≡ spoken numberBytes (packHeads version (now (heads .entry)) (now (cells .entry)) (now (out .entry)) .answer) (now (said .entry)))
+        × (now (out .exit) ≡ packHeads version (now (heads .entry)) (now (cells .entry)) (now (out .entry)) .buffer) ⌝ }
 {
-    let asked = forms_in(heads);
-    let forms = asked.forms;
-    give(said, of_counted(pack(asked.count, forms, cells, out)))
+    give(said, of_counted(pack_heads(version, heads, cells, out)))
 }
 
 // ---- one array
@@ -200,10 +223,47 @@ pub extern "C" fn rma_page(
 
 // ---- a glued array
 
+// The stretch of two sides, in the version told; another than 1 and 2 is refused before all else.
+fn stretch_heads(
+    version: u32,
+    left_head: &[u8],
+    left: usize,
+    right_head: &[u8],
+    right: usize,
+    axis: AxisIndex,
+    o: Ordinality,
+) -> StretchAnswer
+    ensures { λ r. ⌜ HeadsStretched version (now («left_head» .entry)) left (now («right_head» .entry)) right (axis .0) (o .0) r ⌝ }
+{
+    match version_told(version) {
+        Told::Is(v) => {
+            let l = side_form(v, left_head);
+            let r = side_form(v, right_head);
+            let left_names = l.names;
+            let right_names = r.names;
+            return plan_stretch(
+                version,
+                l.kind,
+                left_names,
+                l.extent,
+                left,
+                r.kind,
+                right_names,
+                r.extent,
+                right,
+                axis,
+                o,
+            );
+        }
+        Told::Unknown => return StretchAnswer::Refused(refuse(1, 0)),
+    }
+}
+
 // The stretch from an ordinality on: its side, 1 for the left and 2 for the right, and the bytes of that side's cells from and up to
 // which it lies.
 #[no_mangle]
 pub extern "C" fn rma_stretch(
+    version: u32,
     left_head: &[u8],
     left: &[u8],
     right_head: &[u8],
@@ -213,21 +273,14 @@ pub extern "C" fn rma_stretch(
     said: &mut [u8],
 ) -> u32
     ensures { λ r. ⌜ record { number = r; said = now (said .exit) }
-        ≡ spoken partBytes (paperStretch (sideIn (now («left_head» .entry)) (now (left .entry)))
-        (sideIn (now («right_head» .entry)) (now (right .entry))) axis ordinality) (now (said .entry)) ⌝ }
+        ≡ spoken partBytes (stretchHeads version (now («left_head» .entry)) (now (left .entry)) (now («right_head» .entry)) (now (right .entry))
+        axis ordinality) (now (said .entry)) ⌝ }
 {
-    let l = side_form(left_head);
-    let r = side_form(right_head);
-    let left_names = l.names;
-    let right_names = r.names;
-    let answer = plan_stretch(
-        l.kind,
-        left_names,
-        l.extent,
+    let answer = stretch_heads(
+        version,
+        left_head,
         left.len(),
-        r.kind,
-        right_names,
-        r.extent,
+        right_head,
         right.len(),
         AxisIndex(axis),
         Ordinality(ordinality),

@@ -4,11 +4,11 @@ pub mod sides;
 
 ghost use mathlib.Core.Path.{_≡_};
 ghost use Prim.Native.Nat.{_+_, _-_, _≤_, _<_};
-ghost use Rattle.paper.specs.Limits.{detailBytes, mostCells};
+ghost use Rattle.paper.specs.Limits.{mostCells};
 ghost use Rattle.paper.specs.Axes.{cells};
 ghost use Rattle.paper.specs.Answers.{axesOf};
 ghost use Rattle.positions.specs.Runs.{Holds};
-ghost use Rattle.step.specs.Steps.{stepIn};
+ghost use Rattle.step.specs.Steps.{detailOf, stepIn};
 ghost use Rattle.origin.specs.Origins.{Moving};
 ghost use Rattle.origin.specs.Comes.{comes};
 ghost use Rattle.rows.specs.Bands.{pattern, noRun, bandOf, Along, Again, Begins, Banded};
@@ -70,7 +70,7 @@ fn turn_left(m: usize, n: usize, k: usize) -> usize
 
 // From cell k of a step's result on: how many cells come from cells side by side, or are blank.
 fn run_length(m: Move, step: StepHead, a: Extent, b: Extent, t: Extent, k: usize, s: &[u8]) -> usize
-    requires { ⌜ Holds (step .at) detailBytes (now s) ⌝ }
+    requires { ⌜ Holds (step .at) (detailOf step) (now s) ⌝ }
     requires { ⌜ Moving m (stepIn (now s) step) (axesOf a) (axesOf b) (axesOf t) ⌝ }
     requires { ⌜ k < cells (axesOf t) ⌝ }
     ensures { λ r. ⌜ (1 ≤ r) × Along (comes m (stepIn (now (s .entry)) step) (axesOf a) (axesOf b) (axesOf t)) (cells (axesOf t)) k r ⌝ }
@@ -102,7 +102,7 @@ fn run_at(
     most: usize,
     s: &[u8],
 ) -> Run
-    requires { ⌜ Holds (step .at) detailBytes (now s) ⌝ }
+    requires { ⌜ Holds (step .at) (detailOf step) (now s) ⌝ }
     requires { ⌜ Moving m (stepIn (now s) step) (axesOf a) (axesOf b) (axesOf t) ⌝ }
     requires { ⌜ (1 ≤ most) × (k + most ≤ cells (axesOf t)) ⌝ }
     ensures { λ r. ⌜ Begins (comes m (stepIn (now (s .entry)) step) (axesOf a) (axesOf b) (axesOf t)) k most r ⌝ }
@@ -181,7 +181,7 @@ fn pattern_of(
     k: usize,
     s: &[u8],
 ) -> Pattern
-    requires { ⌜ Holds (step .at) detailBytes (now s) ⌝ }
+    requires { ⌜ Holds (step .at) (detailOf step) (now s) ⌝ }
     requires { ⌜ Moving m (stepIn (now s) step) (axesOf a) (axesOf b) (axesOf t) ⌝ }
     requires { ⌜ k < cells (axesOf t) ⌝ }
     ensures { λ r. ⌜ Again (comes m (stepIn (now (s .entry)) step) (axesOf a) (axesOf b) (axesOf t)) (cells (axesOf t)) k r ⌝ }
@@ -242,7 +242,7 @@ fn lines_filled(filled: usize, rest: usize, lines: usize) -> usize
 
 // The band of a step's result that begins with cell k; a and b are the extents of its operands, t that of its result.
 pub fn band_of(m: Move, step: StepHead, a: Extent, b: Extent, t: Extent, k: usize, s: &[u8]) -> Band
-    requires { ⌜ Holds (step .at) detailBytes (now s) ⌝ }
+    requires { ⌜ Holds (step .at) (detailOf step) (now s) ⌝ }
     requires { ⌜ Moving m (stepIn (now s) step) (axesOf a) (axesOf b) (axesOf t) ⌝ }
     requires { ⌜ k < cells (axesOf t) ⌝ }
     ensures { λ r. ⌜ Banded (comes m (stepIn (now (s .entry)) step) (axesOf a) (axesOf b) (axesOf t)) (cells (axesOf t)) k r ⌝ }

@@ -8,17 +8,18 @@ use native.Mathlib.Omega.{arith}
 use lib.Dec.{eqb, leb}
 use lib.ListN.{length, getD, take, length-map, length-take}
 use lib.Seq.{getD-take}
+use Rattle.paper.specs.declared.Sizes.{Sizes}
 use Rattle.paper.specs.declared.Axis.{Axis}
 use Rattle.paper.specs.declared.Cell.{Cell}
 use Rattle.paper.specs.declared.Cell.the-variants.{Empty}
 use Rattle.paper.specs.declared.Head.{Head}
 use Rattle.paper.specs.declared.Reading.{Reading}
 use Rattle.paper.specs.declared.Refusal.{Refusal}
-use Rattle.paper.specs.Limits.{stepsFrom, cellBytes, limitBytes, BOOLEAN}
+use Rattle.paper.specs.Limits.{stepsFrom, cellBytes, limitBytes, BOOLEAN, sizesOf}
 use Rattle.paper.specs.Refusals.{got, refused, refusal, between, unfit7, smallWork10, badPage11}
 use Rattle.paper.specs.Numbers.{lastOf}
 use Rattle.paper.specs.Axes.{cells, Array}
-use Rattle.paper.specs.Bundle.{readBundle}
+use Rattle.paper.specs.Bundle.{versionIn, sizesIn, readBundle}
 use Rattle.paper.specs.Recipe.{Planned, planRecipe, cellsOfAll, noShape}
 use Rattle.paper.specs.Listing.{planned, bytesOfAll, lastShape, listTests}
 use Rattle.paper.specs.Answers.{axesOf, unless}
@@ -47,6 +48,7 @@ use Rattle.values.specs.Found.{arraysAt, Setting, past}
 pub record PlannedFor (B bs : List ℕ) (P : Plan) : Type 0 where
   pub said : unless (P .refusal) (arraysAt B P, stepsOf bs P) ≡ planned B bs
   pub setting : P .refusal .number ≡ 0 → Setting B bs P × (1 ≤ P .count)
+  pub version : P .refusal .number ≡ 0 → P .version ≡ versionIn B
 
 module _ {B bs : List ℕ} {P : Plan} (p : PlannedFor B bs P) where
   pub planned-no : (P .refusal .number ≡ 0 → ⊥) → planned B bs ≡ refused (P .refusal)
@@ -61,30 +63,30 @@ kinds-each t [] h i = nothing t
 kinds-each t (c ∷ cs) h zero = h .0
 kinds-each t (c ∷ cs) h (suc i) = kinds-each t cs (h .1) i
 
-valid-whole : (As : List Array) → EachValid As → AllWhole As
-valid-whole [] h i b = absurd (omega arith)
-valid-whole (A ∷ As) h zero b = record { type = h .0 .type; full = h .0 .full; kept = kinds-each (A .shape .type) (A .cells) (h .0 .kinds) }
-valid-whole (A ∷ As) h (suc i) b = valid-whole As (h .1) i (omega arith)
+valid-whole : (z : Sizes) (As : List Array) → EachValid z As → AllWhole As
+valid-whole z [] h i b = absurd (omega arith)
+valid-whole z (A ∷ As) h zero b = record { type = h .0 .type; full = h .0 .full; kept = kinds-each (A .shape .type) (A .cells) (h .0 .kinds) }
+valid-whole z (A ∷ As) h (suc i) b = valid-whole z As (h .1) i (omega arith)
 
 module _ (B bs : List ℕ) (R : Reading) (P : Plan) (r : ReadAll B R) where
   pub read-refused : (R .refusal .number ≡ 0 → ⊥) → P ≡ noPlan (R .refusal) → PlannedFor B bs P
   unfolding planned
   read-refused h e =
       let q : readBundle B ≡ refused (R .refusal) = sym (r .arrays) ∙ unless-refused (R .refusal) _ h in
-      rw e (record { said = unless-refused (R .refusal) _ h ∙ rw q; setting = λ z. absurd (h z) })
+      rw e (record { said = unless-refused (R .refusal) _ h ∙ rw q; setting = λ z. absurd (h z); version = λ z. absurd (h z) })
 
   module _ (z : R .refusal .number ≡ 0) (p : PlannedAll R bs P) where
     read-got : readBundle B ≡ got (map (arrayAt B) (arraysIn R))
     read-got = sym (r .arrays) ∙ unless-got (R .refusal) _ z
 
-    plan-is : planRecipe (shapesIn (map (arrayAt B) (arraysIn R))) bs ≡ planOf bs P
-    plan-is = rw (read-shapes B (arraysIn R)) (sym (p .said))
+    plan-is : planRecipe (sizesIn B) (shapesIn (map (arrayAt B) (arraysIn R))) bs ≡ planOf bs P
+    plan-is = rw (read-shapes B (arraysIn R), ← r .version z) (sym (p .said))
 
     refused-plan : (P .refusal .number ≡ 0 → ⊥) → PlannedFor B bs P
     unfolding planned
     refused-plan h =
         let e = plan-is ∙ unless-refused (P .refusal) _ h in
-        record { said = unless-refused (P .refusal) _ h ∙ rw (read-got, e); setting = λ z. absurd (h z) }
+        record { said = unless-refused (P .refusal) _ h ∙ rw (read-got, e); setting = λ z. absurd (h z); version = λ z. absurd (h z) }
 
     accepted-plan : P .refusal .number ≡ 0 → Bytes B → Bytes bs → PlannedFor B bs P
     unfolding planned
@@ -92,7 +94,7 @@ module _ (B bs : List ℕ) (R : Reading) (P : Plan) (r : ReadAll B R) where
         let v = p .laid y in
         let a : arraysOf P ≡ arraysIn R = v .1 in
         let e = plan-is ∙ unless-got (P .refusal) (stepsOf bs P) y in
-        let q = recipe-passed (map shapeIn (arraysOf P)) bs (stepsOf bs P) (rw a (sym (p .said) ∙ unless-got (P .refusal) (stepsOf bs P) y)) in
+        let q = recipe-passed (sizesIn B) (map shapeIn (arraysOf P)) bs (stepsOf bs P) (rw (a, ← r .version z) (sym (p .said) ∙ unless-got (P .refusal) (stepsOf bs P) y)) in
         record {
           said = unless-got (P .refusal) _ y ∙ rw (a, read-got, e);
           setting = λ z. (
@@ -101,12 +103,13 @@ module _ (B bs : List ℕ) (R : Reading) (P : Plan) (r : ReadAll B R) where
               fit = λ j h.
                   let l : j < R .count = omega (arith, ap length a, length-take (R .count) (R .heads)) in
                   rw (a, getD-take (R .count) (R .heads) j noHead l) (r .fit j l);
-              whole = rw a (valid-whole (map (arrayAt B) (arraysIn R)) (bundle-read B (map (arrayAt B) (arraysIn R)) hB read-got .valid .each));
+              whole = rw a (valid-whole (sizesIn B) (map (arrayAt B) (arraysIn R)) (bundle-read B (map (arrayAt B) (arraysIn R)) hB read-got .valid .each));
               passed = q .1;
               bytes = hb;
             },
             omega (arith, q .0, steps-count (v .0)),
           );
+          version = λ y. v .2 ∙ r .version z;
         }
 
     pub both-planned : Bytes B → Bytes bs → PlannedFor B bs P
@@ -144,7 +147,7 @@ module _ {bs : List ℕ} {P : Plan} (v : Laid bs P) (some : 1 ≤ P .count) wher
       result-there v j before ∙ ap (λ (i : ℕ). getD (P .operands) i (noOperand false) .head) e
       ∙ ap (λ (o : Operand). o .head) (getD-any (P .operands) (stepsFrom + P .count) (noOperand false) past (omega (arith, v .few, v .named .long)))
 
-  pub last-laid : ResultLaid bs (cellsOfAll (take j (stepsOf bs P)) * cellBytes) (getD (P .steps) j noStep) (lastIn P)
+  pub last-laid : ResultLaid (P .version) bs (cellsOfAll (take j (stepsOf bs P)) * cellBytes) (getD (P .steps) j noStep) (lastIn P)
   last-laid = rw last-there at (laid-there v j before)
 
   pub last-step : getD (stepsOf bs P) j noPlanned .shape ≡ shapeIn (lastIn P)

@@ -16,8 +16,8 @@ ghost use Rattle.run.specs.Calls.{Settled, RowAxes};
 use bundle::read;
 use extent::rank_of;
 use listing::list;
-use pack::put::WHOLE_HEAD;
 use pack::put::put_head;
+use pack::put::whole_head;
 use paper::BOOLEAN;
 use paper::CELL_BYTES;
 use paper::Foreseen;
@@ -135,7 +135,7 @@ pub fn plan(bundle: &[u8], recipe: &[u8]) -> PlanAnswer
     })
 }
 
-// The head of the last result, whole, at the beginning of `head`: its length.
+// The head of the last result, whole, in the bundle's version, at the beginning of `head`: its length.
 pub fn extent(bundle: &[u8], recipe: &[u8], head: &mut [u8]) -> NumberAnswer
     ensures { λ r. ⌜ record { answer = numberSaid r; buffer = now (head .exit) }
         ≡ lastExtent (now (bundle .entry)) (now (recipe .entry)) (now (head .entry)) ⌝ }
@@ -144,13 +144,15 @@ pub fn extent(bundle: &[u8], recipe: &[u8], head: &mut [u8]) -> NumberAnswer
     if plan.refusal.number != 0 {
         return NumberAnswer::Refused(plan.refusal);
     }
-    if head.len() < WHOLE_HEAD {
+    let v = plan.version;
+    let long = whole_head(v);
+    if head.len() < long {
         return NumberAnswer::Refused(refuse(14, 0));
     }
     let operand = plan.operands[RESULTS + plan.count];
-    clear(head, WHOLE_HEAD);
-    put_head(operand.head.form, head, 0);
-    NumberAnswer::Got(WHOLE_HEAD as u32)
+    clear(head, long);
+    put_head(v, operand.head.form, head, 0);
+    NumberAnswer::Got(long as u32)
 }
 
 // A run: the results of all steps in the work area, and how many cells they have.

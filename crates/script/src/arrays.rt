@@ -5,6 +5,9 @@ use crate::line::arg_length;
 use crate::line::arg32;
 use crate::parts::first;
 use crate::parts::first_lent;
+use crate::say::LIMITS;
+use crate::say::MAXIMUM;
+use crate::say::axes_bytes;
 use crate::say::say;
 use crate::say::say_axes;
 use crate::say::say_byte;
@@ -14,23 +17,24 @@ use crate::say::say_count;
 use crate::say::say_number;
 use crate::say::say_refusal;
 use crate::say::say_some;
-use paper::AXIS_BYTES;
 use paper::AxisIndex;
 use paper::CELL_BYTES;
+use paper::HALF_NAME;
 use paper::Head;
-use paper::LOWER_AT;
-use paper::MAXIMUM_LOWER_AT;
 use paper::NumberAnswer;
 use paper::Ordinality;
 use paper::ReferenceAnswer;
 use paper::Seen;
 use paper::TotalAnswer;
 use paper::Totalled;
+use paper::Version;
 use paper::WalkAnswer;
 use refer::choose;
 
-// The bytes of a JSON text at most.
+// The bytes of a JSON text and of a coordinate at most: of one position more than there may be.
 const TEXT: usize = 64;
+
+const COORDINATE: usize = 28;
 
 // ---- numbers
 
@@ -58,9 +62,15 @@ fn show_read(bundle: &[u8]) {
     say_byte(b'\n');
 }
 
+// The version of a bundle.
+pub fn version_of(bundle: &[u8]) -> Version {
+    let reading = bundle::read(bundle);
+    reading.version
+}
+
 // The axes of an array are the bytes before its cells.
-fn axes_at(head: Head) -> usize {
-    let bytes = extent::rank_of(head.form.extent) * AXIS_BYTES;
+fn axes_at(v: Version, head: Head) -> usize {
+    let bytes = axes_bytes(v, extent::rank_of(head.form.extent));
     if head.at < bytes {
         return 0;
     }
@@ -69,28 +79,32 @@ fn axes_at(head: Head) -> usize {
 
 // Array k: its extent and its cells.
 fn show_array(bundle: &[u8], k: u32) {
+    let v = version_of(bundle);
     let chosen = choose(bundle, k);
     let head = chosen.head;
     let at = head.at;
     say_axes(
         bundle,
-        axes_at(head),
+        axes_at(v, head),
         extent::rank_of(head.form.extent),
-        LOWER_AT,
+        v,
+        LIMITS,
     );
     if at <= bundle.len() {
         say_cells(head.form.kind, &bundle[at..], 0, head.cells);
     }
 }
 
-// Its extent, or its maximum: the limits that are so many bytes further than an axis's name.
+// Its extent, or its maximum: the limits that are so many bytes after an axis's name.
 fn show_limits(bundle: &[u8], k: u32, limits: usize) {
+    let v = version_of(bundle);
     let chosen = choose(bundle, k);
     let head = chosen.head;
     say_axes(
         bundle,
-        axes_at(head),
+        axes_at(v, head),
         extent::rank_of(head.form.extent),
+        v,
         limits,
     );
     say_byte(b'\n');
@@ -176,8 +190,18 @@ fn cells_of(bundle: &[u8], head: Head) -> &[u8] {
     &bundle[..0]
 }
 
-// The cells from ordinality o on of arrays 1 and 2 glued on an axis, up to where the other begins.
-fn show_glued(bundle: &[u8], axis: u32, o: u32) {
+// The refusal beside a part, if there is one.
+fn say_said(number: u32, place: u32, ordinality: u32) {
+    if number != 0 {
+        say_count(b"refused ", number as u64);
+        say_count(b" ", place as u64);
+        say_count(b" ", ordinality as u64);
+        say_byte(b'\n');
+    }
+}
+
+// The cells from ordinality o on of arrays 1 and 2 glued on an axis, up to where the other begins, in the version told.
+fn show_glued(version: u32, bundle: &[u8], axis: u32, o: u32) {
     let left = choose(bundle, 1);
     let right = choose(bundle, 2);
     let a = left.head;
@@ -186,6 +210,7 @@ fn show_glued(bundle: &[u8], axis: u32, o: u32) {
     let right_names = b.form.names;
     let mut said = [0u32; 3];
     let part = stretch::stretch(
+        version,
         a.form.kind,
         left_names,
         a.form.extent,
@@ -199,14 +224,14 @@ fn show_glued(bundle: &[u8], axis: u32, o: u32) {
         &mut said,
     );
     say_cells(a.form.kind, part, 0, part.len() / CELL_BYTES);
-    say_some(b"refused ", said[0], b"\n");
+    say_said(said[0], said[1], said[2]);
 }
 
 // ---- a question
 
 fn ask_find(bundle: &[u8], n: usize, args: &[u64; ARGS], kinds: &[u8; ARGS]) {
-    let mut coordinate = [0u8; 16];
-    let end = put_numbers(args, kinds, 2, n, &mut coordinate, 0);
+    let mut coordinate = [0u8; COORDINATE];
+    let end = put_numbers(args, kinds, 2, n, HALF_NAME, &mut coordinate, 0);
     show_reference(bundle, arg32(args, 1), first(&coordinate, end));
 }
 
@@ -216,18 +241,25 @@ fn ask_json(bundle: &[u8], args: &[u64; ARGS]) {
     show_json(bundle, arg32(args, 1), first_lent(&mut out, room));
 }
 
-// A command of the script that asks about the bundle's arrays, by its first letter.
-pub fn ask_array(command: u8, bundle: &[u8], n: usize, args: &[u64; ARGS], kinds: &[u8; ARGS]) {
+// A command of the script that asks about the bundle's arrays, by its first letter; a stretch is told the version.
+pub fn ask_array(
+    command: u8,
+    version: u32,
+    bundle: &[u8],
+    n: usize,
+    args: &[u64; ARGS],
+    kinds: &[u8; ARGS],
+) {
     match command {
         b'o' => show_read(bundle),
         b'l' => show_array(bundle, arg32(args, 1)),
-        b'e' => show_limits(bundle, arg32(args, 1), LOWER_AT),
-        b'm' => show_limits(bundle, arg32(args, 1), MAXIMUM_LOWER_AT),
+        b'e' => show_limits(bundle, arg32(args, 1), LIMITS),
+        b'm' => show_limits(bundle, arg32(args, 1), MAXIMUM),
         b'f' => ask_find(bundle, n, args, kinds),
         b'w' => show_walk(bundle, arg32(args, 1), arg32(args, 2)),
         b't' => show_total(bundle, arg32(args, 1), arg32(args, 2)),
         b'j' => ask_json(bundle, args),
-        b'g' => show_glued(bundle, arg32(args, 1), arg32(args, 2)),
+        b'g' => show_glued(version, bundle, arg32(args, 1), arg32(args, 2)),
         _ => (),
     }
 }

@@ -1,10 +1,14 @@
-// What the script puts on the desk: heads of arrays, their cells, the steps of a recipe, and the bundle that is made of the arrays.
+// What the script puts on the desk: the version told, heads of arrays, their cells, the steps of a recipe, and the bundle that is made of
+// the arrays. Heads are laid out as version 2's, which have room for any version's; steps are of the version told.
 ghost use Prim.Native.Nat.{_≤_};
 use crate::line::ARGS;
 use crate::line::EMPTY;
+use crate::line::NAME;
 use crate::line::NUMBER;
+use crate::line::WIDE;
 use crate::line::arg;
 use crate::line::arg_kind;
+use crate::line::arg_last;
 use crate::line::arg_length;
 use crate::line::arg8;
 use crate::line::arg32;
@@ -13,23 +17,35 @@ use cell::bytes::join4;
 use cell::bytes::put4;
 use cell::bytes::put9;
 use paper::CELL_BYTES;
+use paper::HALF_NAME;
+use paper::HEAD_BYTES;
 use paper::LIMIT_BYTES;
-use paper::STEP_BYTES;
+use paper::LIMITS_BYTES;
+use paper::Sizes;
+use paper::Version;
+use versions::Told;
+use versions::sizes;
+use versions::version_told;
 
-// A head: its type, its axis count and four axes.
-pub const WHOLE_HEAD: usize = paper::TYPE_BYTES + paper::AXES * paper::AXIS_BYTES;
+// A name, a head (its type, its axis count and six axes) and a step of version 2.
+const WHOLE_NAME: usize = 2 * HALF_NAME;
+
+pub const WHOLE_HEAD: usize = paper::TYPE_BYTES + paper::AXES * (WHOLE_NAME + LIMITS_BYTES);
+
+const WHOLE_STEP: usize = HEAD_BYTES + paper::AXES * WHOLE_NAME;
 
 // Room on the desk.
 pub const HEADS: usize = paper::ARRAYS * WHOLE_HEAD;
 
 pub const CELLS: usize = 36864;
 
-pub const STEPS: usize = paper::STEPS * STEP_BYTES;
+pub const STEPS: usize = paper::STEPS * WHOLE_STEP;
 
 pub const BUNDLE: usize = 40000;
 
-// How many heads, bytes of cells and of steps there are, and how long the bundle is.
+// The version told, how many heads, bytes of cells and of steps there are, and how long the bundle is.
 pub struct Desk {
+    pub version: u32,
     pub heads: usize,
     pub cells: usize,
     pub steps: usize,
@@ -38,6 +54,7 @@ pub struct Desk {
 
 pub fn blank() -> Desk {
     Desk {
+        version: 1,
         heads: 0,
         cells: 0,
         steps: 0,
@@ -67,22 +84,63 @@ fn put_number(value: u64, kind: u8, buf: &mut [u8], at: usize) -> usize {
     at + 2 * LIMIT_BYTES
 }
 
-// The words of a line from the j-th up to the n-th, into `buf` from byte `at` on; answers where they end.
+// The j-th word; a name by so many bytes.
+fn put_word(
+    args: &[u64; ARGS],
+    kinds: &[u8; ARGS],
+    j: usize,
+    name: usize,
+    buf: &mut [u8],
+    at: usize,
+) -> usize {
+    let kind = arg_kind(kinds, j);
+    let end = put_number(arg(args, j), kind, buf, at);
+    if kind != NAME {
+        return end;
+    }
+    if name <= HALF_NAME {
+        return end;
+    }
+    put_number(arg_last(args, j), WIDE, buf, end)
+}
+
+// The words of a line from the j-th up to the n-th, into `buf` from byte `at` on; answers where they end. A name takes so many bytes.
 pub fn put_numbers(
     args: &[u64; ARGS],
     kinds: &[u8; ARGS],
     from: usize,
     n: usize,
+    name: usize,
     buf: &mut [u8],
     at: usize,
 ) -> usize {
     let mut end = at;
     let mut j = from;
     while j < n {
-        end = put_number(arg(args, j), arg_kind(kinds, j), buf, end);
+        end = put_word(args, kinds, j, name, buf, end);
         j += 1;
     }
     end
+}
+
+// The sizes of the version told; of version 1 where it is none.
+fn sizes_told(version: u32) -> Sizes {
+    let told = version_told(version);
+    match told {
+        Told::Is(v) => return sizes(v),
+        Told::Unknown => return sizes(Version::One),
+    }
+}
+
+// declare VERSION
+pub fn declared(desk: Desk, version: u32) -> Desk {
+    Desk {
+        version,
+        heads: desk.heads,
+        cells: desk.cells,
+        steps: desk.steps,
+        bundle: desk.bundle,
+    }
 }
 
 // int, float or boolean.
@@ -113,8 +171,9 @@ pub fn add_array(
         at,
         join4(type_of(arg8(args, 1)), (n / 5 % 256) as u8, 0, 0),
     );
-    put_numbers(args, kinds, 2, n, heads, at + 2);
+    put_numbers(args, kinds, 2, n, WHOLE_NAME, heads, at + 2);
     Desk {
+        version: desk.version,
         heads: next,
         cells: desk.cells,
         steps: desk.steps,
@@ -169,6 +228,7 @@ pub fn add_cells(
         j += 1;
     }
     Desk {
+        version: desk.version,
         heads: desk.heads,
         cells: end,
         steps: desk.steps,
@@ -185,21 +245,24 @@ pub fn add_step(
     steps: &mut [u8],
 ) -> Desk {
     let at = desk.steps;
-    if steps.len() < STEP_BYTES {
+    let z = sizes_told(desk.version);
+    let size = z.step;
+    if steps.len() < size {
         return desk;
     }
-    if steps.len() - STEP_BYTES < at {
+    if steps.len() - size < at {
         return desk;
     }
-    let next = at + STEP_BYTES;
-    clear_bytes(steps, at, STEP_BYTES);
+    let next = at + size;
+    clear_bytes(steps, at, size);
     put_half(
         steps,
         at,
         join4(arg8(args, 1), arg8(args, 2), arg8(args, 3), arg8(args, 4)),
     );
-    put_numbers(args, kinds, 5, n, steps, at + paper::HEAD_BYTES);
+    put_numbers(args, kinds, 5, n, z.name, steps, at + HEAD_BYTES);
     Desk {
+        version: desk.version,
         heads: desk.heads,
         cells: desk.cells,
         steps: next,
@@ -210,6 +273,7 @@ pub fn add_step(
 // No steps.
 pub fn erased(desk: Desk) -> Desk {
     Desk {
+        version: desk.version,
         heads: desk.heads,
         cells: desk.cells,
         steps: 0,
@@ -220,6 +284,7 @@ pub fn erased(desk: Desk) -> Desk {
 // A bundle of so many bytes.
 pub fn bundled(desk: Desk, n: usize) -> Desk {
     Desk {
+        version: desk.version,
         heads: desk.heads,
         cells: desk.cells,
         steps: desk.steps,
@@ -237,5 +302,5 @@ pub fn zeros(desk: Desk, args: &[u64; ARGS], bundle: &mut [u8]) -> Desk {
 // insert AT NUMBER ..: bytes of the bundle.
 pub fn insert(n: usize, args: &[u64; ARGS], kinds: &[u8; ARGS], bundle: &mut [u8]) {
     let at = arg32(args, 1) as usize;
-    put_numbers(args, kinds, 2, n, bundle, at);
+    put_numbers(args, kinds, 2, n, HALF_NAME, bundle, at);
 }

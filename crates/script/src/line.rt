@@ -1,12 +1,16 @@
 // A line of the script: words apart by blanks, each a number. `-5` and `12` are numbers, `=12` one of eight bytes, `#3ff0000000000000` the
-// bits of one, `_` an empty cell, `_9` nine of them, `TRUE` and `FALSE` truth values; any other word is a name, whose first eight letters are its number.
+// bits of one, `_` an empty cell, `_9` nine of them, `TRUE` and `FALSE` truth values; any other word is a name of up to 16 letters, whose first eight
+// are its number.
 ghost use Prim.Native.Nat.{_<_, _≤_};
 ghost use lib.ListN.{length};
 use std::num::wrapping_add_u64;
 use std::num::wrapping_sub_u64;
 
 // The words of a line at most.
-pub const ARGS: usize = 40;
+const WORDS: usize = 40;
+
+// The numbers of a line: one for each word, and after these the last eight letters of each.
+pub const ARGS: usize = 2 * WORDS;
 
 // Kinds of words.
 pub const NONE: u8 = 0;
@@ -28,6 +32,7 @@ pub struct Word {
     kind: u8,
     minus: bool,
     value: u64,
+    last: u64,
     letters: usize,
 }
 
@@ -42,6 +47,7 @@ fn new_word(kind: u8, value: u64) -> Word {
         kind,
         minus: false,
         value,
+        last: 0,
         letters: 0,
     }
 }
@@ -86,7 +92,7 @@ fn sixteen_times(value: u64, b: u8) -> u64 {
     value
 }
 
-// The k-th letter of a name, from 0, in its number.
+// The k-th letter of eight, from 0, in their number.
 fn letter_at(k: usize, b: u8) -> u64 {
     let n = b as u64;
     match k {
@@ -103,13 +109,23 @@ fn letter_at(k: usize, b: u8) -> u64 {
 }
 
 fn with_letter(w: Word, b: u8) -> Word {
-    if 7 < w.letters {
+    if 15 < w.letters {
         return w;
+    }
+    if 7 < w.letters {
+        return Word {
+            kind: w.kind,
+            minus: false,
+            value: w.value,
+            last: wrapping_add_u64(w.last, letter_at(w.letters - 8, b)),
+            letters: w.letters + 1,
+        };
     }
     Word {
         kind: w.kind,
         minus: false,
         value: wrapping_add_u64(w.value, letter_at(w.letters, b)),
+        last: 0,
         letters: w.letters + 1,
     }
 }
@@ -119,6 +135,7 @@ fn with_value(w: Word, minus: bool, value: u64) -> Word {
         kind: w.kind,
         minus,
         value,
+        last: w.last,
         letters: w.letters,
     }
 }
@@ -171,8 +188,9 @@ fn value_of(w: Word) -> u64 {
 // The word among the others, if it is one; answers how many there are.
 fn kept(w: Word, n: usize, args: &mut [u64; ARGS], kinds: &mut [u8; ARGS]) -> usize {
     if w.kind != NONE {
-        if n < ARGS {
+        if n < WORDS {
             args[n] = value_of(w);
+            args[WORDS + n] = w.last;
             kinds[n] = w.kind;
             return n + 1;
         }
@@ -204,16 +222,23 @@ pub fn read_line(text: &[u8], at: usize, args: &mut [u64; ARGS], kinds: &mut [u8
     Line { count: n, next: i }
 }
 
-// The j-th word's number, and its kind.
+// The j-th word's number, its last eight letters, and its kind.
 pub fn arg(args: &[u64; ARGS], j: usize) -> u64 {
-    if j < ARGS {
+    if j < WORDS {
         return args[j];
     }
     0
 }
 
+pub fn arg_last(args: &[u64; ARGS], j: usize) -> u64 {
+    if j < WORDS {
+        return args[WORDS + j];
+    }
+    0
+}
+
 pub fn arg_kind(kinds: &[u8; ARGS], j: usize) -> u8 {
-    if j < ARGS {
+    if j < WORDS {
         return kinds[j];
     }
     NONE
@@ -228,13 +253,19 @@ pub fn arg8(args: &[u64; ARGS], j: usize) -> u8 {
     (arg(args, j) % 256) as u8
 }
 
-// A length, at most so many.
-pub fn arg_length(args: &[u64; ARGS], j: usize, most: usize) -> usize
+// A number, at most so many.
+pub fn at_most(n: usize, most: usize) -> usize
     ensures { λ r. ⌜ r ≤ most ⌝ }
 {
-    let n = arg32(args, j) as usize;
     if n < most {
         return n;
     }
     most
+}
+
+// The j-th word as a length.
+pub fn arg_length(args: &[u64; ARGS], j: usize, most: usize) -> usize
+    ensures { λ r. ⌜ r ≤ most ⌝ }
+{
+    at_most(arg32(args, j) as usize, most)
 }

@@ -8,21 +8,24 @@ use crate::desk::add_cells;
 use crate::desk::add_step;
 use crate::desk::blank;
 use crate::desk::bundled;
+use crate::desk::declared;
 use crate::desk::erased;
 use crate::desk::insert;
 use crate::desk::zeros;
 use crate::line::ARGS;
 use crate::line::arg_length;
+use crate::line::arg32;
 use crate::parts::first;
 use crate::parts::first_lent;
 use crate::say::say_some;
 use c_asked::forms_in;
+use paper::Version;
 
-// The arrays packed into so many bytes: the bundle's length, or 0, and the refusal is printed.
-fn packed(heads: &[u8], cells: &[u8], out: &mut [u8]) -> u32 {
-    let told = forms_in(heads);
+// The arrays packed in the version told, into so many bytes: the bundle's length, or 0, and the refusal is printed.
+fn packed(version: u32, heads: &[u8], cells: &[u8], out: &mut [u8]) -> u32 {
+    let told = forms_in(Version::Two, heads);
     let forms = told.forms;
-    number_of(pack::pack(told.count, forms, cells, out))
+    number_of(pack::pack(version, told.count, forms, cells, out))
 }
 
 // The second word as a length, or all that there is.
@@ -49,6 +52,7 @@ fn make_bundle(
     }
     let room = room_asked(n, args, bundle.len());
     let length = packed(
+        desk.version,
         first(heads, desk.heads * WHOLE_HEAD),
         first(cells, desk.cells),
         first_lent(bundle, room),
@@ -74,6 +78,7 @@ pub fn make(
 ) -> Desk {
     match command {
         b'n' => blank(),
+        b'd' => declared(desk, arg32(args, 1)),
         b'a' => add_array(desk, n, args, kinds, heads),
         b'c' => add_cells(desk, n, args, kinds, cells),
         b'b' => make_bundle(desk, n, args, heads, cells, bundle),

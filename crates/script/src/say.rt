@@ -1,14 +1,27 @@
 // Numbers, extents, cells and refusals, printed.
+ghost use Prim.Native.Nat.{_≤_};
+use crate::line::at_most;
 use cell::bytes::Got;
 use cell::bytes::half;
 use cell::bytes::read_cell;
 use cell::bytes::word_of;
 use libc::STDOUT_FILENO;
-use paper::AXIS_BYTES;
 use paper::CELL_BYTES;
 use paper::Cell;
+use paper::HALF_NAME;
 use paper::LIMIT_BYTES;
+use paper::PAIR_BYTES;
 use paper::Refusal;
+use paper::Version;
+use versions::sizes;
+
+// Where an axis has its limits and its maximum's, in bytes after its name.
+pub const LIMITS: usize = 0;
+
+pub const MAXIMUM: usize = PAIR_BYTES;
+
+// The bytes of an axis or its name at most, in any version.
+const WIDEST: usize = 32;
 
 pub fn say(text: &[u8]) {
     io::write_all(STDOUT_FILENO, text);
@@ -120,14 +133,28 @@ fn say_letter(s: &[u8], i: usize) {
     }
 }
 
-// The first four letters of a name: the examples' names have no more.
-fn say_name(s: &[u8], at: usize) {
+// The eight letters of half a name.
+fn say_half(s: &[u8], at: usize) {
     if at < 0x1_0000_0000 {
-        say_byte(b' ');
         say_letter(s, at);
         say_letter(s, at + 1);
         say_letter(s, at + 2);
         say_letter(s, at + 3);
+        say_letter(s, at + 4);
+        say_letter(s, at + 5);
+        say_letter(s, at + 6);
+        say_letter(s, at + 7);
+    }
+}
+
+// A name of so many bytes.
+fn say_name(s: &[u8], at: usize, name: usize) {
+    say_byte(b' ');
+    say_half(s, at);
+    if HALF_NAME < name {
+        if at < 0x1_0000_0000 {
+            say_half(s, at + HALF_NAME);
+        }
     }
 }
 
@@ -144,24 +171,30 @@ fn say_limits(s: &[u8], at: usize) {
     }
 }
 
-// The k-th axis, from 0, of those that begin at byte `at`: its name, and the limits that are so many bytes further.
-fn say_axis(s: &[u8], at: usize, k: usize, rank: usize, limits: usize) {
+// The bytes of so many axes of a version, of at most six.
+pub fn axes_bytes(v: Version, n: usize) -> usize
+    ensures { λ r. ⌜ r ≤ 192 ⌝ }
+{
+    at_most(n, paper::AXES) * at_most(sizes(v).axis, WIDEST)
+}
+
+// The k-th axis, from 0, of those of a version that begin at byte `at`: its name, and the limits that are so many bytes after it.
+fn say_axis(s: &[u8], at: usize, k: usize, rank: usize, v: Version, limits: usize) {
     if k < rank {
-        if k < paper::AXES {
-            if at < 0x1_0000_0000 {
-                if limits < AXIS_BYTES {
-                    let here = at + k * AXIS_BYTES;
-                    say_name(s, here);
-                    say_limits(s, here + limits);
-                }
-            }
+        if at < 0x1_0000_0000 {
+            let name = at_most(sizes(v).name, WIDEST);
+            let here = at + axes_bytes(v, k);
+            say_name(s, here, name);
+            say_limits(s, here + name + at_most(limits, WIDEST));
         }
     }
 }
 
-pub fn say_axes(s: &[u8], at: usize, rank: usize, limits: usize) {
-    say_axis(s, at, 0, rank, limits);
-    say_axis(s, at, 1, rank, limits);
-    say_axis(s, at, 2, rank, limits);
-    say_axis(s, at, 3, rank, limits);
+pub fn say_axes(s: &[u8], at: usize, rank: usize, v: Version, limits: usize) {
+    say_axis(s, at, 0, rank, v, limits);
+    say_axis(s, at, 1, rank, v, limits);
+    say_axis(s, at, 2, rank, v, limits);
+    say_axis(s, at, 3, rank, v, limits);
+    say_axis(s, at, 4, rank, v, limits);
+    say_axis(s, at, 5, rank, v, limits);
 }

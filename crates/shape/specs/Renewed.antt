@@ -10,7 +10,7 @@ use lib.Seq.{drop-drop}
 use mir.Syntax.{w32}
 use mir.Val.{toZ}
 use Rattle.paper.specs.declared.Axis.{Axis}
-use Rattle.paper.specs.Limits.{mostAxes, limitBytes, pairBytes, detailBytes}
+use Rattle.paper.specs.Limits.{limitBytes, pairBytes}
 use Rattle.paper.specs.Numbers.{leOf, part, signedAt, positionAt, moved, distance}
 use Rattle.paper.specs.Axes.{limited, noAxis}
 use Rattle.paper.specs.Recipe.{eachAnew}
@@ -32,16 +32,12 @@ abbrev pub bytesFor : Change → ℕ
 bytesFor Limits = pairBytes
 bytesFor Moved = limitBytes
 
--- the detail has them for every axis
-all-fit : (how : Change) → mostAxes * bytesFor how ≤ detailBytes
-all-fit Limits = omega arith
-all-fit Moved = omega arith
-
 next : (i w : ℕ) → i * w + w ≡ (i + 1) * w
 next i w = omega arith
 
-pub fits : (how : Change) (i : ℕ) → i < mostAxes → i * bytesFor how + bytesFor how ≤ detailBytes
-fits how i h = le-trans (le-of-eq (next i (bytesFor how))) (le-trans (mul-le-mul-right (bytesFor how) (omega arith)) (all-fit how))
+-- the bytes for n axes have those of axis i
+pub fits : (how : Change) (i n : ℕ) → i < n → i * bytesFor how + bytesFor how ≤ n * bytesFor how
+fits how i n h = le-trans (le-of-eq (next i (bytesFor how))) (mul-le-mul-right (bytesFor how) (omega arith))
 
 -- ---- axis i
 
@@ -59,23 +55,44 @@ anew-at x f w (a ∷ E) d (suc i) h =
     let e : w + i * w ≡ suc i * w = omega arith in
     anew-at x f w E (drop w d) i (omega arith) ∙ ap (f (getD E i x)) (drop-drop (i * w) w d ∙ ap (λ (n : ℕ). drop n d) e)
 
--- what it is made of stands in the bytes themselves
-fresh-after : (how : Change) (a : Axis) (s : List ℕ) (at n : ℕ) → n + bytesFor how ≤ detailBytes
-    → fresh how a (drop n (part at detailBytes s)) ≡ fresh how a (drop (at + n) s)
-fresh-after Limits a s at n h =
-    ap₂ (λ (x y : List ℕ). limited (distance (toZ w32 (leOf x))) (distance (toZ w32 (leOf y))))
-    (part-after s at detailBytes n 0 limitBytes (omega arith)) (part-after s at detailBytes n limitBytes limitBytes (omega arith))
-fresh-after Moved a s at n h =
-    ap (λ (x : List ℕ). limited (moved (a .lo) (toZ w32 (leOf x))) (moved (a .hi) (toZ w32 (leOf x)))) (part-after s at detailBytes n 0 limitBytes (omega arith))
-
 -- ---- all of them
 
 abbrev pub renewed : Change → List Axis → List ℕ → ℕ → List Axis
-renewed how E s at = eachAnew (fresh how) (bytesFor how) E (part at detailBytes s)
+renewed how E s at = eachAnew (fresh how) (bytesFor how) E (drop at s)
 
 pub length-renewed : (how : Change) (E : List Axis) (s : List ℕ) (at : ℕ) → length (renewed how E s at) ≡ length E
-length-renewed how E s at = length-anew (fresh how) (bytesFor how) E (part at detailBytes s)
+length-renewed how E s at = length-anew (fresh how) (bytesFor how) E (drop at s)
 
-pub renewed-at : (how : Change) (E : List Axis) (s : List ℕ) (at i : ℕ) → i < length E → i < mostAxes
+pub renewed-at : (how : Change) (E : List Axis) (s : List ℕ) (at i : ℕ) → i < length E
     → fresh how (getD E i noAxis) (drop (at + i * bytesFor how) s) ≡ getD (renewed how E s at) i noAxis
-renewed-at how E s at i h k = sym (anew-at noAxis (fresh how) (bytesFor how) E (part at detailBytes s) i h ∙ fresh-after how (getD E i noAxis) s at (i * bytesFor how) (fits how i k))
+renewed-at how E s at i h =
+    sym (anew-at noAxis (fresh how) (bytesFor how) E (drop at s) i h ∙ ap (fresh how (getD E i noAxis)) (drop-drop (i * bytesFor how) at s))
+
+-- ---- from a detail of d bytes, which has those of every axis
+
+pub detail-after : (s : List ℕ) (at d n i k : ℕ) → n + i + k ≤ d → part i k (drop n (part at d s)) ≡ part i k (drop n (drop at s))
+detail-after s at d n i k h = part-after s at d n i k h ∙ ap (part i k) (sym (drop-drop n at s))
+
+fresh-after : (how : Change) (a : Axis) (s : List ℕ) (at d n : ℕ) → n + bytesFor how ≤ d
+    → fresh how a (drop n (part at d s)) ≡ fresh how a (drop n (drop at s))
+fresh-after Limits a s at d n h =
+    ap₂ (λ (x y : List ℕ). limited (distance (toZ w32 (leOf x))) (distance (toZ w32 (leOf y))))
+    (detail-after s at d n 0 limitBytes (omega arith)) (detail-after s at d n limitBytes limitBytes (omega arith))
+fresh-after Moved a s at d n h =
+    ap (λ (x : List ℕ). limited (moved (a .lo) (toZ w32 (leOf x))) (moved (a .hi) (toZ w32 (leOf x)))) (detail-after s at d n 0 limitBytes (omega arith))
+
+anew-after : (how : Change) (E : List Axis) (s : List ℕ) (at d n : ℕ) → n + length E * bytesFor how ≤ d
+    → eachAnew (fresh how) (bytesFor how) E (drop n (part at d s)) ≡ eachAnew (fresh how) (bytesFor how) E (drop n (drop at s))
+unfolding eachAnew
+anew-after how [] s at d n h = refl
+anew-after how (a ∷ E) s at d n h =
+    let w = bytesFor how in
+    let e : w + length E * w ≡ suc (length E) * w = omega arith in
+    let p = drop-drop w n (part at d s) in
+    let q = drop-drop w n (drop at s) in
+    ap₂ (λ (x : Axis) (l : List Axis). x ∷ l) (fresh-after how a s at d n (omega (arith, e, h)))
+    (ap (eachAnew (fresh how) w E) p ∙ anew-after how E s at d (n + w) (omega (arith, e, h)) ∙ sym (ap (eachAnew (fresh how) w E) q))
+
+pub in-detail : (how : Change) (E : List Axis) (s : List ℕ) (at d : ℕ) → length E * bytesFor how ≤ d
+    → eachAnew (fresh how) (bytesFor how) E (drop at s) ≡ eachAnew (fresh how) (bytesFor how) E (part at d s)
+in-detail how E s at d h = sym (anew-after how E s at d 0 (omega (arith, h)))

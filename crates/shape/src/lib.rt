@@ -2,9 +2,9 @@
 // axis by axis, so that nothing stands past its last axis. Names follow on their own.
 ghost use mathlib.Core.Path.{_≡_};
 ghost use mathlib.Core.List.{[], map};
-ghost use lib.ListN.{drop};
-ghost use Rattle.paper.specs.Limits.{detailBytes, pairBytes, limitBytes};
-ghost use Rattle.paper.specs.Numbers.{part};
+ghost use Prim.Native.Nat.{_*_};
+ghost use lib.ListN.{length, drop};
+ghost use Rattle.paper.specs.Limits.{pairBytes, limitBytes};
 ghost use Rattle.paper.specs.Axes.{without, star};
 ghost use Rattle.paper.specs.Recipe.{eachAnew, withLimits, shifted, glued};
 ghost use Rattle.paper.specs.Answers.{axesOf, extentOf};
@@ -142,8 +142,8 @@ fn axis_anew(how: Change, a: Axis, s: &[u8], at: usize) -> Axis
 // Every axis made anew from the detail at byte `at`.
 fn anew(how: Change, e: Extent, s: &[u8], at: usize) -> Extent
     requires { ⌜ Small (axesOf e) ⌝ }
-    requires { ⌜ Holds at detailBytes (now s) ⌝ }
-    ensures { λ r. ⌜ axesOf r ≡ eachAnew (fresh how) (bytesFor how) (axesOf e) (part at detailBytes (now (s .entry))) ⌝ }
+    requires { ⌜ Holds at (length (axesOf e) * bytesFor how) (now s) ⌝ }
+    ensures { λ r. ⌜ axesOf r ≡ eachAnew (fresh how) (bytesFor how) (axesOf e) (drop at (now (s .entry))) ⌝ }
 {
     let width = bytes_for(how);
     let rank = extent::rank_of(e);
@@ -159,8 +159,8 @@ fn anew(how: Change, e: Extent, s: &[u8], at: usize) -> Extent
 // The extent with the limits of the pairs.
 pub fn with_limits(e: Extent, s: &[u8], at: usize) -> Extent
     requires { ⌜ Small (axesOf e) ⌝ }
-    requires { ⌜ Holds at detailBytes (now s) ⌝ }
-    ensures { λ r. ⌜ axesOf r ≡ withLimits (axesOf e) (part at detailBytes (now (s .entry))) ⌝ }
+    requires { ⌜ Holds at (length (axesOf e) * pairBytes) (now s) ⌝ }
+    ensures { λ r. ⌜ axesOf r ≡ withLimits (axesOf e) (drop at (now (s .entry))) ⌝ }
 {
     anew(Change::Limits, e, s, at)
 }
@@ -168,8 +168,8 @@ pub fn with_limits(e: Extent, s: &[u8], at: usize) -> Extent
 // The extent moved by the amounts.
 pub fn shifted_by(e: Extent, s: &[u8], at: usize) -> Extent
     requires { ⌜ Small (axesOf e) ⌝ }
-    requires { ⌜ Holds at detailBytes (now s) ⌝ }
-    ensures { λ r. ⌜ axesOf r ≡ shifted (axesOf e) (part at detailBytes (now (s .entry))) ⌝ }
+    requires { ⌜ Holds at (length (axesOf e) * limitBytes) (now s) ⌝ }
+    ensures { λ r. ⌜ axesOf r ≡ shifted (axesOf e) (drop at (now (s .entry))) ⌝ }
 {
     anew(Change::Moved, e, s, at)
 }

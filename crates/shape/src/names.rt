@@ -1,10 +1,10 @@
 // New names from old: without that of an axis removed, or those of a step's detail.
 ghost use mathlib.Core.Path.{_≡_};
 ghost use mathlib.Core.List.{List, []};
-ghost use Prim.Native.Nat.{_+_, _≤_};
+ghost use Prim.Native.Nat.{_+_, _*_, _≤_};
 ghost use lib.ListN.{length, take, drop};
 ghost use Rattle.paper.specs.declared.Name.{Name};
-ghost use Rattle.paper.specs.Limits.{mostAxes, nameBytes, detailBytes};
+ghost use Rattle.paper.specs.Limits.{mostAxes, halfName, sizesOf};
 ghost use Rattle.paper.specs.Refusals.{if_then_else_};
 ghost use Rattle.paper.specs.Numbers.{part};
 ghost use Rattle.paper.specs.Axes.{without};
@@ -15,23 +15,46 @@ ghost use Rattle.positions.specs.Runs.{Holds};
 use cell::bytes::word;
 use paper::AXES;
 use paper::AxisIndex;
-use paper::NAME_BYTES;
+use paper::HALF_NAME;
 use paper::Name;
+use paper::Version;
+use versions::sizes;
 
 // No name yet.
 pub fn no_names() -> [Name; AXES]
     ensures { λ r. ⌜ r ≡ namesOf [] ⌝ }
 {
-    [Name { first: 0 }; AXES]
+    [Name { first: 0, last: 0 }; AXES]
 }
 
-// The name at byte `at`.
-pub fn name_at(s: &[u8], at: usize) -> Name
-    requires { ⌜ Holds at nameBytes (now s) ⌝ }
-    ensures { λ r. ⌜ r ≡ nameFrom (drop at (now (s .entry))) ⌝ }
+// The name of eight letters at byte `at`.
+fn short_name(s: &[u8], at: usize) -> Name
+    requires { ⌜ Holds at halfName (now s) ⌝ }
+    ensures { λ r. ⌜ r ≡ nameFrom (part at halfName (now (s .entry))) ⌝ }
 {
     let first = word(s, at);
-    Name { first }
+    Name { first, last: 0 }
+}
+
+// The name of sixteen letters at byte `at`.
+fn long_name(s: &[u8], at: usize) -> Name
+    requires { ⌜ Holds at (2 * halfName) (now s) ⌝ }
+    ensures { λ r. ⌜ r ≡ nameFrom (part at (2 * halfName) (now (s .entry))) ⌝ }
+{
+    let first = word(s, at);
+    let last = word(s, at + HALF_NAME);
+    Name { first, last }
+}
+
+// The name at byte `at`, of as many letters as the version's names have.
+pub fn name_at(v: Version, s: &[u8], at: usize) -> Name
+    requires { ⌜ Holds at (sizesOf v .name) (now s) ⌝ }
+    ensures { λ r. ⌜ r ≡ nameFrom (part at (sizesOf v .name) (now (s .entry))) ⌝ }
+{
+    match v {
+        Version::One => return short_name(s, at),
+        Version::Two => return long_name(s, at),
+    }
 }
 
 // The next place, unless what was put there is left out.
@@ -63,15 +86,17 @@ pub fn without_name(names: [Name; AXES], rank: usize, k: AxisIndex) -> [Name; AX
 }
 
 // As many names as `rank`, from the detail at byte `at`.
-pub fn names_at(rank: usize, s: &[u8], at: usize) -> [Name; AXES]
+pub fn names_at(v: Version, rank: usize, s: &[u8], at: usize) -> [Name; AXES]
     requires { ⌜ rank ≤ mostAxes ⌝ }
-    requires { ⌜ Holds at detailBytes (now s) ⌝ }
-    ensures { λ r. ⌜ ((N : List Name) → length N ≡ rank → take rank r ≡ renamed N (part at detailBytes (now (s .entry)))) ⌝ }
+    requires { ⌜ Holds at (rank * sizesOf v .name) (now s) ⌝ }
+    ensures { λ r. ⌜ ((N : List Name) → length N ≡ rank → take rank r ≡ renamed (sizesOf v .name) N (drop at (now (s .entry)))) ⌝ }
 {
+    let z = sizes(v);
+    let width = z.name;
     let mut new = no_names();
     let mut i: usize = 0;
     while i < rank {
-        new[i] = name_at(s, at + i * NAME_BYTES);
+        new[i] = name_at(v, s, at + i * width);
         i += 1;
     }
     new

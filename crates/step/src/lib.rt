@@ -6,12 +6,15 @@ pub mod tests;
 pub mod unused;
 
 use paper::Operation;
+use paper::Version;
 
-// A step's operation, operands and axis index, and the byte of the recipe at which its detail begins.
+// A step's operation, operands and axis index, the byte of the recipe at which its detail begins, and the version that the detail has the
+// bytes of.
 pub struct StepHead {
     pub operation: Operation,
     pub a: u8,
     pub b: u8,
     pub axis: u8,
     pub at: usize,
+    pub version: Version,
 }

@@ -2,9 +2,10 @@
 ghost use mathlib.Core.Path.{_≡_};
 ghost use mathlib.Core.Bool.{true, not, _&&_, _||_};
 ghost use lib.Dec.{eqb};
-ghost use lib.ListN.{length};
+ghost use Prim.Native.Nat.{_+_, _*_};
+ghost use lib.ListN.{length, drop};
 ghost use Rattle.paper.specs.declared.Operation.the-variants.{Moves};
-ghost use Rattle.paper.specs.Limits.{detailBytes, scalarAt, wordBytes};
+ghost use Rattle.paper.specs.Limits.{limitBytes, pairBytes, scalarAt, wordBytes, sizesOf};
 ghost use Rattle.paper.specs.Numbers.{leOf, part, positionAt};
 ghost use Rattle.paper.specs.Axes.{without, onAxis, axisAt};
 ghost use Rattle.paper.specs.Cells.{filled};
@@ -13,7 +14,7 @@ ghost use Rattle.paper.specs.Recipe.{uses, axisIn, isScalar, takesType, typesFi
 ghost use Rattle.paper.specs.Answers.{axesOf, shapeOf};
 ghost use Rattle.positions.specs.Runs.{Holds};
 ghost use Rattle.extent.specs.Judged.{Small};
-ghost use Rattle.step.specs.Steps.{stepIn};
+ghost use Rattle.step.specs.Steps.{detailOf, stepIn, Detailed};
 ghost use Rattle.step.specs.Named.{NamesTold};
 use crate::StepHead;
 use cell::bytes::Got;
@@ -59,8 +60,8 @@ fn one_type(b: bool, t: u8, u: u8) -> bool
 
 // The operator takes A's type, and the scalar of the detail at `at` is of it.
 fn scalar_fits(o: PairOp, t: u8, s: &[u8], at: usize) -> bool
-    requires { ⌜ Holds at detailBytes (now s) ⌝ }
-    ensures { λ r. ⌜ r ≡ (takes o t && isScalar (filled t (leOf (part scalarAt wordBytes (part at detailBytes (now (s .entry))))))) ⌝ }
+    requires { ⌜ Holds at (scalarAt + wordBytes) (now s) ⌝ }
+    ensures { λ r. ⌜ r ≡ (takes o t && isScalar (filled t (leOf (part (at + scalarAt) wordBytes (now (s .entry)))))) ⌝ }
 {
     if !takes_pair(o, t) {
         return false;
@@ -74,7 +75,7 @@ fn scalar_fits(o: PairOp, t: u8, s: &[u8], at: usize) -> bool
 
 // The operator takes A's type, with its scalar.
 fn takes_type(w: Work, step: StepHead, t: u8, s: &[u8]) -> bool
-    requires { ⌜ Holds (step .at) detailBytes (now s) ⌝ }
+    requires { ⌜ Holds (step .at) (detailOf step) (now s) ⌝ }
     ensures { λ r. ⌜ r ≡ takesType w (stepIn (now (s .entry)) step) t ⌝ }
 {
     match w {
@@ -86,7 +87,7 @@ fn takes_type(w: Work, step: StepHead, t: u8, s: &[u8]) -> bool
 
 // The types fit the operation; b tells whether it uses B.
 pub fn types_fit(step: StepHead, b: bool, t: u8, u: u8, s: &[u8]) -> bool
-    requires { ⌜ Holds (step .at) detailBytes (now s) ⌝ }
+    requires { ⌜ Holds (step .at) (detailOf step) (now s) ⌝ }
     requires { ⌜ b ≡ uses (step .operation) .b ⌝ }
     ensures { λ r. ⌜ r ≡ typesFit (step .operation) (stepIn (now (s .entry)) step) t u ⌝ }
 {
@@ -108,24 +109,24 @@ pub fn types_fit(step: StepHead, b: bool, t: u8, u: u8, s: &[u8]) -> bool
 // Both ends of each pair of the detail lie inside A.
 fn trim_fits(e: Extent, s: &[u8], at: usize) -> bool
     requires { ⌜ Small (axesOf e) ⌝ }
-    requires { ⌜ Holds at detailBytes (now s) ⌝ }
-    ensures { λ r. ⌜ r ≡ covers (axesOf e) (withLimits (axesOf e) (part at detailBytes (now (s .entry)))) ⌝ }
+    requires { ⌜ Holds at (length (axesOf e) * pairBytes) (now s) ⌝ }
+    ensures { λ r. ⌜ r ≡ covers (axesOf e) (withLimits (axesOf e) (drop at (now (s .entry)))) ⌝ }
 {
     covers_all(e, with_limits(e, s, at))
 }
 
 // The position of the detail lies on the axis of A.
 fn slice_fits(e: Extent, k: AxisIndex, s: &[u8], at: usize) -> bool
-    requires { ⌜ Holds at detailBytes (now s) ⌝ }
-    ensures { λ r. ⌜ r ≡ onAxis (axisAt (k .0) (axesOf e)) (positionAt 0 (part at detailBytes (now (s .entry)))) ⌝ }
+    requires { ⌜ Holds at limitBytes (now s) ⌝ }
+    ensures { λ r. ⌜ r ≡ onAxis (axisAt (k .0) (axesOf e)) (positionAt at (now (s .entry))) ⌝ }
 {
     on_axis(axis_of(e, k), position_at(s, at))
 }
 
 // The same, and B lies inside the rest of A.
 fn put_fits(e: Extent, f: Extent, k: AxisIndex, s: &[u8], at: usize) -> bool
-    requires { ⌜ Holds at detailBytes (now s) ⌝ }
-    ensures { λ r. ⌜ r ≡ (onAxis (axisAt (k .0) (axesOf e)) (positionAt 0 (part at detailBytes (now (s .entry))))
+    requires { ⌜ Holds at limitBytes (now s) ⌝ }
+    ensures { λ r. ⌜ r ≡ (onAxis (axisAt (k .0) (axesOf e)) (positionAt at (now (s .entry)))
         && covers (without (k .0) (axesOf e)) (axesOf f)) ⌝ }
 {
     if !slice_fits(e, k, s, at) {
@@ -137,7 +138,7 @@ fn put_fits(e: Extent, f: Extent, k: AxisIndex, s: &[u8], at: usize) -> bool
 // What a move wants inside A is.
 fn move_fits(m: Move, step: StepHead, a: Form, b: Form, s: &[u8]) -> bool
     requires { ⌜ Small (axesOf (a .extent)) ⌝ }
-    requires { ⌜ Holds (step .at) detailBytes (now s) ⌝ }
+    requires { ⌜ Detailed (now s) step (axesOf (a .extent)) ⌝ }
     ensures { λ r. ⌜ r ≡ fitsIn (Moves m) (stepIn (now (s .entry)) step) (shapeOf a) (shapeOf b) ⌝ }
 {
     match m {
@@ -155,7 +156,7 @@ fn move_fits(m: Move, step: StepHead, a: Form, b: Form, s: &[u8]) -> bool
 // What must lie inside A does.
 pub fn fits_in(step: StepHead, a: Form, b: Form, s: &[u8]) -> bool
     requires { ⌜ Small (axesOf (a .extent)) ⌝ }
-    requires { ⌜ Holds (step .at) detailBytes (now s) ⌝ }
+    requires { ⌜ Detailed (now s) step (axesOf (a .extent)) ⌝ }
     ensures { λ r. ⌜ r ≡ fitsIn (step .operation) (stepIn (now (s .entry)) step) (shapeOf a) (shapeOf b) ⌝ }
 {
     let op = step.operation;
@@ -185,7 +186,7 @@ pub fn result_kind(op: Operation, kind: u8) -> u8
 fn moved_extent(m: Move, step: StepHead, e: Extent, f: Extent, s: &[u8]) -> Extent
     requires { ⌜ Small (axesOf e) ⌝ }
     requires { ⌜ Small (axesOf f) ⌝ }
-    requires { ⌜ Holds (step .at) detailBytes (now s) ⌝ }
+    requires { ⌜ Detailed (now s) step (axesOf e) ⌝ }
     requires { ⌜ axisIn (uses (Moves m)) (length (axesOf e)) (step .axis) ≡ true ⌝ }
     ensures { λ r. ⌜ axesOf r ≡ resultAxes (Moves m) (stepIn (now (s .entry)) step) (axesOf e) (axesOf f) ⌝ }
 {
@@ -205,7 +206,7 @@ fn moved_extent(m: Move, step: StepHead, e: Extent, f: Extent, s: &[u8]) -> Exte
 pub fn result_extent(step: StepHead, e: Extent, f: Extent, s: &[u8]) -> Extent
     requires { ⌜ Small (axesOf e) ⌝ }
     requires { ⌜ Small (axesOf f) ⌝ }
-    requires { ⌜ Holds (step .at) detailBytes (now s) ⌝ }
+    requires { ⌜ Detailed (now s) step (axesOf e) ⌝ }
     requires { ⌜ axisIn (uses (step .operation)) (length (axesOf e)) (step .axis) ≡ true ⌝ }
     ensures { λ r. ⌜ axesOf r ≡ resultAxes (step .operation) (stepIn (now (s .entry)) step) (axesOf e) (axesOf f) ⌝ }
 {
@@ -218,15 +219,16 @@ pub fn result_extent(step: StepHead, e: Extent, f: Extent, s: &[u8]) -> Extent
 
 // The names of a moved result's axes; m are those of A, e is its extent.
 fn moved_names(mv: Move, step: StepHead, m: [Name; AXES], e: Extent, s: &[u8]) -> [Name; AXES]
-    requires { ⌜ Holds (step .at) detailBytes (now s) ⌝ }
-    ensures { λ r. ⌜ NamesTold (Moves mv) (stepIn (now (s .entry)) step) m e r ⌝ }
+    requires { ⌜ Detailed (now s) step (axesOf e) ⌝ }
+    ensures { λ r. ⌜ NamesTold (sizesOf (step .version) .name) (Moves mv) (stepIn (now (s .entry)) step) m e r ⌝ }
 {
+    let v = step.version;
     match mv {
         Move::Trim => return m,
         Move::Slice => return without_name(m, rank_of(e), AxisIndex(step.axis as u32)),
         Move::Reshape => return m,
         Move::Shift => return m,
-        Move::Rename => return names_at(rank_of(e), s, step.at),
+        Move::Rename => return names_at(v, rank_of(e), s, step.at),
         Move::Update => return m,
         Move::Put => return m,
         Move::Glue => return m,
@@ -235,8 +237,8 @@ fn moved_names(mv: Move, step: StepHead, m: [Name; AXES], e: Extent, s: &[u8]) -
 
 // The names of its axes.
 pub fn result_names(step: StepHead, m: [Name; AXES], e: Extent, s: &[u8]) -> [Name; AXES]
-    requires { ⌜ Holds (step .at) detailBytes (now s) ⌝ }
-    ensures { λ r. ⌜ NamesTold (step .operation) (stepIn (now (s .entry)) step) m e r ⌝ }
+    requires { ⌜ Detailed (now s) step (axesOf e) ⌝ }
+    ensures { λ r. ⌜ NamesTold (sizesOf (step .version) .name) (step .operation) (stepIn (now (s .entry)) step) m e r ⌝ }
 {
     let op = step.operation;
     match op {

@@ -10,7 +10,8 @@ use Rattle.stretch.proofs.stretch.Reads.{Learnt}
 
 module _ (κs : Lfts 2) (a : Dens κs ps) (out : resT r κs .Denot) (end : AtExit (endedOf 2 ps r) κs) where
   pub stretch-promised : Learnt κs a out end
-      → Handed (sided (a .0) (a .1 .0) (a .1 .1 .0) (now (a .1 .1 .1 .0)))
-      (sided (a .1 .1 .1 .1 .0) (a .1 .1 .1 .1 .1 .0) (a .1 .1 .1 .1 .1 .1 .0) (now (a .1 .1 .1 .1 .1 .1 .1 .0)))
-      (a .1 .1 .1 .1 .1 .1 .1 .1 .0 .0) (a .1 .1 .1 .1 .1 .1 .1 .1 .1 .0 .0) (now out) (now (end .1 .1 .1 .1 .1 .1 .1 .1 .1 .1 .0))
+      → Handed (a .0) (sided (a .1 .0) (a .1 .1 .0) (a .1 .1 .1 .0) (now (a .1 .1 .1 .1 .0)))
+      (sided (a .1 .1 .1 .1 .1 .0) (a .1 .1 .1 .1 .1 .1 .0) (a .1 .1 .1 .1 .1 .1 .1 .0) (now (a .1 .1 .1 .1 .1 .1 .1 .1 .0)))
+      (a .1 .1 .1 .1 .1 .1 .1 .1 .1 .0 .0) (a .1 .1 .1 .1 .1 .1 .1 .1 .1 .1 .0 .0) (now out)
+      (now (end .1 .1 .1 .1 .1 .1 .1 .1 .1 .1 .1 .0))
   stretch-promised l = l

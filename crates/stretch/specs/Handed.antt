@@ -11,7 +11,7 @@ abbrev pub figures : Res Part → List ℕ
 figures (got p) = 0 ∷ 0 ∷ 0 ∷ []
 figures (refused x) = x .number ∷ x .place ∷ x .ordinality ∷ []
 
--- the bytes handed out and the figures beside them are the paper's
-pub record Handed (L R : Side) (k o : ℕ) (out said : List ℕ) : Type 0 where
-  pub bytes : out ≡ handedOut L R (stretch L R k o)
-  pub refusal : said ≡ figures (stretch L R k o)
+-- of the version told w: the bytes handed out and the figures beside them are the paper's
+pub record Handed (w : ℕ) (L R : Side) (k o : ℕ) (out said : List ℕ) : Type 0 where
+  pub bytes : out ≡ handedOut L R (stretch w L R k o)
+  pub refusal : said ≡ figures (stretch w L R k o)

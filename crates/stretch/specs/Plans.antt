@@ -5,6 +5,7 @@ use mathlib.Core.Bool.{Bool, true, false}
 use mathlib.Core.List.{List, []}
 use native.Mathlib.Omega.{arith}
 use lib.ListN.{length}
+use Rattle.paper.specs.declared.Sizes.{Sizes}
 use Rattle.paper.specs.declared.Name.{Name}
 use Rattle.paper.specs.declared.Axis.{Axis}
 use Rattle.paper.specs.declared.Extent.{Extent}
@@ -12,8 +13,9 @@ use Rattle.paper.specs.declared.Part.{Part}
 use Rattle.paper.specs.declared.StretchAnswer.{StretchAnswer}
 use Rattle.paper.specs.declared.StretchAnswer.the-variants.{Got, Refused}
 use Rattle.paper.specs.Limits.{mostCells, cellBytes}
-use Rattle.paper.specs.Refusals.{got, refusal, between, outside6}
+use Rattle.paper.specs.Refusals.{got, refused, refusal, between, badBytes1, outside6}
 use Rattle.paper.specs.Axes.{cells}
+use Rattle.paper.specs.Bundle.{versionTold}
 use Rattle.paper.specs.Recipe.{glued}
 use Rattle.paper.specs.Stretch.{glueTests, stretch}
 use Rattle.paper.specs.Answers.{axesOf, stretchSaid}
@@ -29,20 +31,26 @@ abbrev pub Buffered : ℕ → ℕ → StretchAnswer → Type 0
 Buffered l r (Got p) = InBuffer l r p
 Buffered l r (Refused x) = Unit {0}
 
--- of a left side (type t, names M, extent e, l bytes), a right side (u, N, f, r bytes), axis k and ordinality o: the answer is the
--- paper's, whatever the buffers hold, and a part lies in its buffer
-pub record StretchFound (t : ℕ) (M : List Name) (e : Extent) (l : ℕ) (u : ℕ) (N : List Name) (f : Extent) (r : ℕ) (k o : ℕ)
+-- of the version told w, a left side (type t, names M, extent e, l bytes), a right side (u, N, f, r bytes), axis k and ordinality o: the
+-- answer is the paper's, whatever the buffers hold, and a part lies in its buffer
+pub record StretchFound (w : ℕ) (t : ℕ) (M : List Name) (e : Extent) (l : ℕ) (u : ℕ) (N : List Name) (f : Extent) (r : ℕ) (k o : ℕ)
     (a : StretchAnswer) : Type 0 where
-  pub said : (bs cs : List ℕ) → length bs ≡ l → length cs ≡ r → stretchSaid a ≡ stretch (sided t M e bs) (sided u N f cs) k o
+  pub said : (bs cs : List ℕ) → length bs ≡ l → length cs ≡ r → stretchSaid a ≡ stretch w (sided t M e bs) (sided u N f cs) k o
   pub within : Buffered l r a
 
+-- a version that is none is refused before all else
+pub no-version : {w t l u r k o : ℕ} {M N : List Name} {e f : Extent} → versionTold w ≡ refused (refusal badBytes1 0 0)
+    → StretchFound w t M e l u N f r k o (Refused (refusal badBytes1 0 0))
+unfolding stretch
+no-version h = record { said = λ bs cs p q. rw h; within = tt }
+
 -- every test passed but the last
-pub record SidesPassed (t : ℕ) (M : List Name) (e : Extent) (l : ℕ) (u : ℕ) (N : List Name) (f : Extent) (r : ℕ) (k : ℕ) : Type 0 where
-  pub left : SidePassed t M e l 1
-  pub right : SidePassed u N f r 2
+pub record SidesPassed (z : Sizes) (t : ℕ) (M : List Name) (e : Extent) (l : ℕ) (u : ℕ) (N : List Name) (f : Extent) (r : ℕ) (k : ℕ) : Type 0 where
+  pub left : SidePassed z t M e l 1
+  pub right : SidePassed z u N f r 2
   pub glue : (bs cs : List ℕ) → glueTests (sided t M e bs) (sided u N f cs) k ≡ got tt
 
-module _ {t l u r k : ℕ} {M N : List Name} {e f : Extent} (P : SidesPassed t M e l u N f r k) where
+module _ {z : Sizes} {t l u r k : ℕ} {M N : List Name} {e f : Extent} (P : SidesPassed z t M e l u N f r k) where
   abbrev E : List Axis
   E = axesOf e
 
@@ -74,9 +82,10 @@ module _ {t l u r k : ℕ} {M N : List Name} {e f : Extent} (P : SidesPassed t M
     counted : {b : Bool} → between 1 ((l + r) / cellBytes) o ≡ b → between 1 (cells (glued k E F)) o ≡ b
     counted q = let n : cells (glued k E F) ≡ (l + r) / cellBytes = omega (arith, bytes) in rw n q
 
-    pub outside : between 1 ((l + r) / cellBytes) o ≡ false → StretchFound t M e l u N f r k o (Refused (refusal outside6 0 0))
+    pub outside : {w : ℕ} → versionTold w ≡ got z → between 1 ((l + r) / cellBytes) o ≡ false
+        → StretchFound w t M e l u N f r k o (Refused (refusal outside6 0 0))
     unfolding stretch
-    outside q = record { said = λ bs cs p w. rw (P .left .said bs p, P .right .said cs w, P .glue bs cs, counted q); within = tt }
+    outside h q = record { said = λ bs cs x y. rw (h, P .left .said bs x, P .right .said cs y, P .glue bs cs, counted q); within = tt }
 
     module _ (q : between 1 ((l + r) / cellBytes) o ≡ true) where
       range : (1 ≤ o) × (o ≤ cells (glued k E F))
@@ -86,13 +95,13 @@ module _ {t l u r k : ℕ} {M N : List Name} {e f : Extent} (P : SidesPassed t M
       in-few = omega (arith, range, glue .1 .few)
 
       -- m and n cells are a block of each side
-      pub part-found : {m n : ℕ} {p : Part} → m ≡ blockCells k E → n ≡ blockCells k F → p ≡ turnPart m n (o - 1)
-          → StretchFound t M e l u N f r k o (Got p)
+      pub part-found : {w m n : ℕ} {p : Part} → versionTold w ≡ got z → m ≡ blockCells k E → n ≡ blockCells k F → p ≡ turnPart m n (o - 1)
+          → StretchFound w t M e l u N f r k o (Got p)
       unfolding stretch
-      part-found {m} {n} {p} mis nis s =
+      part-found {w} {m} {n} {p} h mis nis s =
           let T = turn-is k E F (glue .0) (right .0 .sound) o (range .0) (range .1) in
           let b : p ≡ turnPart (blockCells k E) (blockCells k F) (o - 1) = s ∙ ap₂ (λ (x y : ℕ). turnPart x y (o - 1)) mis nis in
           record {
-            said = λ bs cs z w. rw (P .left .said bs z, P .right .said cs w, P .glue bs cs, counted q) (ap got (b ∙ T .0));
+            said = λ bs cs x y. rw (h, P .left .said bs x, P .right .said cs y, P .glue bs cs, counted q) (ap got (b ∙ T .0));
             within = rw (b, left .1, right .1) (T .1);
           }

@@ -7,17 +7,19 @@ use native.Mathlib.Omega.{arith}
 use borrow.Author.Tests.{eqb-true, ne-eqb}
 use lib.Dec.{eqb}
 use lib.ListN.{length, take, replicate, length-replicate}
+use Rattle.paper.specs.declared.Sizes.{Sizes}
 use Rattle.paper.specs.declared.Name.{Name}
 use Rattle.paper.specs.declared.Axis.{Axis}
 use Rattle.paper.specs.declared.Extent.{Extent}
 use Rattle.paper.specs.declared.Refusal.{Refusal}
 use Rattle.paper.specs.declared.Move.the-variants.{Glue}
 use Rattle.paper.specs.declared.Operation.the-variants.{Moves}
-use Rattle.paper.specs.Limits.{mostAxes, cellBytes}
+use Rattle.paper.specs.Limits.{cellBytes}
 use Rattle.paper.specs.Refusals.{Res, got, refused, between, badBytes1, badExtent2, badAxis5, unfit7, differ8, badResult9}
 use Rattle.paper.specs.Numbers.{none?}
 use Rattle.paper.specs.Axes.{cells, goodExtent}
 use Rattle.paper.specs.Cells.{isType}
+use Rattle.paper.specs.Bundle.{namesFit}
 use Rattle.paper.specs.Recipe.{agree, glued, goodResult}
 use Rattle.paper.specs.Stretch.{Side, judge, glueTests}
 use Rattle.paper.specs.Answers.{axesOf, namesFor, unless}
@@ -30,9 +32,9 @@ use Rattle.extent.specs.Judged.{goodCells, Small, good-small}
 abbrev pub sided : ℕ → List Name → Extent → List ℕ → Side
 sided t N e bs = record { type = t; names = namesFor (axesOf e) N; axes = axesOf e; bytes = bs }
 
--- x is the paper's answer to the tests of a side with n bytes of cells, whatever these are
-pub record SideJudged (t : ℕ) (N : List Name) (e : Extent) (n place : ℕ) (x : Refusal) : Type 0 where
-  pub said : (bs : List ℕ) → length bs ≡ n → unless x tt ≡ judge place (sided t N e bs)
+-- x is the paper's answer to the tests of a side with n bytes of cells, whatever these are, by a version's sizes
+pub record SideJudged (z : Sizes) (t : ℕ) (N : List Name) (e : Extent) (n place : ℕ) (x : Refusal) : Type 0 where
+  pub said : (bs : List ℕ) → length bs ≡ n → unless x tt ≡ judge z place (sided t N e bs)
 
 -- and to what gluing asks of two sides
 pub record GlueJudged (t : ℕ) (M : List Name) (e : Extent) (u : ℕ) (N : List Name) (f : Extent) (k : ℕ) (x : Refusal) : Type 0 where
@@ -48,29 +50,30 @@ module _ (x : Refusal) {m : Res (Unit {0})} (e : unless x tt ≡ m) where
   passed h = sym e ∙ unless-got x tt h
 
 -- every test of a side holds, whatever its n bytes are
-pub record SidePassed (t : ℕ) (N : List Name) (e : Extent) (n place : ℕ) : Type 0 where
-  pub said : (bs : List ℕ) → length bs ≡ n → judge place (sided t N e bs) ≡ got tt
+pub record SidePassed (z : Sizes) (t : ℕ) (N : List Name) (e : Extent) (n place : ℕ) : Type 0 where
+  pub said : (bs : List ℕ) → length bs ≡ n → judge z place (sided t N e bs) ≡ got tt
 
-pub side-passed : {t : ℕ} {N : List Name} {e : Extent} {n place : ℕ} {x : Refusal} → SideJudged t N e n place x → x .number ≡ 0
-    → SidePassed t N e n place
+pub side-passed : {z : Sizes} {t : ℕ} {N : List Name} {e : Extent} {n place : ℕ} {x : Refusal} → SideJudged z t N e n place x
+    → x .number ≡ 0 → SidePassed z t N e n place
 side-passed s h = record { said = λ bs p. passed _ (s .said bs p) h }
 
 -- ---- what is known where they hold
 
-pub judge-passed : (k : ℕ) (s : Side) → judge k s ≡ got tt → Small (s .axes) × (length (s .bytes) ≡ cells (s .axes) * cellBytes)
+pub judge-passed : (z : Sizes) (k : ℕ) (s : Side) → judge z k s ≡ got tt → Small (s .axes) × (length (s .bytes) ≡ cells (s .axes) * cellBytes)
 unfolding judge
-judge-passed k s e =
-    let a = ensure-got (isType (s .type) && between 1 mostAxes (length (s .axes))) badBytes1 k _ tt e in
-    let b = ensure-got (goodExtent (s .names) (s .axes)) badExtent2 k _ tt (a .1) in
-    (good-small (s .names) (s .axes) (b .0), eqb-true _ _ (ensured (eqb (length (s .bytes)) (cells (s .axes) * cellBytes)) badBytes1 k (b .1)))
+judge-passed z k s e =
+    let a = ensure-got (isType (s .type) && between 1 (z .axes) (length (s .axes))) badBytes1 k _ tt e in
+    let b = ensure-got (namesFit z (s .names) && goodExtent (s .names) (s .axes)) badExtent2 k _ tt (a .1) in
+    let g = and-right (namesFit z (s .names)) (goodExtent (s .names) (s .axes)) (b .0) in
+    (good-small (s .names) (s .axes) g, eqb-true _ _ (ensured (eqb (length (s .bytes)) (cells (s .axes) * cellBytes)) badBytes1 k (b .1)))
 
 -- a side so lent has good axes, and 9 bytes a cell
-pub side-clean : {t : ℕ} {N : List Name} {e : Extent} {n place : ℕ} → SidePassed t N e n place
+pub side-clean : {z : Sizes} {t : ℕ} {N : List Name} {e : Extent} {n place : ℕ} → SidePassed z t N e n place
     → Small (axesOf e) × (n ≡ cells (axesOf e) * cellBytes)
-side-clean {t} {N} {e} {n} {place} s =
-    let z = length-replicate {A = ℕ} n 0 in
-    let r = judge-passed place (sided t N e (replicate n 0)) (s .said (replicate n 0) z) in
-    (r .0, sym z ∙ r .1)
+side-clean {z} {t} {N} {e} {n} {place} s =
+    let l = length-replicate {A = ℕ} n 0 in
+    let r = judge-passed z place (sided t N e (replicate n 0)) (s .said (replicate n 0) l) in
+    (r .0, sym l ∙ r .1)
 
 pub glue-passed : (l r : Side) (k : ℕ) → Small (l .axes) → glueTests l r k ≡ got tt
     → Gluable k (l .axes) (r .axes) × Small (glued k (l .axes) (r .axes))

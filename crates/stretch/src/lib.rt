@@ -1,10 +1,11 @@
 // A glued array read without being built: the stretch from a cell up to where the other side begins is a part of the left or of the
-// right cell buffer. Each side is judged, then what gluing asks, then the ordinality; cells aren't.
-ghost use Prim.Native.Nat.{_*_, _≤_};
+// right cell buffer. The version told is judged, then each side, then what gluing asks, then the ordinality; cells aren't.
+ghost use Prim.Native.Nat.{ℕ, _*_, _≤_};
 ghost use mathlib.Core.Path.{_≡_};
 ghost use lib.ListN.{length};
-ghost use Rattle.paper.specs.Limits.{mostCells, cellBytes};
+ghost use Rattle.paper.specs.Limits.{mostCells, cellBytes, sizesOf};
 ghost use Rattle.paper.specs.Refusals.{got};
+ghost use Rattle.paper.specs.Bundle.{versionTold};
 ghost use Rattle.paper.specs.Stretch.{Side, handedOut};
 ghost use Rattle.paper.specs.Answers.{axesOf};
 ghost use Rattle.extent.specs.Judged.{Small};
@@ -14,6 +15,7 @@ ghost use Rattle.stretch.specs.Turns.{turnPart, InBuffer};
 ghost use Rattle.stretch.specs.Plans.{StretchFound};
 ghost use Rattle.stretch.specs.Handed.{Handed};
 use extent::good_extent;
+use extent::names::names_fit;
 use extent::rank_of;
 use origin::Origin;
 use origin::block_of;
@@ -30,23 +32,38 @@ use paper::Part;
 use paper::Refusal;
 use paper::StretchAnswer;
 use paper::TYPES;
+use paper::Version;
 use refusals::in_range;
 use refusals::none;
 use refusals::refuse;
 use shape::glued_along;
 use step::agreeing::agrees;
+use versions::Told;
+use versions::sizes;
+use versions::version_told;
 
 // ---- tests, each group by its first refusal, or none
 
-// A side: 1 for its type or axis count, 2 for its extent, 1 for a buffer that has not 9 bytes a cell.
-fn side_refusal(kind: u8, names: [Name; AXES], e: Extent, bytes: usize, place: u32) -> Refusal
-    ensures { λ r. ⌜ SideJudged kind names e bytes place r ⌝ }
+// A side: 1 for its type or axis count, 2 for a name that is too long or its extent, 1 for a buffer that has not 9 bytes a cell.
+fn side_refusal(
+    v: Version,
+    kind: u8,
+    names: [Name; AXES],
+    e: Extent,
+    bytes: usize,
+    place: u32,
+) -> Refusal
+    ensures { λ r. ⌜ SideJudged (sizesOf v) kind names e bytes place r ⌝ }
 {
     if !in_range(kind as usize, TYPES) {
         return refuse(1, place);
     }
-    if !in_range(rank_of(e), AXES) {
+    let rank = rank_of(e);
+    if !in_range(rank, sizes(v).axes) {
         return refuse(1, place);
+    }
+    if !names_fit(v, names, rank) {
+        return refuse(2, place);
     }
     let n = good_extent(names, e);
     if n == 0 {
@@ -118,8 +135,9 @@ fn in_turn(m: usize, n: usize, j: usize) -> Part
     }
 }
 
-// Where the stretch lies, by the bytes of its side's cell buffer, or the first refusal.
-pub fn plan_stretch(
+// Where the stretch lies, by the bytes of its side's cell buffer, or the first refusal: of sides in a version.
+fn plan_in(
+    v: Version,
     left_kind: u8,
     left_names: [Name; AXES],
     left: Extent,
@@ -131,13 +149,14 @@ pub fn plan_stretch(
     axis: AxisIndex,
     o: Ordinality,
 ) -> StretchAnswer
-    ensures { λ r. ⌜ StretchFound «left_kind» «left_names» left «left_bytes» «right_kind» «right_names» right «right_bytes» (axis .0) (o .0) r ⌝ }
+    ensures { λ r. ⌜ ((w : ℕ) → versionTold w ≡ got (sizesOf v)
+        → StretchFound w «left_kind» «left_names» left «left_bytes» «right_kind» «right_names» right «right_bytes» (axis .0) (o .0) r) ⌝ }
 {
-    let first = side_refusal(left_kind, left_names, left, left_bytes, 1);
+    let first = side_refusal(v, left_kind, left_names, left, left_bytes, 1);
     if first.number != 0 {
         return StretchAnswer::Refused(first);
     }
-    let second = side_refusal(right_kind, right_names, right, right_bytes, 2);
+    let second = side_refusal(v, right_kind, right_names, right, right_bytes, 2);
     if second.number != 0 {
         return StretchAnswer::Refused(second);
     }
@@ -159,6 +178,43 @@ pub fn plan_stretch(
     let m = block_of(left, axis);
     let n = block_of(right, axis);
     StretchAnswer::Got(in_turn(m, n, o.0 as usize - 1))
+}
+
+// The same of the version told.
+pub fn plan_stretch(
+    version: u32,
+    left_kind: u8,
+    left_names: [Name; AXES],
+    left: Extent,
+    left_bytes: usize,
+    right_kind: u8,
+    right_names: [Name; AXES],
+    right: Extent,
+    right_bytes: usize,
+    axis: AxisIndex,
+    o: Ordinality,
+) -> StretchAnswer
+    ensures { λ r. ⌜ StretchFound version «left_kind» «left_names» left «left_bytes» «right_kind» «right_names» right «right_bytes» (axis .0) (o .0) r ⌝ }
+{
+    let told = version_told(version);
+    match told {
+        Told::Is(v) => {
+            return plan_in(
+                v,
+                left_kind,
+                left_names,
+                left,
+                left_bytes,
+                right_kind,
+                right_names,
+                right,
+                right_bytes,
+                axis,
+                o,
+            )
+        }
+        Told::Unknown => return StretchAnswer::Refused(refuse(1, 0)),
+    }
 }
 
 // ---- handed out
@@ -184,6 +240,7 @@ fn part_of<'a>(left: &'a [u8], right: &'a [u8], p: Part) -> &'a [u8]
 
 // The stretch itself, and in `said` the refusal's number, place and ordinality: number 0 stands for none. With a refusal it is empty.
 pub fn stretch<'a, 'b>(
+    version: u32,
     left_kind: u8,
     left_names: [Name; AXES],
     left: Extent,
@@ -196,12 +253,13 @@ pub fn stretch<'a, 'b>(
     o: Ordinality,
     said: &'b mut [u32; 3],
 ) -> &'a [u8]
-    ensures { λ r. ⌜ Handed (sided «left_kind» «left_names» left (now («left_cells» .entry)))
+    ensures { λ r. ⌜ Handed version (sided «left_kind» «left_names» left (now («left_cells» .entry)))
         (sided «right_kind» «right_names» right (now («right_cells» .entry)))
         (axis .0) (o .0) (now r) (now (said .exit)) ⌝ }
 {
     *said = [0u32, 0u32, 0u32];
     match plan_stretch(
+        version,
         left_kind,
         left_names,
         left,

@@ -4,10 +4,13 @@ use mathlib.Core.Path.{_≡_, refl}
 use mathlib.Core.Bool.{Bool, true, false}
 use mathlib.Core.List.{List, []}
 use mathlib.Core.Option.{Option, none, some}
+use lib.Dec.{eqb}
+use Rattle.paper.specs.declared.Sizes.{Sizes}
 use Rattle.paper.specs.declared.Refusal.{Refusal}
-use Rattle.paper.specs.Refusals.{Res, got, refused, _>>=_, refusal, ensure, present, between, badPage11}
+use Rattle.paper.specs.Limits.{version1, version2}
+use Rattle.paper.specs.Refusals.{Res, got, refused, _>>=_, if_then_else_, refusal, ensure, present, between, badBytes1, badPage11}
 use Rattle.paper.specs.Axes.{Shape}
-use Rattle.paper.specs.Bundle.{cellsOf, arrayOf, readArray, readArrays, readBundle}
+use Rattle.paper.specs.Bundle.{versionTold, sizesIn, cellsOf, arrayOf, readArray, readArrays, readAs, readBundle}
 use Rattle.paper.specs.Recipe.{stepTests, stepResult, stepOver, planStep, planSteps, planRecipe}
 use Rattle.paper.specs.Listing.{planned, runTests, listTests, pageTests}
 use Rattle.paper.specs.Stretch.{Side, judge, glueTests, stretch}
@@ -43,27 +46,27 @@ unfolding cellsOf
 cells-early zero k t o bs = done []
 cells-early (suc n) k t o bs = search (tests, cells-early n k t (o + 1))
 
-read-early : (k : ℕ) (bs : List ℕ) → Early (readArray k bs)
+read-early : (z : Sizes) (k : ℕ) (bs : List ℕ) → Early (readArray z k bs)
 unfolding readArray arrayOf
-read-early k bs = search (tests, cells-early) depth 9
+read-early z k bs = search (tests, cells-early) depth 9
 
-arrays-early : (n k : ℕ) (bs : List ℕ) → Early (readArrays k n bs)
+arrays-early : (z : Sizes) (n k : ℕ) (bs : List ℕ) → Early (readArrays z k n bs)
 unfolding readArrays
-arrays-early zero k bs = done ([], bs)
-arrays-early (suc n) k bs = search (tests, read-early, arrays-early n (k + 1))
+arrays-early z zero k bs = done ([], bs)
+arrays-early z (suc n) k bs = search (tests, read-early z, arrays-early z n (k + 1))
 
 pub bundle-early : (bs : List ℕ) → Early (readBundle bs)
-unfolding readBundle
-bundle-early bs = search (tests, arrays-early) depth 7
+unfolding readAs
+bundle-early bs = search (tests, arrays-early (sizesIn bs)) depth 7
 
-steps-early : (n k : ℕ) (arrays earlier : List Shape) (bs : List ℕ) → Early (planSteps k n arrays earlier bs)
+steps-early : (z : Sizes) (n k : ℕ) (arrays earlier : List Shape) (bs : List ℕ) → Early (planSteps z k n arrays earlier bs)
 unfolding planSteps planStep stepOver stepTests stepResult
-steps-early zero k arrays earlier bs = done []
-steps-early (suc n) k arrays earlier bs = search (tests, steps-early n (k + 1) arrays) depth 12
+steps-early z zero k arrays earlier bs = done []
+steps-early z (suc n) k arrays earlier bs = search (tests, steps-early z n (k + 1) arrays) depth 12
 
 planned-early : (bundle recipe : List ℕ) → Early (planned bundle recipe)
 unfolding planned planRecipe
-planned-early bundle recipe = search (tests, bundle-early, steps-early)
+planned-early bundle recipe = search (tests, bundle-early, steps-early (sizesIn bundle))
 
 pub run-early : (bundle recipe work : List ℕ) → Early (runTests bundle recipe work)
 unfolding runTests
@@ -73,6 +76,15 @@ pub page-early : (bundle recipe work : List ℕ) (start : ℕ) (rows : List ℕ)
 unfolding pageTests listTests
 page-early bundle recipe work start rows = search (tests, planned-early) depth 7
 
-pub stretch-early : (l r : Side) (k o : ℕ) → Early (stretch l r k o)
+either-early : {A : Type 0} (b : Bool) (m n : Res A) → Early m → Early n → Early (if b then m else n)
+either-early true m n h k = h
+either-early false m n h k = k
+
+told-early : (v : ℕ) → Early (versionTold v)
+unfolding versionTold
+told-early v =
+    either-early (eqb v 1) _ _ (done version1) (either-early (eqb v 2) _ _ (done version2) (refused-early (refusal badBytes1 0 0) refl))
+
+pub stretch-early : (v : ℕ) (l r : Side) (k o : ℕ) → Early (stretch v l r k o)
 unfolding stretch judge glueTests
-stretch-early l r k o = search tests depth 9
+stretch-early v l r k o = search (tests, told-early) depth 10

@@ -17,6 +17,7 @@ use Rattle.paper.specs.Refusals.{Res, got, refused, if_then_else_, between, bad
 use Rattle.paper.specs.Numbers.{leBytes, part, from, concat}
 use Rattle.paper.specs.Axes.{cells, ordinality, coordinate, build, Array}
 use Rattle.paper.specs.Cells.{encode, cellsBytes}
+use Rattle.paper.specs.Bundle.{versionTold}
 use Rattle.paper.specs.Recipe.{glued}
 use Rattle.paper.specs.Values.{inFirst, inSecond}
 use Rattle.paper.specs.Stretch.{Side, judge, stay, span, stretchAt, glueTests, stretch, handedOut}
@@ -110,24 +111,25 @@ module _ (A B : Array) (k o : ℕ) where
     handed = (some-stay, by-side (inFirst k E p) refl)
 
   -- where no refusal is told, the tests passed
-  answered : (m : Res Part) → stretch (sideOf A) (sideOf B) k o ≡ m → getD (figures m) 0 0 ≡ 0
+  answered : (v : ℕ) (m : Res Part) → stretch v (sideOf A) (sideOf B) k o ≡ m → getD (figures m) 0 0 ≡ 0
       → Stretched (handedOut (sideOf A) (sideOf B) m)
   unfolding stretch
-  answered (refused x) e z = absurd (omega (arith, between-true badPage11 (x .number) (stretch-early (sideOf A) (sideOf B) k o .early x e)))
-  answered (got q) e z =
-      let a = bind-got (judge 1 (sideOf A)) _ q e in
-      let b = bind-got (judge 2 (sideOf B)) _ q (a .2) in
+  answered v (refused x) e z = absurd (omega (arith, between-true badPage11 (x .number) (stretch-early v (sideOf A) (sideOf B) k o .early x e)))
+  answered v (got q) e z =
+      let t = bind-got (versionTold v) _ q e in
+      let a = bind-got (judge (t .0) 1 (sideOf A)) _ q (t .2) in
+      let b = bind-got (judge (t .0) 2 (sideOf B)) _ q (a .2) in
       let c = bind-got (glueTests (sideOf A) (sideOf B) k) _ q (b .2) in
       let d = ensure-got (between 1 (cells G) o) outside6 0 _ q (c .2) in
-      let x = judge-passed 1 (sideOf A) (a .1) in
-      let y = judge-passed 2 (sideOf B) (b .1) in
+      let x = judge-passed (t .0) 1 (sideOf A) (a .1) in
+      let y = judge-passed (t .0) 2 (sideOf B) (b .1) in
       let g = glue-passed (sideOf A) (sideOf B) k (x .0) (c .1) .0 in
       let r = between-true (cells G) o (d .0) in
       subst (λ (w : Part). Stretched (handedOut (sideOf A) (sideOf B) (got w))) (got-one _ q (d .1))
       (handed g (y .0 .sound) (omega (arith, x .1, cell-bytes (A .cells))) (omega (arith, y .1, cell-bytes (B .cells))) (r .0) (r .1))
 
   -- `stretch` called with two arrays lent as sides: where it tells no refusal, it hands out cells of the glued array
-  pub glued-cells : (c : StretchCall) → Stretches (sideOf A) (sideOf B) k o c → getD (told c) 0 0 ≡ 0 → Stretched (now (c .answer))
-  glued-cells c w z =
+  pub glued-cells : (v : ℕ) (c : StretchCall) → Stretches v (sideOf A) (sideOf B) k o c → getD (told c) 0 0 ≡ 0 → Stretched (now (c .answer))
+  glued-cells v c w z =
       let h = stretches c w in
-      rw (h .bytes) (answered (stretch (sideOf A) (sideOf B) k o) refl (rw (h .refusal) at z))
+      rw (h .bytes) (answered v (stretch v (sideOf A) (sideOf B) k o) refl (rw (h .refusal) at z))

@@ -54,21 +54,22 @@ pub record PackCall : Type 0 where
   pub left : AtExit (endedOf 2 PackKinds.ps PackKinds.r) lifetimes
   pub promised : PackReads.Learnt lifetimes passed answer left
 
--- so many of these forms, with these cells, into this buffer
-pub record Packs (n : ℕ) (fs : List Form) (cs d : List ℕ) (c : PackCall) : Type 0 where
-  pub count : c .passed .0 ≡ n
-  pub forms : c .passed .1 .0 ≡ fs
-  pub cells : now (c .passed .1 .1 .0) ≡ cs
-  pub out : now (c .passed .1 .1 .1 .0) ≡ d
+-- told this version: so many of these forms, with these cells, into this buffer
+pub record Packs (v n : ℕ) (fs : List Form) (cs d : List ℕ) (c : PackCall) : Type 0 where
+  pub version : c .passed .0 ≡ v
+  pub count : c .passed .1 .0 ≡ n
+  pub forms : c .passed .1 .1 .0 ≡ fs
+  pub cells : now (c .passed .1 .1 .1 .0) ≡ cs
+  pub out : now (c .passed .1 .1 .1 .1 .0) ≡ d
 
 -- the buffer after it
 abbrev pub packedOut : PackCall → List ℕ
-packedOut c = now (c .left .1 .1 .1 .0)
+packedOut c = now (c .left .1 .1 .1 .1 .0)
 
-pub packs : (c : PackCall) {n : ℕ} {fs : List Form} {cs d : List ℕ} → Packs n fs cs d c
-    → PackedInto (shapesOf n fs) cs d (c .answer) (packedOut c)
+pub packs : (c : PackCall) {v n : ℕ} {fs : List Form} {cs d : List ℕ} → Packs v n fs cs d c
+    → PackedInto v (shapesOf n fs) cs d (c .answer) (packedOut c)
 packs c w =
-    rw (w .count, w .forms, w .cells, w .out) at (pack-promised (c .lifetimes) (c .passed) (c .answer) (c .left) (c .promised))
+    rw (w .version, w .count, w .forms, w .cells, w .out) at (pack-promised (c .lifetimes) (c .passed) (c .answer) (c .left) (c .promised))
 
 -- ---- `stretch::stretch`
 
@@ -79,20 +80,21 @@ pub record StretchCall : Type 0 where
   pub left : AtExit (endedOf 2 StretchKinds.ps StretchKinds.r) lifetimes
   pub promised : StretchReads.Learnt lifetimes passed answer left
 
--- of these sides, glued along axis k, from ordinality o on
-pub record Stretches (L R : Side) (k o : ℕ) (c : StretchCall) : Type 0 where
-  pub left : sided (c .passed .0) (c .passed .1 .0) (c .passed .1 .1 .0) (now (c .passed .1 .1 .1 .0)) ≡ L
-  pub right : sided (c .passed .1 .1 .1 .1 .0) (c .passed .1 .1 .1 .1 .1 .0) (c .passed .1 .1 .1 .1 .1 .1 .0) (now (c .passed .1 .1 .1 .1 .1 .1 .1 .0)) ≡ R
-  pub axis : c .passed .1 .1 .1 .1 .1 .1 .1 .1 .0 .0 ≡ k
-  pub from : c .passed .1 .1 .1 .1 .1 .1 .1 .1 .1 .0 .0 ≡ o
+-- told this version: of these sides, glued along axis k, from ordinality o on
+pub record Stretches (v : ℕ) (L R : Side) (k o : ℕ) (c : StretchCall) : Type 0 where
+  pub version : c .passed .0 ≡ v
+  pub left : sided (c .passed .1 .0) (c .passed .1 .1 .0) (c .passed .1 .1 .1 .0) (now (c .passed .1 .1 .1 .1 .0)) ≡ L
+  pub right : sided (c .passed .1 .1 .1 .1 .1 .0) (c .passed .1 .1 .1 .1 .1 .1 .0) (c .passed .1 .1 .1 .1 .1 .1 .1 .0) (now (c .passed .1 .1 .1 .1 .1 .1 .1 .1 .0)) ≡ R
+  pub axis : c .passed .1 .1 .1 .1 .1 .1 .1 .1 .1 .0 .0 ≡ k
+  pub from : c .passed .1 .1 .1 .1 .1 .1 .1 .1 .1 .1 .0 .0 ≡ o
 
 -- the figures beside what is handed out
 abbrev pub told : StretchCall → List ℕ
-told c = now (c .left .1 .1 .1 .1 .1 .1 .1 .1 .1 .1 .0)
+told c = now (c .left .1 .1 .1 .1 .1 .1 .1 .1 .1 .1 .1 .0)
 
-pub stretches : (c : StretchCall) {L R : Side} {k o : ℕ} → Stretches L R k o c → Handed L R k o (now (c .answer)) (told c)
+pub stretches : (c : StretchCall) {v : ℕ} {L R : Side} {k o : ℕ} → Stretches v L R k o c → Handed v L R k o (now (c .answer)) (told c)
 stretches c w =
-    rw (w .left, w .right, w .axis, w .from) at (stretch-promised (c .lifetimes) (c .passed) (c .answer) (c .left) (c .promised))
+    rw (w .version, w .left, w .right, w .axis, w .from) at (stretch-promised (c .lifetimes) (c .passed) (c .answer) (c .left) (c .promised))
 
 -- ---- `run::page`
 

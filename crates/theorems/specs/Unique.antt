@@ -1,5 +1,6 @@
 -- Promises fix answers: two answers with the same figures are equal, and so are two readings with nothing past the last array and axis.
 use mathlib.Core.Path.{_≡_, refl, sym, ap, _∙_}
+use Rattle.paper.specs.declared.Version.{Version}
 use Rattle.paper.specs.declared.Extent.{Extent}
 use Rattle.paper.specs.declared.Refusal.{Refusal}
 use Rattle.paper.specs.declared.Reading.{Reading}
@@ -64,6 +65,6 @@ stretch-one = fixed stretchSaid Stretch.Got Stretch.Refused (λ a. elim a [ Stre
 pub extent-one : (e f : Extent) → TidyExtent e → TidyExtent f → axesOf e ≡ axesOf f → e ≡ f
 extent-one e f h k q = h ∙ ap extentOf q ∙ sym k
 
--- so a reading with nothing past the last is fixed by its figures
-pub reading-one : (r s : Reading) → r ≡ readingOf (readSaid r) → s ≡ readingOf (readSaid s) → readSaid r ≡ readSaid s → r ≡ s
-reading-one r s h k q = h ∙ ap readingOf q ∙ sym k
+-- so a reading with nothing past the last is fixed by its version and its figures
+pub reading-one : (v : Version) (r s : Reading) → r ≡ readingOf v (readSaid r) → s ≡ readingOf v (readSaid s) → readSaid r ≡ readSaid s → r ≡ s
+reading-one v r s h k q = h ∙ ap (readingOf v) q ∙ sym k

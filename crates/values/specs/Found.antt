@@ -11,10 +11,11 @@ use lib.Dec.{eqb, leb}
 use lib.ListN.{length, getD, take, drop, length-map, length-take, length-drop}
 use lib.Seq.{getD-take, take-take, length-take-le}
 use Rattle.paper.specs.declared.Head.{Head}
-use Rattle.paper.specs.Limits.{stepsFrom, mostSteps, cellBytes, detailBytes, scalarAt, wordBytes}
+use Rattle.paper.specs.Limits.{stepsFrom, mostSteps, cellBytes, scalarAt, wordBytes}
 use Rattle.paper.specs.Refusals.{if_then_else_}
 use Rattle.paper.specs.Numbers.{leOf, part, nth}
 use Rattle.paper.specs.Axes.{Shape, Array}
+use Rattle.paper.specs.Bundle.{sizesIn}
 use Rattle.paper.specs.Recipe.{Planned, cellsOfAll, scalarOf, uses, operand, noShape, unusedZero}
 use Rattle.paper.specs.Values.{noArray, operandArray}
 use Rattle.paper.specs.Listing.{resultBytes}
@@ -26,8 +27,11 @@ use Rattle.laws.specs.Lists.{getD-any, nth-some, nth-mapped, getD-mapped, map-t
 use Rattle.laws.specs.Answers.{noHead}
 use Rattle.laws.specs.Results.{results-bytes}
 use Rattle.laws.specs.Passed.{Passed}
+use Rattle.laws.specs.Sizes.{fits}
 use Rattle.positions.specs.Runs.{Holds}
 use Rattle.bundle.specs.Read.{arrayAt, Fit}
+use Rattle.step.specs.declared.StepHead.{StepHead}
+use Rattle.step.specs.Steps.{detailOf}
 use Rattle.quick.specs.Operands.{bundleSide, workSide}
 use Rattle.recipe.specs.declared.Operand.{Operand}
 use Rattle.recipe.specs.declared.Plan.{Plan}
@@ -48,7 +52,7 @@ pub record Setting (B bs : List ℕ) (P : Plan) : Type 0 where
   pub fit : (j : ℕ) → j < length (arraysOf P) → Fit B (getD (arraysOf P) j noHead)
   pub whole : AllWhole (arraysAt B P)
   pub passed : (j : ℕ) (d : Planned) → j < length (stepsOf bs P)
-      → Passed (map shapeIn (arraysOf P)) (plannedShapes (take j (stepsOf bs P))) (getD (stepsOf bs P) j d)
+      → Passed (sizesIn B) (map shapeIn (arraysOf P)) (plannedShapes (take j (stepsOf bs P))) (getD (stepsOf bs P) j d)
   pub bytes : Bytes bs
 
 -- ---- lists
@@ -120,12 +124,16 @@ or-left : (b c : Bool) → b ≡ false → (b || c) ≡ true → c ≡ true
 or-left b c e h = rw e at h
 
 -- a scalar fits its eight bytes
-scalar-fits : (bs : List ℕ) (at : ℕ) → Bytes bs → Holds at detailBytes bs → leOf (part scalarAt wordBytes (part at detailBytes bs)) < 2 ^ 64
-scalar-fits bs at h r =
-    let d = part at detailBytes bs in
-    let n : length d ≡ detailBytes = length-take detailBytes (drop at bs) ∙ omega (arith, length-drop at bs, r .room) in
-    let l : length (part scalarAt wordBytes d) ≡ wordBytes = length-take wordBytes (drop scalarAt d) ∙ omega (arith, length-drop scalarAt d) in
-    rw l at (leOf-lt (part scalarAt wordBytes d) (bytes-take wordBytes (drop scalarAt d) (bytes-drop scalarAt d (bytes-take detailBytes (drop at bs) (bytes-drop at bs h)))))
+scalar-fits : (bs : List ℕ) (s : StepHead) → Bytes bs → Holds (s .at) (detailOf s) bs
+    → leOf (part scalarAt wordBytes (part (s .at) (detailOf s) bs)) < 2 ^ 64
+scalar-fits bs s h r =
+    let at = s .at in
+    let d = part at (detailOf s) bs in
+    let n : length d ≡ detailOf s = length-take (detailOf s) (drop at bs) ∙ omega (arith, length-drop at bs, r .room) in
+    let l : length (part scalarAt wordBytes d) ≡ wordBytes =
+    length-take wordBytes (drop scalarAt d) ∙ omega (arith, length-drop scalarAt d, fits (s .version) .scalar) in
+    rw l at (leOf-lt (part scalarAt wordBytes d)
+    (bytes-take wordBytes (drop scalarAt d) (bytes-drop scalarAt d (bytes-take (detailOf s) (drop at bs) (bytes-drop at bs h)))))
 
 module _ {B bs : List ℕ} {P : Plan} (v : Setting B bs P) {W : List ℕ} {s : ℕ} (d : Done (arraysAt B P) (stepsOf bs P) W s) where
   abbrev As : List Array
@@ -229,7 +237,7 @@ module _ {B bs : List ℕ} {P : Plan} (v : Setting B bs P) {W : List ℕ} {s : �
     turns : s < P .count
     turns = omega (arith, steps-count (v .laid))
 
-    passes : Passed (map shapeIn (arraysOf P)) (plannedShapes (take s ps)) p
+    passes : Passed (sizesIn B) (map shapeIn (arraysOf P)) (plannedShapes (take s ps)) p
     passes = v .passed s noPlanned h
 
     first : Found B As Rs (p .step .a) (its (p .step .a)) (passes .first)
@@ -286,7 +294,7 @@ module _ {B bs : List ℕ} {P : Plan} (v : Setting B bs P) {W : List ℕ} {s : �
     result-is : getD (resultsOf P) s noHead ≡ t .result
     result-is = result-there (v .laid) s turns ∙ ap (λ (o : Operand). o .head) (sym (there (stepsFrom + (s + 1)) (omega (arith, turns, v .laid .few))))
 
-    kept-here : ResultLaid bs (cellsOfAll (take s ps) * cellBytes) (t .step) (t .result)
+    kept-here : ResultLaid (P .version) bs (cellsOfAll (take s ps) * cellBytes) (t .step) (t .result)
     kept-here = rw result-is at (laid-there (v .laid) s turns)
 
     -- where its result begins
@@ -308,10 +316,10 @@ module _ {B bs : List ℕ} {P : Plan} (v : Setting B bs P) {W : List ℕ} {s : �
           second = λ u. rw b (has-b .stands u);
           other = rw b (has-b .other);
           kept = has-b .kept;
-          scalar = rw (ap (λ (x : Planned). scalarOf (x .step)) e) (scalar-fits bs (t .step .at) (v .bytes) (kept-here .detail));
+          scalar = rw (ap (λ (x : Planned). scalarOf (x .step)) e) (scalar-fits bs (t .step) (v .bytes) (kept-here .detail));
           detail = kept-here .detail;
-          small-first = rw a (v .laid .small (p .step .a));
-          small-second = rw b (v .laid .small (p .step .b));
+          small-first = rw a (v .laid .small (p .step .a) .small);
+          small-second = rw b (v .laid .small (p .step .b) .small);
           small-result = kept-here .small;
           count = kept-here .count;
         }

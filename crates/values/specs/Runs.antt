@@ -14,7 +14,7 @@ use Rattle.paper.specs.declared.Move.{Move}
 use Rattle.paper.specs.declared.Work.{Work}
 use Rattle.paper.specs.declared.Operation.the-variants.{Moves, Works}
 use Rattle.paper.specs.declared.Refusal.{Refusal}
-use Rattle.paper.specs.Limits.{cellBytes, wordBytes, detailBytes, scalarAt, mostCells}
+use Rattle.paper.specs.Limits.{cellBytes, wordBytes, scalarAt, mostCells}
 use Rattle.paper.specs.Refusals.{refused, refusal}
 use Rattle.paper.specs.Numbers.{leOf, part}
 use Rattle.paper.specs.Axes.{cells, Array}
@@ -23,7 +23,8 @@ use Rattle.paper.specs.Recipe.{Step, Planned, scalarOf}
 use Rattle.paper.specs.Values.{operandArray, values}
 use Rattle.paper.specs.Listing.{resultBytes, bytesOfAll}
 use Rattle.laws.specs.Late.{Either, values-late}
-use Rattle.positions.specs.Runs.{part-part}
+use Rattle.laws.specs.Sizes.{fits}
+use Rattle.step.specs.Steps.{scalar-there}
 use Rattle.quick.specs.declared.operands.Pairing.{Pairing}
 use Rattle.quick.specs.Cells.{answerAt, Workable, WorkedOut, Ahead}
 use Rattle.recipe.specs.declared.Plan.{Plan}
@@ -55,6 +56,10 @@ pub record Asked (B bs work : List ℕ) (t : Turn) : Type 0 where
 pub record AskedToMove (B bs work : List ℕ) (m : Move) (t : Turn) : Type 0 where
   pub asked : Asked B bs work t
   pub moves : t .step .operation ≡ Moves m
+
+-- the scalar of its detail is there
+pub scalar-room : {B bs work : List ℕ} {t : Turn} → Asked B bs work t → t .step .at + scalarAt + wordBytes ≤ length bs
+scalar-room {t = t} a = omega (arith, a .in-turn .ready .detail .room, fits (t .step .version) .scalar)
 
 -- k of its cells are there
 abbrev pub Filled : List ℕ → List ℕ → List ℕ → Turn → ℕ → List ℕ → Type 0
@@ -138,7 +143,7 @@ module _ {B bs : List ℕ} {t : Turn} {As : List Array} {ps : List Planned} {W :
     pub worked-at : (i : ℕ) → i < n → Computes B (take (t .result .at) work) q i (answerTo As Rs p i)
     unfolding cellOver
     worked-at i l =
-        let v = ap leOf (sym (part-part bs (t .step .at) detailBytes scalarAt wordBytes (omega arith))) ∙ ap scalarOf (sym (y .ready .step)) in
+        let v = ap leOf (scalar-there bs (t .step)) ∙ ap scalarOf (sym (y .ready .step)) in
         rw (earlier, z) (computes (y .ready) w (ap (λ (x : Step). x .operation) (y .ready .step) ∙ e) _ i v (omega (arith, counts)))
 
     -- what the loop's call gives

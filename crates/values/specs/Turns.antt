@@ -23,11 +23,12 @@ use Rattle.paper.specs.declared.Work.{Work}
 use Rattle.paper.specs.declared.Work.the-variants.{Pair, Scalar, Single}
 use Rattle.paper.specs.declared.Operation.{Operation}
 use Rattle.paper.specs.declared.Operation.the-variants.{Moves, Works}
-use Rattle.paper.specs.Limits.{FLOAT, cellBytes, wordBytes, detailBytes}
+use Rattle.paper.specs.Limits.{FLOAT, cellBytes, wordBytes}
 use Rattle.paper.specs.Numbers.{leOf, leBytes, part, alike}
 use Rattle.paper.specs.Axes.{cells, atOffset, sameName, Shape, Array, at}
 use Rattle.paper.specs.Cells.{isType, filled, cellFrom, encode}
 use Rattle.paper.specs.Operators.{takes, takesOne, pairCell}
+use Rattle.paper.specs.Bundle.{sizesIn}
 use Rattle.paper.specs.Recipe.{Step, Planned, scalarOf, uses, axisIn, isScalar, fitsIn, takesType, typesFit, sameLimits, asMany, agree, resultAxes, resultOf}
 use Rattle.paper.specs.Values.{Whence, whence, taken, made, scalar, cellAt}
 use Rattle.paper.specs.Answers.{axesOf}
@@ -44,7 +45,7 @@ use Rattle.coded.proofs.Standing.{standing-is, no-nan-from}
 use Rattle.coded.proofs.Codes.{pair-code-kind, pair-code-cell, single-code-kind, single-code-cell}
 use Rattle.positions.specs.Runs.{Holds, part-part}
 use Rattle.extent.specs.Judged.{Small}
-use Rattle.step.specs.Steps.{stepIn}
+use Rattle.step.specs.Steps.{detailOf, stepIn}
 use Rattle.quick.specs.declared.operands.Source.{Source}
 use Rattle.quick.specs.declared.operands.Pairing.{Pairing}
 use Rattle.quick.specs.Operands.{source, scalarSide, pairing, bytesIn, markAt, wordAt, Reaches}
@@ -135,14 +136,14 @@ module _ {B D : List ℕ} {o : Operand} {X : Array} (v : Stands B D o X) where
 pub record Ready (B bs D : List ℕ) (A Z : Array) (p : Planned) (t : Turn) : Type 0 where
   pub step : p .step ≡ stepIn bs (t .step)
   pub shape : p .shape ≡ shapeIn (t .result)
-  pub tested : Tested (p .step) (A .shape) (Z .shape)
-  pub result : p .shape ≡ resultOf (p .step) (A .shape) (Z .shape)
+  pub tested : Tested (sizesIn B) (p .step) (A .shape) (Z .shape)
+  pub result : p .shape ≡ resultOf (sizesIn B .name) (p .step) (A .shape) (Z .shape)
   pub first : Stands B D (t .a) A
   pub second : uses (p .step .operation) .b ≡ true → Stands B D (t .b) Z
   pub other : shapeIn (t .b .head) ≡ Z .shape
   pub kept : Kept Z
   pub scalar : scalarOf (p .step) < 2 ^ 64
-  pub detail : Holds (t .step .at) detailBytes bs
+  pub detail : Holds (t .step .at) (detailOf (t .step)) bs
   pub small-first : Small (axesOf (t .a .head .form .extent))
   pub small-second : Small (axesOf (t .b .head .form .extent))
   pub small-result : Small (axesOf (t .result .form .extent))

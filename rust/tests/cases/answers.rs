@@ -14,7 +14,7 @@ pub fn paper_answers(case: &Case) -> Answer {
     let number = match case.function {
         Function::Read => face::rma_read(&shared[0], said),
         Function::Array => face::rma_array(&shared[0], n[0], said),
-        Function::Pack => face::rma_pack(&shared[0], &shared[1], &mut first[0], said),
+        Function::Pack => face::rma_pack(n[0], &shared[0], &shared[1], &mut first[0], said),
         Function::Refer => face::rma_refer(&shared[0], n[0], &shared[1], said),
         Function::Walk => face::rma_walk(&shared[0], n[0], &mut first[0], said),
         Function::Total => face::rma_total(&shared[0], n[0], n[1], said),
@@ -26,7 +26,7 @@ pub fn paper_answers(case: &Case) -> Answer {
             let [work, rows] = first else { unreachable!("a page lends work and rows") };
             face::rma_page(&shared[0], &shared[1], work, n[0], rows, said)
         }
-        Function::Stretch => face::rma_stretch((&shared[0], &shared[1]), (&shared[2], &shared[3]), n[0], n[1], said),
+        Function::Stretch => face::rma_stretch(n[0], (&shared[0], &shared[1]), (&shared[2], &shared[3]), n[1], n[2], said),
     };
     Answer { number, lent }
 }
@@ -108,7 +108,7 @@ fn call(case: &Case, ground: &mut Ground) -> u32 {
         match case.function {
             Function::Read => raw::rma_read(a, a_len, said, said_len),
             Function::Array => raw::rma_array(a, a_len, n[0], said, said_len),
-            Function::Pack => raw::rma_pack(a, a_len, read(1), read_length(1), write(0), length(0), said, said_len),
+            Function::Pack => raw::rma_pack(n[0], a, a_len, read(1), read_length(1), write(0), length(0), said, said_len),
             Function::Refer => raw::rma_refer(a, a_len, n[0], read(1), read_length(1), said, said_len),
             Function::Walk => raw::rma_walk(a, a_len, n[0], write(0), length(0), said, said_len),
             Function::Total => raw::rma_total(a, a_len, n[0], n[1], said, said_len),
@@ -123,7 +123,7 @@ fn call(case: &Case, ground: &mut Ground) -> u32 {
             Function::Stretch => {
                 let left = (read(1), read_length(1));
                 let right = (read(2), read_length(2), read(3), read_length(3));
-                raw::rma_stretch(a, a_len, left.0, left.1, right.0, right.1, right.2, right.3, n[0], n[1], said, said_len)
+                raw::rma_stretch(n[0], a, a_len, left.0, left.1, right.0, right.1, right.2, right.3, n[1], n[2], said, said_len)
             }
         }
     }

@@ -1,12 +1,16 @@
-//! Bundles made up: arrays that are related to each other (equal extents, parts, continuations, one axis fewer), so that
-//! recipes over them have something to do, written to bytes without being judged.
+//! Bundles of either version made up: arrays that are related to each other (equal extents, parts, continuations, one axis fewer),
+//! so that recipes over them have something to do, written to bytes without being judged.
 
 use super::cells::{self, Mood};
 use super::dice::Dice;
+use crate::paper::version::Sizes;
+
+/// A name's bytes, padded with zeros: room for either version. As many are written as the version has.
+pub type Name = [u8; 16];
 
 #[derive(Clone, Debug, PartialEq)]
 pub struct RawAxis {
-    pub name: [u8; 8],
+    pub name: Name,
     pub lower: i32,
     pub upper: i32,
     pub lowest: i32,
@@ -23,23 +27,72 @@ pub struct RawArray {
 
 const NAMES: [&str; 12] = ["x", "y", "z", "i", "j", "who", "turn", "abcdefgh", "a_1", "z9_z9_z9", "az", "x0"];
 
-pub fn eight(name: &str) -> [u8; 8] {
-    let mut eight = [0; 8];
-    eight[..name.len()].copy_from_slice(name.as_bytes());
-    eight
+/// Names of 9 to 16 letters; some are the same in their first eight, one of these like a shorter name.
+const LONGER: [&str; 10] = [
+    "abcdefghi",
+    "abcdefghijklmnop",
+    "abcdefghijklmnoq",
+    "location_a",
+    "location_b",
+    "z9_z9_z9_",
+    "turn_of_week",
+    "person_on_call",
+    "x23456789012345",
+    "week_of_the_year",
+];
+
+const BAD: [&str; 17] = ["aB", "1a", "_a", "", "a\0b", "a b", "A", "a{", "a`", "a/", "a:", "abcdefg ", "\0a", "abcdefgH", "a-", "a@", "a["];
+
+/// Names that are bad past their first eight bytes only.
+const BAD_LONGER: [&str; 9] = [
+    "abcdefgh\0i",
+    "abcdefghI",
+    "abcdefgh ",
+    "abcdefghi\0j",
+    "abcdefghijklmnoP",
+    "abcdefghijklmno{",
+    "abcdefghijklmn\0p",
+    "a\0\0\0\0\0\0\0b",
+    "a\0\0\0\0\0\0\0\0\0\0\0\0\0\0b",
+];
+
+pub fn padded(name: &str) -> Name {
+    let mut bytes = [0; 16];
+    bytes[..name.len()].copy_from_slice(name.as_bytes());
+    bytes
 }
 
-pub fn good_name(dice: &mut Dice) -> [u8; 8] {
-    eight(dice.pick(&NAMES))
+/// The letters of a name.
+pub fn letters(name: &Name) -> usize {
+    name.iter().take_while(|&&byte| byte != 0).count()
 }
 
-pub fn bad_name(dice: &mut Dice) -> [u8; 8] {
-    let bad = ["aB", "1a", "_a", "", "a\0b", "a b", "A", "a{", "a`", "a/", "a:", "abcdefg ", "\0a", "abcdefgH", "a-", "a@", "a["];
-    let mut name = eight(dice.pick(&bad));
+pub fn good_name(dice: &mut Dice, sizes: Sizes) -> Name {
+    let longer = sizes.name > 8 && dice.one_in(2);
+    padded(if longer { dice.pick(&LONGER) } else { dice.pick(&NAMES) })
+}
+
+pub fn bad_name(dice: &mut Dice, sizes: Sizes) -> Name {
+    let longer = sizes.name > 8 && dice.one_in(2);
+    let mut name = padded(if longer { dice.pick(&BAD_LONGER) } else { dice.pick(&BAD) });
     if dice.one_in(5) {
-        name[dice.index(8)] = 128 + dice.below(128) as u8;
+        name[dice.index(sizes.name)] = 128 + dice.below(128) as u8;
     }
     name
+}
+
+/// A good name that is the other one but for its last letter, or one letter longer.
+pub fn twin_name(dice: &mut Dice, sizes: Sizes, name: &Name) -> Name {
+    let (mut twin, letters) = (*name, letters(name));
+    let at = if letters < sizes.name && dice.one_in(2) { letters } else { letters.max(1) - 1 };
+    twin[at] = if twin[at] == b'q' { b'r' } else { b'q' };
+    twin
+}
+
+/// Whether two lists of names are not the same, but are so in the names' first eight letters.
+pub fn alike(left: &[&str], right: &[&str]) -> bool {
+    let cut = |names: &[&str]| names.iter().map(|name| name[..name.len().min(8)].to_string()).collect::<Vec<String>>();
+    left != right && cut(left) == cut(right)
 }
 
 impl RawAxis {
@@ -47,15 +100,15 @@ impl RawAxis {
         (i64::from(self.upper) - i64::from(self.lower) + 1).max(0) as usize
     }
 
-    fn bytes(&self) -> Vec<u8> {
+    fn bytes(&self, sizes: Sizes) -> Vec<u8> {
         let limits = [self.lower, self.upper, self.lowest, self.highest];
-        self.name.iter().copied().chain(limits.iter().flat_map(|limit| limit.to_le_bytes())).collect()
+        self.name[..sizes.name].iter().copied().chain(limits.iter().flat_map(|limit| limit.to_le_bytes())).collect()
     }
 }
 
 impl RawArray {
-    pub fn axis_bytes(&self) -> Vec<u8> {
-        self.axes.iter().flat_map(RawAxis::bytes).collect()
+    pub fn axis_bytes(&self, sizes: Sizes) -> Vec<u8> {
+        self.axes.iter().flat_map(|axis| axis.bytes(sizes)).collect()
     }
 
     pub fn cell_bytes(&self) -> Vec<u8> {
@@ -69,26 +122,26 @@ impl RawArray {
 }
 
 /// The bytes of a bundle of these arrays, sound or not.
-pub fn bundle_bytes(arrays: &[RawArray]) -> Vec<u8> {
-    let mut bytes = b"RMA\x01\x00".to_vec();
-    bytes.push(arrays.len() as u8);
+pub fn bundle_bytes(sizes: Sizes, arrays: &[RawArray]) -> Vec<u8> {
+    let mut bytes = b"RMA".to_vec();
+    bytes.extend([sizes.version as u8, 0, arrays.len() as u8]);
     for array in arrays {
         bytes.extend([array.of, array.count]);
-        bytes.extend(array.axis_bytes());
+        bytes.extend(array.axis_bytes(sizes));
         bytes.extend(array.cell_bytes());
     }
     bytes
 }
 
 /// 1 to 4 sound arrays, each after the first mostly related to an earlier one.
-pub fn arrays(dice: &mut Dice, moody: fn(&mut Dice) -> Mood) -> Vec<RawArray> {
+pub fn arrays(dice: &mut Dice, sizes: Sizes, moody: fn(&mut Dice) -> Mood) -> Vec<RawArray> {
     let count = dice.pick(&[1, 1, 2, 2, 2, 3, 3, 4]);
     let mut arrays: Vec<RawArray> = vec![];
     for _ in 0..count {
-        let mut array = fresh(dice);
+        let mut array = fresh(dice, sizes);
         if !arrays.is_empty() && !dice.one_in(6) {
             let other = dice.index(arrays.len());
-            array = related(dice, &arrays[other]);
+            array = related(dice, sizes, &arrays[other]);
         }
         for axis in &mut array.axes {
             declare(dice, axis);
@@ -107,26 +160,30 @@ pub fn any_mood(dice: &mut Dice) -> Mood {
 }
 
 /// An array of any type with a new extent: mostly small, now and then thin, seldom as large as may be.
-fn fresh(dice: &mut Dice) -> RawArray {
+fn fresh(dice: &mut Dice, sizes: Sizes) -> RawArray {
     let of = dice.pick(&[1, 1, 1, 1, 2, 2, 2, 3, 3]);
     let widths: Vec<i32> = match dice.below(400) {
         0 => vec![64, 64],
         1 => vec![4_096],
         2 => vec![dice.between(2, 9), dice.between(2, 9), dice.between(2, 8), dice.between(2, 6)],
-        3 => vec![8, 8, 8, 8],
+        3 if sizes.most_axes == 6 => vec![4; 6],
+        3 => vec![8; 4],
         4..=12 => vec![dice.between(1, 60)],
-        13..=60 => thin(dice),
+        13..=60 => thin(dice, sizes),
         _ => {
-            let count = dice.pick(&[1, 2, 2, 2, 2, 3, 3, 4]);
-            (0..count).map(|_| dice.pick(&[1, 2, 2, 2, 3, 3, 4])).collect()
+            let count = dice.pick(&[1, 2, 2, 2, 2, 3, 3, 4, 5, 5, 6, 6]);
+            match count {
+                ..=4 => (0..count).map(|_| dice.pick(&[1, 2, 2, 2, 3, 3, 4])).collect(),
+                _ => (0..count.min(sizes.most_axes)).map(|_| dice.pick(&[1, 1, 2, 2, 2, 3])).collect(),
+            }
         }
     };
-    RawArray { of, count: widths.len() as u8, axes: axes_of_widths(dice, &widths), cells: vec![] }
+    RawArray { of, count: widths.len() as u8, axes: axes_of_widths(dice, sizes, &widths), cells: vec![] }
 }
 
-/// The widths of one cell, one row or one column, on two to four axes.
-fn thin(dice: &mut Dice) -> Vec<i32> {
-    let mut widths = vec![1; dice.pick(&[2, 2, 3, 3, 4])];
+/// The widths of one cell, one row or one column, on two axes or more.
+fn thin(dice: &mut Dice, sizes: Sizes) -> Vec<i32> {
+    let mut widths = vec![1; dice.pick(&[2, 2, 3, 3, 4, 5, 6]).min(sizes.most_axes)];
     let last = widths.len() - 1;
     match dice.below(4) {
         0 => widths[last] = dice.between(2, 6),
@@ -137,7 +194,7 @@ fn thin(dice: &mut Dice) -> Vec<i32> {
 }
 
 /// Axes of these widths, with different names; mostly about zero, now and then at an end of the range. Their maximum is `*`.
-pub fn axes_of_widths(dice: &mut Dice, widths: &[i32]) -> Vec<RawAxis> {
+pub fn axes_of_widths(dice: &mut Dice, sizes: Sizes, widths: &[i32]) -> Vec<RawAxis> {
     let mut axes: Vec<RawAxis> = vec![];
     for width in widths {
         let lower = match dice.below(40) {
@@ -145,34 +202,38 @@ pub fn axes_of_widths(dice: &mut Dice, widths: &[i32]) -> Vec<RawAxis> {
             1 => 1_000_000 - (width - 1),
             _ => dice.between(-3, 3),
         };
-        let name = new_name(dice, &axes);
+        let name = new_name(dice, sizes, &axes);
         axes.push(RawAxis { name, lower, upper: lower + width - 1, lowest: -1_000_000, highest: 1_000_000 });
     }
     axes
 }
 
 /// A name that none of the axes has.
-pub fn new_name(dice: &mut Dice, axes: &[RawAxis]) -> [u8; 8] {
+pub fn new_name(dice: &mut Dice, sizes: Sizes, axes: &[RawAxis]) -> Name {
     loop {
-        let name = good_name(dice);
+        let name = good_name(dice, sizes);
         if axes.iter().all(|axis| axis.name != name) {
             return name;
         }
     }
 }
 
-/// An array whose extent has to do with another's: equal, a part, moved, longer on one axis, one axis fewer or more.
-fn related(dice: &mut Dice, other: &RawArray) -> RawArray {
+/// An array whose extent has to do with another's: equal, a part, moved, longer on one axis, one axis fewer or more, or with a name
+/// that is nearly the same.
+fn related(dice: &mut Dice, sizes: Sizes, other: &RawArray) -> RawArray {
     let mut array = other.clone();
     if dice.one_in(5) {
         array.of = dice.pick(&[1, 2, 3]);
     }
     let which = dice.index(array.axes.len());
-    match dice.below(11) {
+    match dice.below(12) {
         0..=3 => {}
         4 => array.axes.iter_mut().for_each(|axis| part(dice, axis)),
         5 if dice.one_in(2) => nudge(dice, &mut array.axes),
-        5 => part(dice, &mut array.axes[which]),
+        5 => {
+            let which = dice.pick(&[which, array.axes.len() - 1]);
+            part(dice, &mut array.axes[which]);
+        }
         6 => {
             let by = dice.between(-2, 2);
             array.axes[which].lower = (array.axes[which].lower + by).clamp(-1_000_000, 999_990);
@@ -186,16 +247,27 @@ fn related(dice: &mut Dice, other: &RawArray) -> RawArray {
                 _ => {}
             }
         }
-        9 if array.axes.len() < 4 && other.cells.len() < 200 => {
-            let name = new_name(dice, &array.axes);
+        9 if array.axes.len() < sizes.most_axes && other.cells.len() < 200 => {
+            let name = new_name(dice, sizes, &array.axes);
             array.axes.insert(which, RawAxis { name, lower: 0, upper: dice.between(0, 2), lowest: 0, highest: 0 });
         }
+        11 => nearly_same(dice, sizes, &mut array.axes),
         _ => {}
     }
     if array.axes.iter().map(RawAxis::width).product::<usize>() > 4_096 {
         return other.clone();
     }
     array
+}
+
+/// One of the axes, of those whose names are long if there are any, with a name that is nearly the same.
+pub fn nearly_same(dice: &mut Dice, sizes: Sizes, axes: &mut [RawAxis]) {
+    let long: Vec<usize> = (0..axes.len()).filter(|&at| letters(&axes[at].name) >= 8).collect();
+    let which = dice.pick_if_any(&long).unwrap_or(dice.index(axes.len()));
+    let twin = twin_name(dice, sizes, &axes[which].name);
+    if axes.iter().all(|axis| axis.name != twin) {
+        axes[which].name = twin;
+    }
 }
 
 /// One of the axes longer by one at either end.
@@ -210,7 +282,7 @@ fn nudge(dice: &mut Dice, axes: &mut [RawAxis]) {
 
 /// An axis cut to a part of itself, now and then to all but its two ends.
 fn part(dice: &mut Dice, axis: &mut RawAxis) {
-    if axis.width() > 2 && dice.one_in(4) {
+    if axis.width() > 2 && dice.one_in(3) {
         (axis.lower, axis.upper) = (axis.lower + 1, axis.upper - 1);
         return;
     }

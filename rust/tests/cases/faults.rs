@@ -1,19 +1,20 @@
 //! Faults put into sound bundles and heads: each of the paper's reasons for 1, 2 and 3, and bytes changed, cut or added.
 //! Sometimes there are several at once, so that their order is seen.
 
-use super::bundles::{bad_name, bundle_bytes, RawArray, RawAxis};
+use super::bundles::{bad_name, bundle_bytes, new_name, RawArray, RawAxis};
 use super::cells::no_cell;
 use super::dice::Dice;
+use crate::paper::version::Sizes;
 
 /// The bundle's bytes, with one fault or more.
-pub fn damaged(dice: &mut Dice, arrays: &[RawArray]) -> Vec<u8> {
+pub fn damaged(dice: &mut Dice, sizes: Sizes, arrays: &[RawArray]) -> Vec<u8> {
     let mut arrays = arrays.to_vec();
     let faults = dice.pick(&[1, 1, 1, 1, 2, 2, 3]);
     let of_arrays = dice.index(faults + 1);
     for _ in 0..of_arrays {
-        spoil_array(dice, &mut arrays);
+        spoil_array(dice, sizes, &mut arrays);
     }
-    let mut bytes = bundle_bytes(&arrays);
+    let mut bytes = bundle_bytes(sizes, &arrays);
     for _ in of_arrays..faults {
         spoil_bytes(dice, &mut bytes);
     }
@@ -21,13 +22,14 @@ pub fn damaged(dice: &mut Dice, arrays: &[RawArray]) -> Vec<u8> {
 }
 
 /// A fault in one of the arrays: type, axis count, extent or a cell.
-pub fn spoil_array(dice: &mut Dice, arrays: &mut [RawArray]) {
+pub fn spoil_array(dice: &mut Dice, sizes: Sizes, arrays: &mut [RawArray]) {
     let which = dice.index(arrays.len());
     let array = &mut arrays[which];
-    match dice.below(12) {
+    match dice.below(16) {
         0 => array.of = dice.pick(&[0, 4, 255, 128]),
-        1 => array.count = dice.pick(&[0, 5, 255, array.count.wrapping_add(1), array.count.wrapping_sub(1)]),
-        2..=6 => spoil_extent(dice, array),
+        1 => array.count = dice.pick(&[0, 5, 6, 7, 255, array.count.wrapping_add(1), array.count.wrapping_sub(1)]),
+        2..=6 => spoil_extent(dice, sizes, array),
+        12 => more_axes(dice, sizes, array),
         7 => {
             array.cells.pop();
         }
@@ -41,8 +43,18 @@ pub fn spoil_array(dice: &mut Dice, arrays: &mut [RawArray]) {
     }
 }
 
+/// Five to seven axes, the added ones of one position: too many, or as many as version 2 has.
+pub fn more_axes(dice: &mut Dice, sizes: Sizes, array: &mut RawArray) {
+    let count = dice.pick(&[5, 6, 7, 7]);
+    while array.axes.len() < count {
+        let name = new_name(dice, sizes, &array.axes);
+        array.axes.push(RawAxis { name, lower: 1, upper: 1, lowest: 0, highest: 1 });
+    }
+    array.count = array.axes.len() as u8;
+}
+
 /// A bad name, equal names, a limit out of range or crossed, an extent outside its maximum, or too many cells.
-fn spoil_extent(dice: &mut Dice, array: &mut RawArray) {
+fn spoil_extent(dice: &mut Dice, sizes: Sizes, array: &mut RawArray) {
     if array.axes.is_empty() {
         return;
     }
@@ -50,7 +62,7 @@ fn spoil_extent(dice: &mut Dice, array: &mut RawArray) {
     let first_name = array.axes[0].name;
     let axis = &mut array.axes[which];
     match dice.below(10) {
-        0 | 1 => axis.name = bad_name(dice),
+        0 | 1 => axis.name = bad_name(dice, sizes),
         2 => array.axes.iter_mut().for_each(|axis| axis.name = first_name),
         3 => axis.lower = axis.upper.saturating_add(1),
         4 => axis.lowest = axis.lower.saturating_add(1),
@@ -93,7 +105,11 @@ fn too_many(dice: &mut Dice, array: &mut RawArray) {
 /// A byte changed, bytes cut or added, count, version or mark changed.
 pub fn spoil_bytes(dice: &mut Dice, bytes: &mut Vec<u8>) {
     let length = bytes.len();
-    match dice.below(10) {
+    match dice.below(12) {
+        10 | 11 if length > 5 => {
+            let version = dice.pick(&[0, 0, 3, 3, 257, 257, 258, 258, 1, 2, 256, 512, 513, 65_535]);
+            bytes[3..5].copy_from_slice(&u16::to_le_bytes(version));
+        }
         0 | 1 if length > 0 => change_byte(dice, bytes),
         2 if length > 5 => bytes[5] = dice.pick(&[0, 5, 255, bytes[5].wrapping_add(1), bytes[5].wrapping_sub(1)]),
         3 if length > 5 => bytes[dice.index(5)] ^= 1 << dice.index(8),

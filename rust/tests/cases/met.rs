@@ -4,10 +4,10 @@
 
 use super::{Case, Function};
 use crate::paper::array::{Array, Declared};
-use crate::paper::bundle::read;
+use crate::paper::bundle::{read, Bundle};
 use crate::paper::cell::Cell;
 use crate::paper::listing::{operand, Plan};
-use crate::paper::recipe::{Operation, Step, STEP_BYTES};
+use crate::paper::recipe::{Operation, Step};
 use crate::paper::refusal::Refusal;
 
 /// A line of the counts. What is done counts in accepted cases only; what a case meets twice counts once.
@@ -101,10 +101,10 @@ impl Met {
         if !matches!(case.function, Function::Run | Function::Page) {
             return;
         }
-        let (Ok(arrays), recipe) = (read(&case.shared[0]), &case.shared[1]) else { return };
-        let meetings = match Plan::of_recipe(&arrays, recipe) {
-            Err(refusal) => met_refused(&arrays, recipe, refusal).into_iter().collect(),
-            Ok(plan) if number == 0 => met_done(&arrays, &plan),
+        let (Ok(bundle), recipe) = (read(&case.shared[0]), &case.shared[1]) else { return };
+        let meetings = match Plan::of_recipe(&bundle, recipe) {
+            Err(refusal) => met_refused(&bundle, recipe, refusal).into_iter().collect(),
+            Ok(plan) if number == 0 => met_done(&bundle.arrays, &plan),
             Ok(_) => vec![],
         };
         self.counts.iter_mut().filter(|(meeting, _)| meetings.contains(meeting)).for_each(|(_, count)| *count += 1);
@@ -128,13 +128,14 @@ impl Met {
 }
 
 /// The single operator that is refused at its step, if nothing else is wrong there: with is-empty in its stead the step is good.
-fn met_refused(arrays: &[Declared], recipe: &[u8], refusal: Refusal) -> Option<Meeting> {
-    let mut mended = recipe.get(..STEP_BYTES * refusal.place as usize)?.to_vec();
-    let bytes = mended.chunks_mut(STEP_BYTES).last()?;
-    let refused = Step::of_bytes(bytes).filter(|step| step.operation == Operation::Single)?;
+fn met_refused(bundle: &Bundle, recipe: &[u8], refusal: Refusal) -> Option<Meeting> {
+    let length = bundle.sizes.step;
+    let mut mended = recipe.get(..length * refusal.place as usize)?.to_vec();
+    let bytes = mended.chunks_mut(length).last()?;
+    let refused = Step::of_bytes(bundle.sizes, bytes).filter(|step| step.operation == Operation::Single)?;
     bytes[4] = 4;
     let name = if refused.operator() == 8 { "single operator 8" } else { takes_truth(&refused)? };
-    Plan::of_recipe(arrays, &mended).is_ok().then_some((Line::Refused(refusal.number), name))
+    Plan::of_recipe(bundle, &mended).is_ok().then_some((Line::Refused(refusal.number), name))
 }
 
 /// What the steps of an accepted case meet.

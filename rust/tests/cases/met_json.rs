@@ -4,7 +4,7 @@
 
 use super::{Case, Function};
 use crate::paper::array::Array;
-use crate::paper::bundle::{array_of, read};
+use crate::paper::bundle::read;
 use crate::paper::cell::{Cell, Type};
 use crate::paper::json::text;
 
@@ -38,7 +38,7 @@ const SHORTEST: usize = 12;
 impl Thing {
     /// Every thing, those of one line together.
     fn all() -> Vec<Thing> {
-        let done = [Type::Int, Type::Boolean].into_iter().flat_map(|of| (1..=4).map(move |axes| Thing::Done(of, axes)));
+        let done = [Type::Int, Type::Boolean].into_iter().flat_map(|of| (1..=6).map(move |axes| Thing::Done(of, axes)));
         let left = [0, 1].map(Thing::Left);
         let digits = [false, true].into_iter().flat_map(|negative| (1..=19).map(move |digits| Thing::Digits(digits, negative)));
         let numbers = [0, i64::MAX, i64::MIN].map(Thing::Number);
@@ -120,7 +120,7 @@ impl MetJson {
 fn met(case: &Case, number: u32) -> Vec<Thing> {
     let (room, asked) = (case.lent[0].len(), case.numbers[0]);
     let read = read(&case.shared[0]);
-    let array = read.as_ref().ok().and_then(|arrays| array_of(arrays, asked).ok()).map(|declared| &declared.array);
+    let array = read.as_ref().ok().and_then(|bundle| bundle.array(asked).ok()).map(|declared| &declared.array);
     let narrow = match (number, array) {
         (0, Some(array)) => return met_done(array, room),
         (3, _) => {

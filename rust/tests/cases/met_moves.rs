@@ -1,15 +1,14 @@
 //! The moves (operations 1 to 8) and the odd shapes they met, counted: how many accepted run and page cases had each move on an operand
-//! A of one cell, one row, one column and four axes, where blanks and B's cells lay in a row, and on which axis B was placed.
+//! A of one cell, one row, one column, four axes and six, where blanks and B's cells lay in a row, and on which axis B was placed.
 //! All of it is worked out from the paper's plan; what the library answers has no part in it.
 
 use super::{Case, Function};
-use crate::paper::array::Declared;
-use crate::paper::bundle::read;
+use crate::paper::bundle::{read, Bundle};
 use crate::paper::extent::{Axis, Extent};
 use crate::paper::listing::Plan;
 use crate::paper::recipe::{Operation, Step};
 
-/// A form of operand A. An array of four axes may have another of these forms besides.
+/// A form of operand A. An array of four or six axes may have another of these forms besides.
 #[derive(Clone, Copy, PartialEq, Eq)]
 enum Form {
     /// At least two axes, all of width 1.
@@ -19,6 +18,7 @@ enum Form {
     /// At least two axes, the last of width 1, the first wider.
     Column,
     FourAxes,
+    SixAxes,
 }
 
 /// A thing that an accepted case meets; what it meets twice counts once.
@@ -38,7 +38,7 @@ enum Thing {
     PlaceOn(&'static str),
 }
 
-const FORMS: [Form; 4] = [Form::Cell, Form::Row, Form::Column, Form::FourAxes];
+const FORMS: [Form; 5] = [Form::Cell, Form::Row, Form::Column, Form::FourAxes, Form::SixAxes];
 
 const MOVES: [(Operation, &str); 8] = [
     (Operation::Trim, "trim"),
@@ -65,6 +65,7 @@ impl Form {
             Form::Row => last > 1 && extent.cells() == last,
             Form::Column => last == 1 && first > 1,
             Form::FourAxes => widths.len() == 4,
+            Form::SixAxes => widths.len() == 6,
         }
     }
 }
@@ -85,6 +86,7 @@ impl Thing {
             Thing::Move(Form::Row, _) => "A of one row",
             Thing::Move(Form::Column, _) => "A of one column",
             Thing::Move(Form::FourAxes, _) => "A of four axes",
+            Thing::Move(Form::SixAxes, _) => "A of six axes",
             Thing::PlaceOn(_) => "place, by axis",
             _ => "in a row",
         }
@@ -119,8 +121,8 @@ impl MetMoves {
         if number != 0 || !matches!(case.function, Function::Run | Function::Page) {
             return;
         }
-        let arrays = read(&case.shared[0]).expect("a bundle that was accepted");
-        let met = met(&arrays, &case.shared[1]);
+        let bundle = read(&case.shared[0]).expect("a bundle that was accepted");
+        let met = met(&bundle, &case.shared[1]);
         self.counts.iter_mut().filter(|(thing, _)| met.contains(thing)).for_each(|(_, count)| *count += 1);
     }
 
@@ -144,10 +146,10 @@ impl MetMoves {
 }
 
 /// What the steps of an accepted recipe meet.
-fn met(arrays: &[Declared], recipe: &[u8]) -> Vec<Thing> {
-    let plan = Plan::of_recipe(arrays, recipe).expect("a recipe that was accepted");
+fn met(bundle: &Bundle, recipe: &[u8]) -> Vec<Thing> {
+    let plan = Plan::of_recipe(bundle, recipe).expect("a recipe that was accepted");
     let extent = |which: u8| match which {
-        1..=4 => &arrays[usize::from(which) - 1].array.extent,
+        1..=4 => &bundle.arrays[usize::from(which) - 1].array.extent,
         _ => &plan.shapes[usize::from(which) - 17].extent,
     };
     let mut met = vec![];

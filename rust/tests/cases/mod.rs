@@ -10,14 +10,17 @@ pub mod json;
 pub mod met;
 pub mod met_json;
 pub mod met_moves;
+pub mod met_versions;
 pub mod packs;
 pub mod printed;
 pub mod questions;
 pub mod recipes;
 pub mod runs;
+pub mod same;
 pub mod steps;
 pub mod stretches;
 
+use crate::paper::version::{Sizes, VERSIONS};
 use dice::Dice;
 
 #[derive(Clone, Copy, Debug, PartialEq, Eq)]
@@ -89,6 +92,36 @@ pub fn of_function(dice: &mut Dice, function: Function) -> Vec<Case> {
         Function::Run => vec![runs::run(dice)],
         Function::Page => runs::pages(dice),
         Function::Stretch => stretches::stretches(dice),
+    }
+}
+
+/// The version of a case: either.
+pub fn version(dice: &mut Dice) -> Sizes {
+    dice.pick(&VERSIONS)
+}
+
+/// The version that it isn't.
+pub fn other_version(sizes: Sizes) -> Sizes {
+    let [one, two] = VERSIONS;
+    if sizes == one {
+        two
+    } else {
+        one
+    }
+}
+
+/// The version that a pack or a stretch is told: mostly that of its heads, else the other one, or a number that is no version, often
+/// one whose lowest bytes are those of a version.
+pub fn told(dice: &mut Dice, sizes: Sizes) -> u32 {
+    let right = sizes.version;
+    match dice.below(48) {
+        0 | 1 => other_version(sizes).version,
+        2 => 0,
+        3 => 3,
+        4 | 5 => 65_536 + right,
+        6 => dice.pick(&[1 << 8, 1 << 17, 1 << 24, 1 << 31]) + right,
+        7 => dice.pick(&[4, 255, 65_535, 65_536, u32::MAX, u32::MAX - 1, right << 16]),
+        _ => right,
     }
 }
 

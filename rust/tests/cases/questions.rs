@@ -5,19 +5,21 @@ use super::answers::paper_answers;
 use super::bundles::{any_mood, arrays, bundle_bytes, RawArray, RawAxis};
 use super::dice::Dice;
 use super::faults::damaged;
-use super::{said, Case, Function};
+use super::{said, version, Case, Function};
+use crate::paper::version::Sizes;
 
 /// Arrays, and the bytes of their bundle: sound but for one in `faulty`.
-fn bundle(dice: &mut Dice, faulty: u64) -> (Vec<RawArray>, Vec<u8>) {
-    let arrays = arrays(dice, any_mood);
-    let bytes = if dice.one_in(faulty) { damaged(dice, &arrays) } else { bundle_bytes(&arrays) };
+fn bundle(dice: &mut Dice, sizes: Sizes, faulty: u64) -> (Vec<RawArray>, Vec<u8>) {
+    let arrays = arrays(dice, sizes, any_mood);
+    let bytes = if dice.one_in(faulty) { damaged(dice, sizes, &arrays) } else { bundle_bytes(sizes, &arrays) };
     (arrays, bytes)
 }
 
 pub fn read(dice: &mut Dice) -> Case {
-    let (arrays, mut bytes) = bundle(dice, 3);
+    let sizes = version(dice);
+    let (arrays, mut bytes) = bundle(dice, sizes, 3);
     match dice.below(4) {
-        0 => bytes = damaged(dice, &arrays),
+        0 => bytes = damaged(dice, sizes, &arrays),
         1 if dice.one_in(20) => {
             let length = dice.index(40);
             bytes = dice.bytes(length);
@@ -28,14 +30,16 @@ pub fn read(dice: &mut Dice) -> Case {
 }
 
 pub fn array(dice: &mut Dice) -> Case {
-    let (arrays, bytes) = bundle(dice, 5);
+    let sizes = version(dice);
+    let (arrays, bytes) = bundle(dice, sizes, 5);
     let array = dice.array(arrays.len());
     Case { function: Function::Array, shared: vec![bytes], numbers: vec![array], lent: vec![said(dice)] }
 }
 
 /// A few references to one bundle.
 pub fn refers(dice: &mut Dice) -> Vec<Case> {
-    let (arrays, bytes) = bundle(dice, 8);
+    let sizes = version(dice);
+    let (arrays, bytes) = bundle(dice, sizes, 6);
     let mut cases = vec![];
     for _ in 0..1 + dice.index(4) {
         let array = dice.array(arrays.len());
@@ -60,12 +64,12 @@ fn coordinate(dice: &mut Dice, array: &RawArray) -> Vec<u8> {
             positions.pop();
         }
         1 => positions.push(dice.between(-1, 1)),
-        2 if dice.one_in(3) => positions.resize(dice.index(7), 0),
+        2 | 3 => positions.resize(dice.index(9), 0),
         _ => {}
     }
     let mut bytes: Vec<u8> = positions.iter().flat_map(|position| position.to_le_bytes()).collect();
-    if dice.one_in(24) {
-        bytes.resize(dice.index(24), 0);
+    if dice.one_in(12) {
+        bytes.resize(dice.index(32), 0);
     }
     bytes
 }
@@ -84,7 +88,8 @@ fn odd_position(dice: &mut Dice, axis: &RawAxis) -> i32 {
 
 /// One step of a walk from a place of any kind, or a small array walked whole.
 pub fn walks(dice: &mut Dice) -> Vec<Case> {
-    let (arrays, bytes) = bundle(dice, 10);
+    let sizes = version(dice);
+    let (arrays, bytes) = bundle(dice, sizes, 6);
     let array = dice.array(arrays.len());
     let cells = arrays[(array as usize).clamp(1, arrays.len()) - 1].cells.len() as u32;
     let whole = cells <= 24 && dice.one_in(8);
@@ -105,10 +110,11 @@ pub fn walks(dice: &mut Dice) -> Vec<Case> {
 
 /// One total, or every total of one array.
 pub fn totals(dice: &mut Dice) -> Vec<Case> {
-    let (mut arrays, mut bytes) = bundle(dice, 14);
+    let sizes = version(dice);
+    let (mut arrays, mut bytes) = bundle(dice, sizes, 6);
     if dice.one_in(3) {
         balance(dice, &mut arrays);
-        bytes = bundle_bytes(&arrays);
+        bytes = bundle_bytes(sizes, &arrays);
     }
     let array = dice.array(arrays.len());
     let odd = dice.pick(&[0, 7, 8, u32::MAX, 256 + 5]);

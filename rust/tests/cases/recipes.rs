@@ -3,17 +3,20 @@
 
 use super::dice::Dice;
 use super::faults::change_byte;
+use super::other_version;
 use super::steps::{self, StepBytes};
-use crate::paper::array::{Array, Declared};
+use crate::paper::array::Array;
+use crate::paper::bundle::Bundle;
 use crate::paper::cell::Cell;
 use crate::paper::judge::{judge, Shapes};
 use crate::paper::listing::operand;
 use crate::paper::moves::carry_out;
 use crate::paper::recipe::Step;
+use crate::paper::version::Sizes;
 
 /// A recipe in the making: the shapes so far, and the arrays so far while every value is known.
 struct Kitchen<'a> {
-    bundle: &'a [Declared],
+    bundle: &'a Bundle,
     shapes: Shapes,
     results: Option<Vec<Array>>,
     recipe: Vec<u8>,
@@ -28,8 +31,8 @@ pub struct Aim {
 }
 
 /// A recipe over the bundle that mostly comes to its aim.
-pub fn recipe(dice: &mut Dice, bundle: &[Declared], aim: Aim) -> Vec<u8> {
-    let shapes = Shapes { bundle: bundle.iter().map(|declared| declared.array.shape()).collect(), steps: vec![] };
+pub fn recipe(dice: &mut Dice, bundle: &Bundle, aim: Aim) -> Vec<u8> {
+    let (sizes, shapes) = (bundle.sizes, Shapes::of_bundle(bundle));
     let most_cells = dice.pick(&[48, 48, 48, 4_096]);
     let mut kitchen = Kitchen { bundle, shapes, results: Some(vec![]), recipe: vec![], most_cells };
     let count = match dice.below(20) {
@@ -41,7 +44,11 @@ pub fn recipe(dice: &mut Dice, bundle: &[Declared], aim: Aim) -> Vec<u8> {
     let refusing_at = if aim.refusing { dice.index(count) } else { count };
     for number in 0..count {
         if number == loose_at {
-            let bytes = if dice.one_in(2) { steps::loose(dice, &kitchen.shapes) } else { steps::aimed(dice, &kitchen.shapes) };
+            let shapes = &kitchen.shapes;
+            let bytes = match dice.below(2) {
+                0 => steps::loose(dice, shapes),
+                _ => steps::of_alike(dice, shapes).unwrap_or_else(|| steps::aimed(dice, shapes)),
+            };
             kitchen.add(&bytes);
         } else if number != refusing_at || !kitchen.add_refusing(dice) {
             kitchen.add_fitting(dice, aim.truth && number + 1 == count);
@@ -49,9 +56,28 @@ pub fn recipe(dice: &mut Dice, bundle: &[Declared], aim: Aim) -> Vec<u8> {
     }
     let mut recipe = kitchen.recipe;
     if dice.one_in(8) {
-        damage(dice, &mut recipe);
+        damage(dice, sizes, &mut recipe);
+    }
+    if sizes.detail > 32 && dice.one_in(10) {
+        far_down(dice, sizes, &mut recipe);
     }
     recipe
+}
+
+/// A byte from 32 on of one step's detail set to something: past what version 1 has.
+fn far_down(dice: &mut Dice, sizes: Sizes, recipe: &mut [u8]) {
+    let seldom: Vec<usize> = (0..recipe.len()).step_by(sizes.step).filter(|&at| [2, 3, 7].contains(&recipe[at])).collect();
+    let any = sizes.step * dice.index(recipe.len() / sizes.step + 1);
+    let at = dice.pick_if_any(&seldom).filter(|_| dice.one_in(2)).unwrap_or(any);
+    let anywhere = 32 + dice.index(sizes.detail - 32);
+    let byte = dice.pick(&[32, anywhere, anywhere, sizes.detail - 1]);
+    recipe.iter_mut().skip(at + 4 + byte).take(1).for_each(|byte| *byte = 1 + dice.below(255) as u8);
+}
+
+/// The recipe in steps of the other version: each detail cut, or filled with zeros.
+pub fn of_other_steps(sizes: Sizes, recipe: &[u8]) -> Vec<u8> {
+    let length = other_version(sizes).step;
+    recipe.chunks(sizes.step).flat_map(|step| step.iter().copied().chain(std::iter::repeat(0)).take(length)).collect()
 }
 
 impl Kitchen<'_> {
@@ -64,7 +90,7 @@ impl Kitchen<'_> {
             }
         }
         let latest = steps::operand(dice, &self.shapes);
-        self.add(&steps::step(12, latest, 0, 0, &[4]));
+        self.add(&steps::step(self.bundle.sizes, 12, latest, 0, 0, &[4]));
     }
 
     /// A step that should pass; where they can be had, often one on what a comparison with an empty cell gave, and now and then a
@@ -81,9 +107,10 @@ impl Kitchen<'_> {
 
     /// A step on one of those steps so far that are comparisons with an empty cell in their result.
     fn on_unknown(&self, dice: &mut Dice) -> Option<StepBytes> {
-        let compares = |bytes: &[u8]| Step::of_bytes(bytes).is_some_and(|step| step.compares());
+        let sizes = self.bundle.sizes;
+        let compares = |bytes: &[u8]| Step::of_bytes(sizes, bytes).is_some_and(|step| step.compares());
         let unknown = |(bytes, result): (&[u8], &Array)| compares(bytes) && result.cells.values().any(|cell| *cell == Cell::Empty);
-        let steps = (17..).zip(self.recipe.chunks(36).zip(self.results.as_ref()?));
+        let steps = (17..).zip(self.recipe.chunks(sizes.step).zip(self.results.as_ref()?));
         let found: Vec<u8> = steps.filter(|(_, step)| unknown(*step)).map(|(operand, _)| operand).collect();
         let which = dice.pick_if_any(&found)?;
         steps::on_unknown(dice, &self.shapes, which)
@@ -92,12 +119,12 @@ impl Kitchen<'_> {
     /// A comparison of two operands of which one is empty where the other is filled.
     fn one_empty(&self, dice: &mut Dice) -> Option<StepBytes> {
         let results = self.results.as_ref()?;
-        let array = |which: u8| operand(self.bundle, results, which);
+        let array = |which: u8| operand(&self.bundle.arrays, results, which);
         let all = steps::operands(&self.shapes);
         let pairs = all.iter().flat_map(|&a| all.iter().map(move |&b| (a, b)));
         let found: Vec<(u8, u8)> = pairs.filter(|&(a, b)| emptied_apart(array(a), array(b))).collect();
         let (a, b) = dice.pick_if_any(&found)?;
-        Some(steps::comparison(dice, array(a).of, a, b))
+        Some(steps::comparison(dice, self.bundle.sizes, array(a).of, a, b))
     }
 
     /// A step that is judged good and has a cell that refuses, if one is found in a few tries.
@@ -122,8 +149,8 @@ impl Kitchen<'_> {
 
     fn carried_out(&self, bytes: &[u8], results: &[Array]) -> Option<Array> {
         let (step, shape) = judge(bytes, &self.shapes).ok()?;
-        let b = step.uses_b().then(|| operand(self.bundle, results, step.b));
-        carry_out(&step, &shape, operand(self.bundle, results, step.a), b).ok()
+        let b = step.uses_b().then(|| operand(&self.bundle.arrays, results, step.b));
+        carry_out(&step, &shape, operand(&self.bundle.arrays, results, step.a), b).ok()
     }
 
     /// The step as it is. If it doesn't pass, later steps see A's shape in its stead.
@@ -147,24 +174,24 @@ fn emptied_apart(a: &Array, b: &Array) -> bool {
 }
 
 /// One fault in the recipe's bytes.
-fn damage(dice: &mut Dice, recipe: &mut Vec<u8>) {
-    let count = recipe.len() / 36;
-    let at = 36 * dice.index(count);
+fn damage(dice: &mut Dice, sizes: Sizes, recipe: &mut Vec<u8>) {
+    let count = recipe.len() / sizes.step;
+    let at = sizes.step * dice.index(count);
     match dice.below(16) {
         0 => change_byte(dice, recipe),
         1 => recipe.truncate(dice.index(recipe.len())),
         2 => recipe.resize(recipe.len() + 1 + dice.index(40), 0),
         3 => recipe.clear(),
         4 => {
-            let last = recipe[recipe.len() - 36..].to_vec();
+            let last = recipe[recipe.len() - sizes.step..].to_vec();
             (count..17).for_each(|_| recipe.extend(&last));
         }
         5 => recipe[at] = dice.pick(&[0, 13, 255, 14]),
-        6 => recipe[at + 1 + dice.index(2)] = dice.pick(&[0, 5, 16, 33, 255, 32, 17 + (at / 36) as u8, 4, 3]),
+        6 => recipe[at + 1 + dice.index(2)] = dice.pick(&[0, 5, 16, 33, 255, 32, 17 + (at / sizes.step) as u8, 4, 3]),
         7 => recipe[at + 3] = dice.pick(&[0, 1, 2, 5, 255]),
         8 => recipe[at + 4] = dice.pick(&[0, 14, 255, 5, 13, 7, 8]),
-        9 => recipe[at + 4 + dice.index(32)] = 1 + dice.below(255) as u8,
-        10 | 11 => recipe[at + dice.pick(&[5, 6, 7, 2, 3, 16, 35])] = 1,
+        9 => recipe[at + 4 + dice.index(sizes.detail)] = 1 + dice.below(255) as u8,
+        10 | 11 => recipe[at + dice.pick(&[5, 6, 7, 2, 3, 16, 35, sizes.step - 1])] = 1,
         _ => {
             let slot = at + 4 + 4 * dice.index(4);
             recipe[slot..slot + 4].copy_from_slice(&dice.extreme().to_le_bytes());

@@ -1,59 +1,63 @@
-//! Cases for plan, extent, run and page: extent buffers of exactly a head, one less, more or none; work areas of exactly 9T, one less, more or none; row buffers from nothing to all rows and odd
-//! bytes; every kind of start; and pages chained to the end, whose rows joined must be the TRUE cells, each once.
+//! Cases for plan, extent, run and page: bundles of either version with recipes of theirs, now and then of the other's steps; extent
+//! buffers of exactly a head, one less, more or none; work areas of exactly 9T, one less, more or none; row buffers from nothing to all
+//! rows and odd bytes; every kind of start; and pages chained to the end, whose rows joined must be the TRUE cells, each once.
 
 use super::answers::paper_answers;
 use super::bundles::{any_mood, arrays, bundle_bytes};
 use super::cells::calm_mood;
 use super::dice::Dice;
 use super::faults::damaged;
-use super::recipes::{recipe, Aim};
-use super::{lent, said, Case, Function};
-use crate::paper::array::Declared;
-use crate::paper::bundle::read;
+use super::recipes::{of_other_steps, recipe, Aim};
+use super::{lent, said, version, Case, Function};
+use crate::paper::bundle::{read, Bundle};
 use crate::paper::listing::{true_cells, Plan};
 
-/// A bundle's bytes, its arrays (as they were before any fault, if it can't be read), and a recipe over them.
+/// A bundle's bytes, what they say (as it was before any fault, if they can't be read), and a recipe over it.
 struct Meal {
-    bundle: Vec<u8>,
-    arrays: Vec<Declared>,
+    bytes: Vec<u8>,
+    bundle: Bundle,
     recipe: Vec<u8>,
 }
 
 fn meal(dice: &mut Dice, truth: bool) -> Meal {
     let refusing = dice.one_in(3);
-    let raw = arrays(dice, if refusing { any_mood } else { calm_mood });
-    let sound = bundle_bytes(&raw);
-    let arrays = read(&sound).expect("a sound bundle");
-    let recipe = recipe(dice, &arrays, Aim { truth, refusing });
-    let bundle = if dice.one_in(16) { damaged(dice, &raw) } else { sound };
-    Meal { arrays: read(&bundle).unwrap_or(arrays), bundle, recipe }
+    let sizes = version(dice);
+    let raw = arrays(dice, sizes, if refusing { any_mood } else { calm_mood });
+    let sound = bundle_bytes(sizes, &raw);
+    let bundle = read(&sound).expect("a sound bundle");
+    let mut recipe = recipe(dice, &bundle, Aim { truth, refusing });
+    if dice.one_in(32) {
+        recipe = of_other_steps(sizes, &recipe);
+    }
+    let bytes = if dice.one_in(8) { damaged(dice, sizes, &raw) } else { sound };
+    Meal { bundle: read(&bytes).unwrap_or(bundle), bytes, recipe }
 }
 
 pub fn plan(dice: &mut Dice) -> Case {
     let truth = dice.one_in(2);
     let meal = meal(dice, truth);
-    Case { function: Function::Plan, shared: vec![meal.bundle, meal.recipe], numbers: vec![], lent: vec![said(dice)] }
+    Case { function: Function::Plan, shared: vec![meal.bytes, meal.recipe], numbers: vec![], lent: vec![said(dice)] }
 }
 
 pub fn extent(dice: &mut Dice) -> Case {
     let truth = dice.one_in(2);
     let meal = meal(dice, truth);
-    let lent = vec![lent(dice, 98), said(dice)];
-    Case { function: Function::Extent, shared: vec![meal.bundle, meal.recipe], numbers: vec![], lent }
+    let lent = vec![lent(dice, meal.bundle.sizes.head()), said(dice)];
+    Case { function: Function::Extent, shared: vec![meal.bytes, meal.recipe], numbers: vec![], lent }
 }
 
 pub fn run(dice: &mut Dice) -> Case {
     let meal = meal(dice, false);
-    let cells = Plan::of_recipe(&meal.arrays, &meal.recipe).map_or(4, |plan| plan.cells());
+    let cells = Plan::of_recipe(&meal.bundle, &meal.recipe).map_or(4, |plan| plan.cells());
     let lent = vec![lent(dice, 9 * cells), said(dice)];
-    Case { function: Function::Run, shared: vec![meal.bundle, meal.recipe], numbers: vec![], lent }
+    Case { function: Function::Run, shared: vec![meal.bytes, meal.recipe], numbers: vec![], lent }
 }
 
 /// One page from anywhere, or all pages from ordinality 1 until the end is named.
 pub fn pages(dice: &mut Dice) -> Vec<Case> {
     let truth = !dice.one_in(12);
     let meal = meal(dice, truth);
-    let plan = Plan::of_recipe(&meal.arrays, &meal.recipe).ok();
+    let plan = Plan::of_recipe(&meal.bundle, &meal.recipe).ok();
     let last = plan.as_ref().and_then(|plan| plan.shapes.last());
     let (axes, cells) = last.map_or((2, 4), |shape| (shape.extent.axes.len(), shape.extent.cells() as usize));
     let all = plan.as_ref().map_or(4, Plan::cells);
@@ -64,12 +68,7 @@ pub fn pages(dice: &mut Dice) -> Vec<Case> {
     let work = lent(dice, 9 * all);
     let rows = rows(dice, row, cells);
     let start = start(dice, cells);
-    vec![Case {
-        function: Function::Page,
-        shared: vec![meal.bundle, meal.recipe],
-        numbers: vec![start],
-        lent: vec![work, rows, said(dice)],
-    }]
+    vec![Case { function: Function::Page, shared: vec![meal.bytes, meal.recipe], numbers: vec![start], lent: vec![work, rows, said(dice)] }]
 }
 
 fn rows(dice: &mut Dice, row: usize, cells: usize) -> Vec<u8> {
@@ -106,7 +105,7 @@ fn chain(dice: &mut Dice, meal: &Meal, plan: &Plan, row: usize) -> Vec<Case> {
     loop {
         let said = dice.bytes(16);
         let lent = vec![work, dice.bytes(room), said];
-        let case = Case { function: Function::Page, shared: vec![meal.bundle.clone(), meal.recipe.clone()], numbers: vec![start], lent };
+        let case = Case { function: Function::Page, shared: vec![meal.bytes.clone(), meal.recipe.clone()], numbers: vec![start], lent };
         let mut answer = paper_answers(&case);
         cases.push(case);
         let number = |at: usize| u32::from_le_bytes(answer.lent[2][at..at + 4].try_into().expect("four bytes"));
@@ -126,7 +125,7 @@ fn chain(dice: &mut Dice, meal: &Meal, plan: &Plan, row: usize) -> Vec<Case> {
 
 /// Demand 3, for the paper's own pages: each coordinate whose cell is TRUE, and no other, once, in row-major order.
 fn check_joined(meal: &Meal, plan: &Plan, joined: &[u8]) {
-    let results = plan.results(&meal.arrays).expect("values that were accepted");
+    let results = plan.results(&meal.bundle.arrays).expect("values that were accepted");
     let listed = true_cells(results.last().expect("a last result")).into_iter().flat_map(|(ordinality, coordinate)| {
         let positions = coordinate.into_iter().flat_map(|position| position.to_le_bytes());
         ordinality.to_le_bytes().into_iter().chain(positions).collect::<Vec<u8>>()

@@ -1,13 +1,14 @@
 //! One step made up over the shapes at hand: fitting ones, in which operands, limits, positions and operators are chosen to
 //! pass, and loose ones, in which several things may be wrong at once.
 
-use super::bundles::{bad_name, good_name};
+use super::bundles::{alike, bad_name, good_name, padded, twin_name, Name};
 use super::cells::{edge_float, edge_int, no_value};
 use super::dice::Dice;
 use crate::paper::array::Shape;
 use crate::paper::cell::Type;
 use crate::paper::extent::Axis;
 use crate::paper::judge::{judge, Shapes};
+use crate::paper::version::Sizes;
 
 pub type StepBytes = Vec<u8>;
 
@@ -26,10 +27,10 @@ pub fn operand(dice: &mut Dice, shapes: &Shapes) -> u8 {
 }
 
 /// The bytes of a step; the detail is filled with zeros.
-pub fn step(operation: u8, a: u8, b: u8, axis: u8, detail: &[u8]) -> StepBytes {
+pub fn step(sizes: Sizes, operation: u8, a: u8, b: u8, axis: u8, detail: &[u8]) -> StepBytes {
     let mut bytes = vec![operation, a, b, axis];
     bytes.extend(detail);
-    bytes.resize(36, 0);
+    bytes.resize(sizes.step, 0);
     bytes
 }
 
@@ -39,19 +40,19 @@ pub fn numbers(list: &[i32]) -> Vec<u8> {
 
 /// A step that should pass, if there is one of the operation drawn.
 pub fn fitting(dice: &mut Dice, shapes: &Shapes) -> Option<StepBytes> {
-    let a = operand(dice, shapes);
+    let (sizes, a) = (shapes.sizes, operand(dice, shapes));
     let shape = shapes.operand(a)?;
-    match dice.pick(&[1, 1, 2, 3, 4, 4, 5, 6, 6, 7, 7, 8, 8, 9, 9, 9, 9, 10, 10, 10, 11, 11, 12, 12]) {
-        1 => Some(step(1, a, 0, 0, &pairs(dice, shape, part))),
-        2 => slice(dice, a, shape),
-        3 => Some(step(3, a, 0, 0, &reshaped(dice, shape))),
-        4 => Some(step(4, a, 0, 0, &amounts(dice, shape))),
-        5 => Some(step(5, a, 0, 0, &names(dice, shape))),
+    match dice.pick(&[1, 1, 2, 3, 4, 4, 5, 6, 6, 7, 7, 7, 8, 8, 9, 9, 9, 9, 10, 10, 10, 11, 11, 11, 12, 12]) {
+        1 => Some(step(sizes, 1, a, 0, 0, &pairs(dice, shape, part))),
+        2 => slice(dice, sizes, a, shape),
+        3 => Some(step(sizes, 3, a, 0, 0, &reshaped(dice, shape))),
+        4 => Some(step(sizes, 4, a, 0, 0, &amounts(dice, shape))),
+        5 => Some(step(sizes, 5, a, 0, 0, &names(dice, sizes, shape))),
         6 if dice.one_in(2) => patch(dice, shapes, 6).or_else(|| two_operands(dice, shapes, 6, a)),
         7 => patch(dice, shapes, 7),
         operation @ 6..=9 => two_operands(dice, shapes, operation, a),
-        operation @ 10..=11 => Some(scalar_step(dice, operation, a, shape)),
-        _ => Some(step(12, a, 0, 0, &[single_operator(dice, shape.of)])),
+        operation @ 10..=11 => Some(scalar_step(dice, sizes, operation, a, shape)),
+        _ => Some(step(sizes, 12, a, 0, 0, &[single_operator(dice, shape.of)])),
     }
 }
 
@@ -63,17 +64,18 @@ pub fn truth(dice: &mut Dice, shapes: &Shapes) -> Option<StepBytes> {
 }
 
 /// A comparison of two operands of that type.
-pub fn comparison(dice: &mut Dice, of: Type, a: u8, b: u8) -> StepBytes {
+pub fn comparison(dice: &mut Dice, sizes: Sizes, of: Type, a: u8, b: u8) -> StepBytes {
     let comparisons = if of.is_number() { 6 } else { 2 };
-    step(9, a, b, 0, &[6 + dice.index(comparisons) as u8])
+    step(sizes, 9, a, b, 0, &[6 + dice.index(comparisons) as u8])
 }
 
 /// A step that takes truth values of which some are unknown: NOT or a single operator of 5 to 7, AND or OR with a scalar, or a pair
 /// with an operand that fits, on either side.
 pub fn on_unknown(dice: &mut Dice, shapes: &Shapes, unknown: u8) -> Option<StepBytes> {
+    let sizes = shapes.sizes;
     match dice.below(6) {
-        0..=2 => Some(step(12, unknown, 0, 0, &[dice.pick(&[3, 3, 5, 6, 7])])),
-        3 => Some(with_scalar(dice.pick(&[10, 11]), unknown, dice.pick(&[12, 13]), dice.below(2))),
+        0..=2 => Some(step(sizes, 12, unknown, 0, 0, &[dice.pick(&[3, 3, 5, 6, 7])])),
+        3 => Some(with_scalar(sizes, dice.pick(&[10, 11]), unknown, dice.pick(&[12, 13]), dice.below(2))),
         _ => {
             let mut bytes = two_operands(dice, shapes, 9, unknown)?;
             if dice.one_in(2) {
@@ -86,7 +88,7 @@ pub fn on_unknown(dice: &mut Dice, shapes: &Shapes, unknown: u8) -> Option<StepB
 
 /// Arithmetic at which a value may well refuse: edges and zeros as scalars, pairs, negate and absolute.
 pub fn risky(dice: &mut Dice, shapes: &Shapes) -> Option<StepBytes> {
-    let a = operand(dice, shapes);
+    let (sizes, a) = (shapes.sizes, operand(dice, shapes));
     let shape = shapes.operand(a)?;
     if !shape.of.is_number() {
         return None;
@@ -94,12 +96,12 @@ pub fn risky(dice: &mut Dice, shapes: &Shapes) -> Option<StepBytes> {
     let operation = dice.pick(&[9, 9, 9, 10, 10, 11, 11, 12, 12]);
     match operation {
         9 => two_operands(dice, shapes, 9, a),
-        12 => Some(step(12, a, 0, 0, &[dice.pick(&[1, 2])])),
+        12 => Some(step(sizes, 12, a, 0, 0, &[dice.pick(&[1, 2])])),
         _ => {
             let of_int = dice.pick(&[0, 0, -1, i64::MAX, i64::MIN, 1 << 62]) as u64;
             let of_float = dice.pick(&[0.0, -0.0, f64::MAX, 1e-300, 1e300]).to_bits();
             let (bits, last) = if shape.of == Type::Int { (of_int, 5) } else { (of_float, 4) };
-            Some(with_scalar(operation, a, 1 + dice.index(last) as u8, bits))
+            Some(with_scalar(sizes, operation, a, 1 + dice.index(last) as u8, bits))
         }
     }
 }
@@ -147,22 +149,34 @@ fn amounts(dice: &mut Dice, shape: &Shape) -> Vec<u8> {
     numbers(&shape.extent.axes.iter().map(of_axis).collect::<Vec<i32>>())
 }
 
-fn names(dice: &mut Dice, shape: &Shape) -> Vec<u8> {
-    let mut names: Vec<[u8; 8]> = vec![];
+/// New names; now and then the old ones but for one, which is nearly the same.
+fn names(dice: &mut Dice, sizes: Sizes, shape: &Shape) -> Vec<u8> {
+    if dice.one_in(3) {
+        let mut names: Vec<Name> = shape.extent.names().iter().map(|name| padded(name)).collect();
+        let which = dice.index(names.len());
+        names[which] = twin_name(dice, sizes, &names[which]);
+        return slots(sizes, &names);
+    }
+    let mut names: Vec<Name> = vec![];
     while names.len() < shape.extent.axes.len() {
-        let name = good_name(dice);
+        let name = good_name(dice, sizes);
         if !names.contains(&name) {
             names.push(name);
         }
     }
-    names.concat()
+    slots(sizes, &names)
 }
 
-fn slice(dice: &mut Dice, a: u8, shape: &Shape) -> Option<StepBytes> {
+/// The names as they stand in a detail.
+fn slots(sizes: Sizes, names: &[Name]) -> Vec<u8> {
+    names.iter().flat_map(|name| name[..sizes.name].to_vec()).collect()
+}
+
+fn slice(dice: &mut Dice, sizes: Sizes, a: u8, shape: &Shape) -> Option<StepBytes> {
     let axis = dice.index(shape.extent.axes.len());
     let Axis { lower, upper, .. } = shape.extent.axes[axis];
     let position = dice.between(lower, upper);
-    (shape.extent.axes.len() > 1).then(|| step(2, a, 0, axis as u8 + 1, &numbers(&[position])))
+    (shape.extent.axes.len() > 1).then(|| step(sizes, 2, a, 0, axis as u8 + 1, &numbers(&[position])))
 }
 
 /// Update or place with an operand of another extent, in any that it fits.
@@ -173,7 +187,7 @@ fn patch(dice: &mut Dice, shapes: &Shapes, operation: u8) -> Option<StepBytes> {
         let (whole, patch) = (shapes.operand(a)?, shapes.operand(b)?);
         let axes_fit = whole.extent.axes.len() == patch.extent.axes.len() + fewer;
         if axes_fit && whole.of == patch.of && whole.extent != patch.extent {
-            list.extend(with_b(dice, whole, operation, a, b, inside));
+            list.extend(with_b(dice, shapes.sizes, whole, [operation, a, b], inside));
         }
     }
     list.retain(|bytes| judge(bytes, shapes).is_ok());
@@ -192,22 +206,22 @@ fn two_operands(dice: &mut Dice, shapes: &Shapes, operation: u8, a: u8) -> Optio
 /// The operation with A and each operand as B, on each axis, at a position drawn for it.
 fn candidates(dice: &mut Dice, shapes: &Shapes, operation: u8, a: u8, at: At) -> Vec<StepBytes> {
     let shape = shapes.operand(a).expect("an operand at hand");
-    operands(shapes).into_iter().flat_map(|b| with_b(dice, shape, operation, a, b, at)).collect()
+    operands(shapes).into_iter().flat_map(|b| with_b(dice, shapes.sizes, shape, [operation, a, b], at)).collect()
 }
 
 /// How a position is drawn for an axis.
 type At = fn(&mut Dice, &Axis) -> i32;
 
 /// The operation with A, which has that shape, and B, on each axis, at a position drawn for it.
-fn with_b(dice: &mut Dice, shape: &Shape, operation: u8, a: u8, b: u8, at: At) -> Vec<StepBytes> {
+fn with_b(dice: &mut Dice, sizes: Sizes, shape: &Shape, [operation, a, b]: [u8; 3], at: At) -> Vec<StepBytes> {
     let mut steps = vec![];
     for (index, axis) in (1..).zip(&shape.extent.axes) {
         let position = at(dice, axis);
         steps.push(match operation {
-            7 => step(7, a, b, index, &numbers(&[position])),
-            8 => step(8, a, b, index, &[]),
-            9 => step(9, a, b, 0, &[pair_operator(dice, shape.of)]),
-            _ => step(6, a, b, 0, &[]),
+            7 => step(sizes, 7, a, b, index, &numbers(&[position])),
+            8 => step(sizes, 8, a, b, index, &[]),
+            9 => step(sizes, 9, a, b, 0, &[pair_operator(dice, shape.of)]),
+            _ => step(sizes, 6, a, b, 0, &[]),
         });
     }
     steps
@@ -215,7 +229,7 @@ fn with_b(dice: &mut Dice, shape: &Shape, operation: u8, a: u8, b: u8, at: At) -
 
 /// A step that is refused with a number drawn beforehand, if one is found in a few tries; else a loose one.
 pub fn aimed(dice: &mut Dice, shapes: &Shapes) -> StepBytes {
-    let number = dice.pick(&[5, 6, 6, 7, 8, 8, 9, 9]);
+    let number = dice.pick(&[5, 5, 6, 6, 7, 8, 8, 9, 9]);
     for _ in 0..12 {
         let a = operand(dice, shapes);
         let operation = dice.pick(&[6, 7, 7, 8, 9]);
@@ -227,6 +241,18 @@ pub fn aimed(dice: &mut Dice, shapes: &Shapes) -> StepBytes {
         }
     }
     loose(dice, shapes)
+}
+
+/// A step whose operands have names that are the same in their first eight letters, and not in all, if there are such.
+pub fn of_alike(dice: &mut Dice, shapes: &Shapes) -> Option<StepBytes> {
+    let all = operands(shapes);
+    let names = |which: u8| shapes.operand(which).expect("an operand at hand").extent.names();
+    let pairs = all.iter().flat_map(|&a| all.iter().map(move |&b| (a, b)));
+    let found: Vec<(u8, u8)> = pairs.filter(|&(a, b)| alike(&names(a), &names(b))).collect();
+    let (a, b) = dice.pick_if_any(&found)?;
+    let operation = dice.pick(&[6, 8, 9]);
+    let list = with_b(dice, shapes.sizes, shapes.operand(a)?, [operation, a, b], inside);
+    Some(list[dice.index(list.len())].clone())
 }
 
 fn pair_operator(dice: &mut Dice, of: Type) -> u8 {
@@ -245,7 +271,7 @@ fn single_operator(dice: &mut Dice, of: Type) -> u8 {
     }
 }
 
-fn scalar_step(dice: &mut Dice, operation: u8, a: u8, shape: &Shape) -> StepBytes {
+fn scalar_step(dice: &mut Dice, sizes: Sizes, operation: u8, a: u8, shape: &Shape) -> StepBytes {
     let operator = pair_operator(dice, shape.of);
     let bits = match shape.of {
         Type::Int if dice.one_in(10) => edge_int(dice) as u64,
@@ -254,37 +280,38 @@ fn scalar_step(dice: &mut Dice, operation: u8, a: u8, shape: &Shape) -> StepByte
         Type::Float => dice.pick(&[-2.0f64, -0.5, 0.1, 1.0, 3.0, 0.0, -0.0, 1e3]).to_bits(),
         Type::Boolean => dice.below(2),
     };
-    with_scalar(operation, a, operator, bits)
+    with_scalar(sizes, operation, a, operator, bits)
 }
 
-fn with_scalar(operation: u8, a: u8, operator: u8, bits: u64) -> StepBytes {
+fn with_scalar(sizes: Sizes, operation: u8, a: u8, operator: u8, bits: u64) -> StepBytes {
     let detail = [&[operator, 0, 0, 0], bits.to_le_bytes().as_slice()].concat();
-    step(operation, a, 0, 0, &detail)
+    step(sizes, operation, a, 0, 0, &detail)
 }
 
 /// A step whose form is right and whose operands are there, but which is otherwise drawn without looking.
 pub fn loose(dice: &mut Dice, shapes: &Shapes) -> StepBytes {
+    let sizes = shapes.sizes;
     let (a, mut b) = (operand(dice, shapes), operand(dice, shapes));
     let shape = shapes.operand(a).expect("an operand at hand").clone();
     let count = shape.extent.axes.len();
-    let axis = if dice.one_in(6) { dice.pick(&[0, 5, count as u8 + 1, 255]) } else { 1 + dice.index(count) as u8 };
+    let axis = if dice.one_in(6) { dice.pick(&[0, 5, 7, count as u8 + 1, 255]) } else { 1 + dice.index(count) as u8 };
     if dice.one_in(3) {
         b = a;
     }
     match dice.pick(&[1, 1, 2, 2, 3, 4, 5, 5, 6, 6, 7, 7, 7, 8, 8, 8, 9, 9, 10, 11, 12, 12, 12]) {
-        operation @ (1 | 3) => step(operation, a, 0, 0, &pairs(dice, &shape, near_pair)),
-        2 => step(2, a, 0, axis, &numbers(&[near(dice, &shape.extent.axes[usize::from(axis).clamp(1, count) - 1])])),
+        operation @ (1 | 3) => step(sizes, operation, a, 0, 0, &pairs(dice, &shape, near_pair)),
+        2 => step(sizes, 2, a, 0, axis, &numbers(&[near(dice, &shape.extent.axes[usize::from(axis).clamp(1, count) - 1])])),
         4 => {
             let amounts: Vec<i32> = (0..count).map(|_| dice.extreme()).collect();
-            step(4, a, 0, 0, &numbers(&amounts))
+            step(sizes, 4, a, 0, 0, &numbers(&amounts))
         }
-        5 => step(5, a, 0, 0, &loose_names(dice, count)),
-        6 => step(6, a, b, 0, &[]),
-        7 => step(7, a, b, axis, &numbers(&[near(dice, &shape.extent.axes[usize::from(axis).clamp(1, count) - 1])])),
-        8 => step(8, a, b, axis, &[]),
-        9 => step(9, a, b, 0, &[1 + dice.index(13) as u8]),
-        operation @ (10 | 11) => loose_scalar(dice, operation, a, &shape),
-        _ => step(12, a, 0, 0, &[dice.pick(&[1, 2, 3, 4, 5, 5, 6, 6, 7, 7, 8, 8])]),
+        5 => step(sizes, 5, a, 0, 0, &loose_names(dice, sizes, count)),
+        6 => step(sizes, 6, a, b, 0, &[]),
+        7 => step(sizes, 7, a, b, axis, &numbers(&[near(dice, &shape.extent.axes[usize::from(axis).clamp(1, count) - 1])])),
+        8 => step(sizes, 8, a, b, axis, &[]),
+        9 => step(sizes, 9, a, b, 0, &[1 + dice.index(13) as u8]),
+        operation @ (10 | 11) => loose_scalar(dice, sizes, operation, a, &shape),
+        _ => step(sizes, 12, a, 0, 0, &[dice.pick(&[1, 2, 3, 4, 5, 5, 6, 6, 7, 7, 8, 8])]),
     }
 }
 
@@ -303,12 +330,16 @@ fn near_pair(dice: &mut Dice, axis: &Axis) -> [i32; 2] {
     [near(dice, axis), near(dice, axis)]
 }
 
-fn loose_names(dice: &mut Dice, count: usize) -> Vec<u8> {
-    let name = |dice: &mut Dice| if dice.one_in(4) { bad_name(dice) } else { good_name(dice) };
-    (0..count).flat_map(|_| name(dice)).collect()
+/// Names that may be bad or equal; now and then one in the slot past the last axis, if there is one.
+fn loose_names(dice: &mut Dice, sizes: Sizes, count: usize) -> Vec<u8> {
+    let past = usize::from(dice.one_in(4));
+    let bad_in = dice.pick(&[4, 8, 1_000]);
+    let name = |dice: &mut Dice| if dice.one_in(bad_in) { bad_name(dice, sizes) } else { good_name(dice, sizes) };
+    let names: Vec<Name> = (0..(count + past).min(sizes.most_axes)).map(|_| name(dice)).collect();
+    slots(sizes, &names)
 }
 
-fn loose_scalar(dice: &mut Dice, operation: u8, a: u8, shape: &Shape) -> StepBytes {
+fn loose_scalar(dice: &mut Dice, sizes: Sizes, operation: u8, a: u8, shape: &Shape) -> StepBytes {
     let bits = if dice.one_in(2) { no_value(dice, shape.of.byte()) } else { dice.below(3) };
-    with_scalar(operation, a, 1 + dice.index(13) as u8, bits)
+    with_scalar(sizes, operation, a, 1 + dice.index(13) as u8, bits)
 }

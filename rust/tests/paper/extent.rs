@@ -1,6 +1,8 @@
 //! Axes and places: names, closed limits, extents, and row-major ordinality.
 //! An extent exists only if it is sound: good and different names, limits in range and not crossed, at most 4,096 cells.
 
+use super::version::Sizes;
+
 pub const LOWEST: i64 = -1_000_000;
 pub const HIGHEST: i64 = 1_000_000;
 pub const MOST_CELLS: u128 = 4_096;
@@ -28,21 +30,21 @@ pub struct Proposed {
     pub upper: i64,
 }
 
-/// A letter a-z, then letters, digits or underscore, padded with zeros to eight bytes.
-pub fn name_in(eight: &[u8]) -> Option<String> {
-    let length = eight.iter().position(|&byte| byte == 0).unwrap_or(eight.len());
-    let (name, padding) = eight.split_at(length);
+/// A letter a-z, then letters, digits or underscore, padded with zeros to the end of the bytes; it may fill them all.
+pub fn name_in(bytes: &[u8]) -> Option<String> {
+    let length = bytes.iter().position(|&byte| byte == 0).unwrap_or(bytes.len());
+    let (name, padding) = bytes.split_at(length);
     let good_first = name.first().is_some_and(|byte| byte.is_ascii_lowercase());
     let good_rest = name.iter().all(|&byte| byte.is_ascii_lowercase() || byte.is_ascii_digit() || byte == b'_');
     let good_padding = padding.iter().all(|&byte| byte == 0);
     (good_first && good_rest && good_padding).then(|| name.iter().map(|&byte| byte as char).collect())
 }
 
-/// A name as its eight bytes.
-pub fn name_bytes(name: &str) -> [u8; 8] {
-    let mut eight = [0; 8];
-    eight[..name.len()].copy_from_slice(name.as_bytes());
-    eight
+/// A name as its bytes in that version, which has room for all of it.
+pub fn name_bytes(sizes: Sizes, name: &str) -> Vec<u8> {
+    let mut bytes = vec![0; sizes.name];
+    bytes[..name.len()].copy_from_slice(name.as_bytes());
+    bytes
 }
 
 /// Whether a limit lies in -1,000,000..1,000,000.

@@ -2,14 +2,14 @@
 //! outermost, and looks each cell up by the coordinate that it went down by.
 //! The order of refusals is the bundle's own 1 to 3, then at the array asked for 4 and 7 (FLOAT), then 14 at place 0.
 
-use super::array::{Array, Declared};
-use super::bundle::array_of;
+use super::array::Array;
+use super::bundle::Bundle;
 use super::cell::{Cell, Type};
 use super::refusal::{refused, Refusal};
 
 /// The text's length; `out` then begins with the text. A refusal leaves `out` as it is.
-pub fn write(arrays: &[Declared], number: u32, out: &mut [u8]) -> Result<u32, Refusal> {
-    let array = &array_of(arrays, number)?.array;
+pub fn write(bundle: &Bundle, number: u32, out: &mut [u8]) -> Result<u32, Refusal> {
+    let array = &bundle.array(number)?.array;
     if array.of == Type::Float {
         return Err(refused(7, number));
     }
@@ -96,5 +96,30 @@ mod tests {
         let numbers = [i64::MIN, -10, -1, 0, 9, i64::MAX].map(|number| value(Cell::Int(number)));
         assert_eq!(numbers, ["-9223372036854775808", "-10", "-1", "0", "9", "9223372036854775807"]);
         assert_eq!(text(&array(Type::Int, &[("x", 7, 7)], &[(&[7], Cell::Int(0))])), r#"{"data":[0]}"#);
+    }
+
+    /// The longest of the texts of all extents that have up to so many axes more outside of these: `cells` of them, `axes` deep, of
+    /// `length` bytes with their brackets. No text of n cells on d axes is longer than 10 + n * (19 + 2 * d).
+    fn longest(cells: usize, axes: usize, length: usize, more: usize) -> usize {
+        let text = r#"{"data":}"#.len() + length;
+        assert!(axes == 0 || text <= 10 + cells * (19 + 2 * axes), "{cells} cells on {axes} axes");
+        let widths = 1..=if more == 0 { 0 } else { 4_096 / cells };
+        let wider = widths.map(|width| longest(cells * width, axes + 1, 2 + width * length + width - 1, more - 1));
+        wider.max().unwrap_or(0).max(text)
+    }
+
+    /// By trying every extent of at most 4,096 cells, from the innermost axis outward, each cell 20 bytes: as many as the smallest INT.
+    #[test]
+    fn longest_texts() {
+        let cell = value(Cell::Int(i64::MIN)).len();
+        let of_axes = [1, 2, 3, 4, 5, 6].map(|axes| longest(1, 0, cell, axes));
+        assert_eq!(of_axes, [86_026, 94_218, 102_410, 110_602, 118_794, 126_986]);
+        let widest = [("a", 1, 2), ("b", 1, 1), ("c", 1, 1)];
+        let cells: [(&[i32], Cell); 2] = [(&[1, 1, 1], Cell::Int(i64::MIN)), (&[2, 1, 1], Cell::Int(i64::MIN))];
+        assert_eq!(
+            text(&array(Type::Int, &widest, &cells)).len(),
+            10 + 2 * (19 + 2 * 3),
+            "the bound is met where the first axis has all cells"
+        );
     }
 }

@@ -2,17 +2,26 @@
 //! A step that passes has a shape: the type and extent of its result.
 
 use super::array::Shape;
+use super::bundle::Bundle;
 use super::cell::Type;
 use super::extent::{Extent, Proposed};
 use super::recipe::{Operation::*, Step};
+use super::version::Sizes;
 
-/// The shapes that a step may use: those of the bundle, and those of the steps before.
+/// The shapes that a step may use: those of the bundle, and those of the steps before; and the sizes of the bundle's version.
 pub struct Shapes {
+    pub sizes: Sizes,
     pub bundle: Vec<Shape>,
     pub steps: Vec<Shape>,
 }
 
 impl Shapes {
+    /// Those of a bundle, before any step.
+    pub fn of_bundle(bundle: &Bundle) -> Shapes {
+        let shapes = bundle.arrays.iter().map(|declared| declared.array.shape()).collect();
+        Shapes { sizes: bundle.sizes, bundle: shapes, steps: vec![] }
+    }
+
     /// Operand 1..4 is a bundle array, 17..32 the result of step 1..16, earlier steps only.
     pub fn operand(&self, operand: u8) -> Option<&Shape> {
         match operand {
@@ -25,7 +34,7 @@ impl Shapes {
 
 /// The step with the shape of its result, or the number of its refusal.
 pub fn judge(bytes: &[u8], shapes: &Shapes) -> Result<(Step, Shape), u32> {
-    let step = Step::of_bytes(bytes).ok_or(4u32)?;
+    let step = Step::of_bytes(shapes.sizes, bytes).ok_or(4u32)?;
     let a = shapes.operand(step.a).ok_or(4u32)?;
     let b = if step.uses_b() { Some(shapes.operand(step.b).ok_or(4u32)?) } else { None };
     if !step.operator_known() || !step.unused_are_zero(a.extent.axes.len()) {

@@ -2,8 +2,9 @@
 //! step by step, one whole array at a time. Says what each lent buffer holds afterwards.
 
 use super::array::{Array, Declared, Shape};
+use super::bundle::{axis_bytes, Bundle};
 use super::cell::{Cell, Type, CELL_BYTES};
-use super::extent::name_bytes;
+use super::extent::{HIGHEST, LOWEST};
 use super::judge::{judge, Shapes};
 use super::recipe::{steps_in, Step};
 use super::refusal::{refused, refused_at, Refusal};
@@ -15,12 +16,11 @@ pub struct Plan {
 }
 
 impl Plan {
-    /// The plan of a recipe over these arrays, or the first refusal.
-    pub fn of_recipe(arrays: &[Declared], recipe: &[u8]) -> Result<Plan, Refusal> {
-        let bundle = arrays.iter().map(|declared| declared.array.shape()).collect();
-        let mut shapes = Shapes { bundle, steps: vec![] };
+    /// The plan of a recipe over a bundle, or the first refusal.
+    pub fn of_recipe(bundle: &Bundle, recipe: &[u8]) -> Result<Plan, Refusal> {
+        let mut shapes = Shapes::of_bundle(bundle);
         let mut steps = vec![];
-        for (number, bytes) in (1..).zip(steps_in(recipe)?) {
+        for (number, bytes) in (1..).zip(steps_in(bundle.sizes, recipe)?) {
             let (step, shape) = judge(bytes, &shapes).map_err(|refusal| refused(refusal, number))?;
             steps.push(step);
             shapes.steps.push(shape);
@@ -74,46 +74,38 @@ pub fn operand<'a>(arrays: &'a [Declared], results: &'a [Array], which: u8) -> &
 }
 
 /// The plan call: T, and the last result's type, axis count and number of cells.
-pub fn plan(arrays: &[Declared], recipe: &[u8]) -> Result<[u32; 4], Refusal> {
-    let plan = Plan::of_recipe(arrays, recipe)?;
+pub fn plan(bundle: &Bundle, recipe: &[u8]) -> Result<[u32; 4], Refusal> {
+    let plan = Plan::of_recipe(bundle, recipe)?;
     let last = plan.last();
     Ok([plan.cells() as u32, u32::from(last.of.byte()), last.extent.axes.len() as u32, last.extent.cells() as u32])
 }
 
-/// The extent call: 98, and the last result's head at the beginning of `head`: each axis with the widest maximum, then zeros.
-pub fn extent(arrays: &[Declared], recipe: &[u8], head: &mut [u8]) -> Result<u32, Refusal> {
-    let plan = Plan::of_recipe(arrays, recipe)?;
-    if head.len() < HEAD {
-        return Err(refused(14, 0));
-    }
+/// The extent call: the length of a head of the bundle's version, and the last result's head at the beginning of `head`: each axis
+/// with the widest maximum, then zeros.
+pub fn extent(bundle: &Bundle, recipe: &[u8], head: &mut [u8]) -> Result<u32, Refusal> {
+    let (sizes, plan) = (bundle.sizes, Plan::of_recipe(bundle, recipe)?);
+    let room = head.get_mut(..sizes.head()).ok_or(refused(14, 0))?;
     let axes = &plan.last().extent.axes;
     let mut bytes = vec![plan.last().of.byte(), axes.len() as u8];
-    for axis in axes {
-        bytes.extend(name_bytes(&axis.name));
-        let limits = [axis.lower, axis.upper, -1_000_000, 1_000_000];
-        bytes.extend(limits.into_iter().flat_map(|limit: i32| limit.to_le_bytes()));
-    }
-    bytes.resize(HEAD, 0);
-    head[..HEAD].copy_from_slice(&bytes);
-    Ok(HEAD as u32)
+    axes.iter().for_each(|axis| bytes.extend(axis_bytes(sizes, axis, (LOWEST as i32, HIGHEST as i32))));
+    bytes.resize(sizes.head(), 0);
+    room.copy_from_slice(&bytes);
+    Ok(sizes.head() as u32)
 }
 
-/// The bytes of a head.
-const HEAD: usize = 98;
-
 /// The run call: T, and the work area filled.
-pub fn run(arrays: &[Declared], recipe: &[u8], work: &mut [u8]) -> Result<u32, Refusal> {
-    let plan = Plan::of_recipe(arrays, recipe)?;
+pub fn run(bundle: &Bundle, recipe: &[u8], work: &mut [u8]) -> Result<u32, Refusal> {
+    let plan = Plan::of_recipe(bundle, recipe)?;
     if work.len() < CELL_BYTES * plan.cells() {
         return Err(refused(10, 0));
     }
-    plan.fill(arrays, work)?;
+    plan.fill(&bundle.arrays, work)?;
     Ok(plan.cells() as u32)
 }
 
 /// The page call: rows written and where to go on, the work area filled, and the rows at the beginning of `rows`.
-pub fn page(arrays: &[Declared], recipe: &[u8], work: &mut [u8], start: u32, rows: &mut [u8]) -> Result<(u32, u32), Refusal> {
-    let plan = Plan::of_recipe(arrays, recipe)?;
+pub fn page(bundle: &Bundle, recipe: &[u8], work: &mut [u8], start: u32, rows: &mut [u8]) -> Result<(u32, u32), Refusal> {
+    let plan = Plan::of_recipe(bundle, recipe)?;
     let row_bytes = 4 + 4 * plan.last().extent.axes.len();
     let past_last = plan.last().extent.cells() as u32 + 1;
     if plan.last().of != Type::Boolean {
@@ -125,7 +117,7 @@ pub fn page(arrays: &[Declared], recipe: &[u8], work: &mut [u8], start: u32, row
     if rows.len() < row_bytes || start == 0 || start > past_last {
         return Err(refused(11, 0));
     }
-    let result = plan.fill(arrays, work)?;
+    let result = plan.fill(&bundle.arrays, work)?;
     let room = rows.len() / row_bytes;
     let listed: Vec<_> = true_cells(&result).into_iter().filter(|(ordinality, _)| *ordinality >= start).take(room).collect();
     for (row, (ordinality, coordinate)) in rows.chunks_exact_mut(row_bytes).zip(&listed) {

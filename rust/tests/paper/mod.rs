@@ -1,6 +1,7 @@
-//! Paper 01 and requests [1] and [2] of paper 02 in plain Rust, written from their words alone and sharing nothing with the engine
-//! that is proved. An array is a map from coordinate to cell, and each operation is said over coordinates, as the paper says it.
-//! `face` answers the ten callable parts with it; bytes are met only in `bytes`, `bundle`, `recipe` and `face`.
+//! Paper 01 and requests [1], [2] and [6] of paper 02 in plain Rust, written from their words alone and sharing nothing with the
+//! engine that is proved. An array is a map from coordinate to cell, and each operation is said over coordinates, as the paper says
+//! it. `face` answers the twelve callable parts with it; bytes are met only in `bytes`, `bundle`, `pack`, `recipe` and `face`, and
+//! how many of them a version has is told by `version` alone.
 
 pub mod array;
 pub mod bundle;
@@ -18,3 +19,4 @@ pub mod recipe;
 pub mod refusal;
 pub mod stretch;
 pub mod values;
+pub mod version;

@@ -1,11 +1,11 @@
-//! The recipe's steps as written: 36 bytes each, operation, operand A, operand B, axis index, 32 bytes of detail;
-//! which of these bytes each operation uses, and what it reads in them.
+//! The recipe's steps as written, 36 bytes each in version 1, 100 in version 2: operation, operand A, operand B, axis index, and
+//! the detail; which of these bytes each operation uses, and what it reads in them.
 
 use super::bytes::{signed, signed_numbers};
 use super::extent::name_in;
 use super::refusal::{refused, Refusal};
+use super::version::Sizes;
 
-pub const STEP_BYTES: usize = 36;
 pub const MOST_STEPS: usize = 16;
 
 #[derive(Clone, Copy, Debug, PartialEq, Eq)]
@@ -28,9 +28,10 @@ use Operation::*;
 
 pub const OPERATIONS: [Operation; 12] = [Trim, Slice, Reshape, Shift, Rename, Update, Place, Glue, Pair, RightScalar, LeftScalar, Single];
 
-/// A step's bytes, its operation known.
+/// A step's bytes, its operation known, and the sizes by which they are read.
 #[derive(Clone, Debug)]
 pub struct Step {
+    pub sizes: Sizes,
     pub operation: Operation,
     pub a: u8,
     pub b: u8,
@@ -38,11 +39,11 @@ pub struct Step {
     pub detail: Vec<u8>,
 }
 
-/// The steps' bytes, if the recipe's length is 36 to 576 in 36s.
-pub fn steps_in(recipe: &[u8]) -> Result<Vec<&[u8]>, Refusal> {
-    let right = recipe.len().is_multiple_of(STEP_BYTES) && (1..=MOST_STEPS).contains(&(recipe.len() / STEP_BYTES));
+/// The steps' bytes, if the recipe is 1 to 16 whole steps of the bundle's version.
+pub fn steps_in(sizes: Sizes, recipe: &[u8]) -> Result<Vec<&[u8]>, Refusal> {
+    let right = recipe.len().is_multiple_of(sizes.step) && (1..=MOST_STEPS).contains(&(recipe.len() / sizes.step));
     if right {
-        Ok(recipe.chunks(STEP_BYTES).collect())
+        Ok(recipe.chunks(sizes.step).collect())
     } else {
         Err(refused(4, 0))
     }
@@ -50,9 +51,9 @@ pub fn steps_in(recipe: &[u8]) -> Result<Vec<&[u8]>, Refusal> {
 
 impl Step {
     /// The step, if its operation is known.
-    pub fn of_bytes(bytes: &[u8]) -> Option<Step> {
+    pub fn of_bytes(sizes: Sizes, bytes: &[u8]) -> Option<Step> {
         let operation = *OPERATIONS.get(usize::from(bytes[0]).checked_sub(1)?)?;
-        Some(Step { operation, a: bytes[1], b: bytes[2], axis: bytes[3], detail: bytes[4..].to_vec() })
+        Some(Step { sizes, operation, a: bytes[1], b: bytes[2], axis: bytes[3], detail: bytes[4..].to_vec() })
     }
 
     pub fn uses_b(&self) -> bool {
@@ -66,7 +67,8 @@ impl Step {
     /// Whether the operation uses that detail byte when A has so many axes.
     fn uses_detail(&self, byte: usize, axes_of_a: usize) -> bool {
         match self.operation {
-            Trim | Reshape | Rename => byte < 8 * axes_of_a,
+            Trim | Reshape => byte < 8 * axes_of_a,
+            Rename => byte < self.sizes.name * axes_of_a,
             Shift => byte < 4 * axes_of_a,
             Slice | Place => byte < 4,
             Update | Glue => false,
@@ -114,7 +116,7 @@ impl Step {
     }
 
     pub fn names(&self, axes_of_a: usize) -> Vec<Option<String>> {
-        self.detail[..8 * axes_of_a].chunks(8).map(name_in).collect()
+        self.detail[..self.sizes.name * axes_of_a].chunks(self.sizes.name).map(name_in).collect()
     }
 
     pub fn scalar(&self) -> &[u8] {

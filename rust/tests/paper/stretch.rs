@@ -1,12 +1,14 @@
 //! A glued array read without being built: which side owns the cell at an ordinality, and which part of that side's cell
-//! buffer runs from there up to where the other side begins (or the end). Cells aren't judged, nor maxima looked at.
+//! buffer runs from there up to where the other side begins (or the end). Cells aren't judged, nor maxima looked at. The version of
+//! both heads is told.
 
 use super::array::Shape;
 use super::cell::CELL_BYTES;
 use super::extent::{Coordinate, Extent, Proposed};
 use super::judge::{glue_differs, glued_extent};
-use super::pack::{head_in, HEAD_BYTES};
+use super::pack::head_in;
 use super::refusal::{refused, Refusal};
+use super::version::Sizes;
 
 /// A part of one side's cell buffer.
 #[derive(Clone, Copy, Debug, PartialEq, Eq)]
@@ -17,9 +19,10 @@ pub struct Part {
 }
 
 /// The stretch from that ordinality of left glued with right.
-pub fn stretch(left: (&[u8], &[u8]), right: (&[u8], &[u8]), axis: u32, ordinality: u32) -> Result<Part, Refusal> {
-    let left = side(left, 1)?;
-    let right = side(right, 2)?;
+pub fn stretch(version: u32, left: (&[u8], &[u8]), right: (&[u8], &[u8]), axis: u32, ordinality: u32) -> Result<Part, Refusal> {
+    let sizes = Sizes::of_version(version).ok_or(refused(1, 0))?;
+    let left = side(sizes, left, 1)?;
+    let right = side(sizes, right, 2)?;
     if axis == 0 || axis as usize > left.extent.axes.len() {
         return Err(refused(5, 0));
     }
@@ -39,11 +42,11 @@ pub fn stretch(left: (&[u8], &[u8]), right: (&[u8], &[u8]), axis: u32, ordinalit
 }
 
 /// One side judged: head (1), extent (2), then a buffer of exactly nine bytes a cell (1).
-fn side((head, cells): (&[u8], &[u8]), place: u32) -> Result<Shape, Refusal> {
-    if head.len() != HEAD_BYTES {
+fn side(sizes: Sizes, (head, cells): (&[u8], &[u8]), place: u32) -> Result<Shape, Refusal> {
+    if head.len() != sizes.head() {
         return Err(refused(1, place));
     }
-    let (of, axes) = head_in(head).ok_or(refused(1, place))?;
+    let (of, axes) = head_in(sizes, head).ok_or(refused(1, place))?;
     let proposed: Vec<Proposed> = axes.into_iter().map(|axis| axis.axis).collect();
     let extent = Extent::judged(&proposed).ok_or(refused(2, place))?;
     if cells.len() != CELL_BYTES * extent.cells() as usize {

@@ -9,16 +9,16 @@ use Rattle.examples.proofs.follow.Tie as tie
 
 abbrev Inv-loop : tie.InvT-loop
 Inv-loop script args₀ kinds₀ heads₀ cells₀ steps₀ bundle₀ desk₀ at₀ args kinds heads cells steps bundle desk at =
-    (392 ≡ length heads) × (36864 ≡ length cells) × (576 ≡ length steps) × (40000 ≡ length bundle)
+    (776 ≡ length heads) × (36864 ≡ length cells) × (1600 ≡ length steps) × (40000 ≡ length bundle)
 
 abbrev μ-loop : tie.MeasureT-loop
 μ-loop script args₀ kinds₀ heads₀ cells₀ steps₀ bundle₀ desk₀ at₀ args kinds heads cells steps bundle desk at = length script - at
 
 loop-holds : tie.Need-loop-holds Inv-loop μ-loop
 loop-holds c = (
-  sym (length-replicate {A = ℕ} 392 0),
+  sym (length-replicate {A = ℕ} 776 0),
   sym (length-replicate {A = ℕ} 36864 0),
-  sym (length-replicate {A = ℕ} 576 0),
+  sym (length-replicate {A = ℕ} 1600 0),
   sym (length-replicate {A = ℕ} 40000 0),
 )
 

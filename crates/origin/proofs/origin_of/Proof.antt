@@ -3,34 +3,36 @@ use Prim.Native.Nat.{ℕ}
 use mathlib.Core.Path.{_≡_, sym, _∙_}
 use denote.Ref.{now}
 use borrow.Author.Needs.{needs}
-use Rattle.paper.specs.Limits.{detailBytes}
 use Rattle.paper.specs.Numbers.{part, positionAt}
 use Rattle.paper.specs.Recipe.{resultAxes}
 use Rattle.laws.specs.Answers.{axes-few}
-use Rattle.step.specs.Steps.{position-there}
+use Rattle.step.specs.Steps.{detailOf, position-there}
 use Rattle.origin.specs.Origins.{moving-as}
-use Rattle.origin.specs.Asks.{limits-ask, slice-asks, update-asks, put-room, put-asks, axials}
+use Rattle.origin.specs.Asks.{position-asks, limits-ask, slice-asks, update-asks, put-room, put-asks, axials}
 use Rattle.origin.specs.Comes.{trim-comes, slice-comes, reshape-comes, shift-comes, rename-comes, update-comes, put-comes, glue-comes}
 use Rattle.origin.proofs.origin_of.Statement.{statement}
 use Rattle.origin.proofs.origin_of.Tie as tie
 
 -- the position of the detail, where it is read
 position : (s : tie.Start) {x : ℕ} → x ≡ positionAt (s .args .step .at) (now (s .args .s))
-    → x ≡ positionAt 0 (part (s .args .step .at) detailBytes (now (s .args .s)))
-position s e = e ∙ position-there (now (s .args .s)) (s .args .step .at)
+    → x ≡ positionAt 0 (part (s .args .step .at) (detailOf (s .args .step)) (now (s .args .s)))
+position s e = e ∙ position-there (now (s .args .s)) (s .args .step)
 
 in-first-requires : tie.Need-in-first-requires
 unfolding resultAxes
 in-first-requires c κs =
     let s = c .before .before .before .before in
     let M = moving-as (c .enum-told .given .1) (s .pre .1 .0) in
-    limits-ask (now (s .args .s)) (s .args .step .at) M (s .pre .1 .1) (M .axes)
+    limits-ask M (s .pre .1 .1) (M .axes)
 
 returns : tie.Need-returns
 returns c =
     let s = c .before .before .before .before .before in
     let e = c .before .enum-told .given .1 in
     rw e (c .in-first .ensures ∙ sym (trim-comes (moving-as e (s .pre .1 .0)) (s .pre .1 .1)))
+
+position-at-requires : tie.Need-position-at-requires
+position-at-requires c κs = let s = c .before .before .before .before in position-asks (s .args .step) (s .pre .0)
 
 sliced-requires : tie.Need-sliced-requires
 sliced-requires c κs =
@@ -49,7 +51,7 @@ unfolding resultAxes
 in-first-requires-2 c κs =
     let s = c .before .before .before .before in
     let M = moving-as (c .enum-told3 .given .1) (s .pre .1 .0) in
-    limits-ask (now (s .args .s)) (s .args .step .at) M (s .pre .1 .1) (M .axes)
+    limits-ask M (s .pre .1 .1) (M .axes)
 
 returns-3 : tie.Need-returns-3
 returns-3 c =
@@ -79,6 +81,9 @@ returns-6 c =
     let s = c .before .before .before .before .before in
     let e = c .before .enum-told6 .given .1 in
     rw e (c .laid-over .ensures ∙ sym (update-comes (moving-as e (s .pre .1 .0)) (s .pre .1 .1)))
+
+position-at-requires-2 : tie.Need-position-at-requires-2
+position-at-requires-2 c κs = let s = c .before .before .before .before in position-asks (s .args .step) (s .pre .0)
 
 patch-of-requires : tie.Need-patch-of-requires
 patch-of-requires c κs =
@@ -117,8 +122,8 @@ pub origin-of-spec : {M : Type 1} → statement M
 origin-of-spec =
     tie.close
     (tie.spec
-    (λ c. search needs) (λ c. search needs) in-first-requires returns (λ c. search needs) (λ c κs. search needs)
+    (λ c. search needs) (λ c. search needs) in-first-requires returns (λ c. search needs) position-at-requires
     sliced-requires returns-2 (λ c. search needs) in-first-requires-2 returns-3 (λ c. search needs) returns-4
     (λ c. search needs) returns-5 (λ c. search needs) laid-over-requires returns-6 (λ c. search needs)
-    (λ c κs. search needs) patch-of-requires laid-over-requires-2 returns-7 (λ c. search needs) block-of-requires block-of-requires-2
+    position-at-requires-2 patch-of-requires laid-over-requires-2 returns-7 (λ c. search needs) block-of-requires block-of-requires-2
     (λ c κs. search needs) returns-8)

@@ -1,73 +1,32 @@
--- `pack::pack` meets its promise: refused by the judging, refused for room, or written.
-use Prim.Native.Nat.{ℕ}
-use mathlib.Core.List.{List}
-use mathlib.Core.Path.{_≡_}
-use native.Mathlib.Omega.{arith}
+-- `pack::pack` meets its promise: by the version told, or refused.
+use mathlib.Core.Path.{sym, ap, _∙_}
 use borrow.Author.Needs.{needs}
 use denote.Ref.{now}
-use lib.ListN.{length}
-use Rattle.laws.specs.Loops.{length-mapped}
-use Rattle.laws.specs.Numbers.{Bytes}
-use Rattle.paper.specs.Limits.{mostArrays}
-use Rattle.pack.specs.Laying.{pack-refused, count-least, pack-small, all-room, pack-got}
+use Rattle.versions.specs.Told.{toldSizes}
+use Rattle.pack.specs.Laid.{shapesOf}
+use Rattle.pack.specs.Laying.{told-none, told-one}
 use Rattle.pack.proofs.pack.Statement.{statement}
 use Rattle.pack.proofs.pack.Tie as tie
 
--- all is judged
-module _ (c : tie.After-judged) where
-  abbrev start : tie.Start
-  start = c .before .before .before
-
-  abbrev out : List ℕ
-  out = now (start .args .out)
-
-  full : length (start .args .forms) ≡ mostArrays
-  full = search (needs, length-mapped)
-
-  bytes : Bytes (now (start .args .cells))
-  bytes i = omega (arith, c .before .before .shared-slice-known .given i)
-
--- and nothing refused
-module _ (c : tie.Else1) where
-  abbrev p : tie.After-judged
-  p = c .before .before .before
-
--- the mark is written
-module _ (c : tie.After-put-mark) where
-  abbrev fits : tie.Else2
-  fits = c .before .before
-
-  abbrev good : tie.Else1
-  good = fits .before
+returns : tie.Need-returns
+returns c =
+    let w = c .before .before in
+    let k = w .before .before .before in
+    let t = k .before .before in
+    let a = t .before .before .before .args in
+    told-one (a .version) (shapesOf (a .count) (a .forms)) (now (a .cells)) (now (a .out)) _
+    (sym (ap toldSizes (k .v .given .1)) ∙ t .version-told .ensures) (w .pack-as .ensures)
 
 returns-2 : tie.Need-returns-2
 returns-2 c =
-    let w = c .before in
-    let g = w .before in
-    let q = p g in
-    rw (c .refuse .ensures) (pack-small (q .judged .ensures) (g .if1 .left) (full q) (bytes q) (out q) (w .if2 .taken))
-
-put-arrays-requires : tie.Need-put-arrays-requires
-put-arrays-requires c κs =
-    let m = c .before .before .before in
-    let q = p (good m) in
-    all-room (q .judged .ensures) (good m .if1 .left) (out q) (fits m .if2 .left) (m .put-mark .last .0) (m .put-mark .ensures)
-
-returns-3 : tie.Need-returns-3
-returns-3 c =
-    let w = c .before .before in
-    let m = w .before .before .before .before in
-    let q = p (good m) in
-    pack-got (q .judged .ensures) (good m .if1 .left) (full q) (bytes q) (out q) (fits m .if2 .left)
-    (m .put-mark .last .0) (w .put-arrays .last .1 .1 .1 .0) (m .put-mark .ensures) (w .put-arrays .ensures)
+    let t = c .before .before .before in
+    let a = t .before .before .before .args in
+    rw (c .refuse .ensures)
+    (told-none (a .version) (shapesOf (a .count) (a .forms)) (now (a .cells)) (now (a .out)) (sym (ap toldSizes (c .before .enum-told .given .1)) ∙ t .version-told .ensures))
 
 pub pack-spec : {M : Type 1} → statement M
 pack-spec =
     tie.close
     (tie.spec
-    (λ c κs. search needs)
-    (λ c. let q = c .before .before .before in pack-refused _ _ (out q) _ (q .judged .ensures .no (c .if1 .taken) (length (out q))))
-    (λ c κs. search needs) returns-2
-    (λ c. let g = c .before .before in omega (arith, count-least (p g .judged .ensures) (g .if1 .left)))
-    (λ c κs. let g = c .before .before in omega (arith, p g .judged .ensures .long (g .if1 .left))) put-arrays-requires
-    (λ c. search needs) (λ c. search needs) returns-3)
+    (λ c κs. search needs) (λ c. search needs) (λ c κs. search needs) (λ c. search needs) returns (λ c. search needs)
+    (λ c κs. search needs) returns-2)

@@ -3,7 +3,8 @@ use Prim.Native.Nat.{_-_}
 use mathlib.Core.Path.{ap, _∙_}
 use native.Mathlib.Omega.{arith}
 use borrow.Author.Needs.{needs}
-use Rattle.recipe.specs.Whole.{noPlan, Begun, begun-none, begun-more}
+use Rattle.paper.specs.declared.Refusal.{Refusal}
+use Rattle.recipe.specs.Whole.{emptyPlan, Begun, begun-none, begun-more}
 use Rattle.recipe.proofs.over_arrays.Statement.{statement}
 use Rattle.recipe.proofs.over_arrays.Tie as tie
 
@@ -14,7 +15,9 @@ abbrev μ-loop : tie.MeasureT-loop
 μ-loop reading plan₀ plan = reading .count - plan .arrays
 
 loop-holds : tie.Need-loop-holds Inv-loop μ-loop
-loop-holds c = begun-none (c .before .before .args .t1) _ (c .no-plan .ensures ∙ ap noPlan (c .before .none .ensures))
+loop-holds c =
+    let R = c .before .before .args .t1 in
+    begun-none R _ (c .empty-plan .ensures ∙ ap (λ (x : Refusal). emptyPlan x (R .version)) (c .before .none .ensures))
 
 loop-again : tie.Need-loop-again Inv-loop μ-loop
 loop-again c =

@@ -11,14 +11,10 @@ returns : tie.Need-returns
 returns c =
     let g = c .before .before in
     let p = g .before .before .before .before in
-    let f = p .before .before .before .before in
-    let a = f .before .before .before .before .before .args in
-    let w = rw (heads-shapes (now (a .heads)) _ (f .forms-in .ensures)) at (p .pack .ensures) in
+    let w = p .pack-heads .ensures in
     (speaks numberBytes _ _ _ _ _ (g .before .of-counted .ensures) (w .said) (g .give .ensures), w .wrote)
 
 pub rma-pack-spec : {M : Type 1} → statement M
 rma-pack-spec =
     tie.close
-    (tie.spec
-    (λ c κs. search needs) (λ c κs. search needs) (λ c κs. search needs) (λ c κs. search needs) (λ c. search needs)
-    (λ c. search needs) returns)
+    (tie.spec (λ c κs. search needs) (λ c κs. search needs) (λ c κs. search needs) (λ c. search needs) (λ c. search needs) returns)

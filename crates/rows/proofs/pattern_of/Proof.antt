@@ -4,15 +4,14 @@ use mathlib.Core.Path.{_≡_, ap, _∙_}
 use native.Mathlib.Omega.{arith}
 use denote.Ref.{now}
 use borrow.Author.Needs.{needs}
-use Rattle.paper.specs.Limits.{detailBytes}
 use Rattle.paper.specs.Numbers.{part, positionAt}
 use Rattle.paper.specs.Recipe.{resultAxes}
 use Rattle.paper.specs.Answers.{axesOf}
 use Rattle.paper.specs.Axes.{cells}
 use Rattle.laws.specs.Answers.{axes-few}
-use Rattle.step.specs.Steps.{position-there}
+use Rattle.step.specs.Steps.{detailOf, position-there}
 use Rattle.origin.specs.Origins.{moving-as}
-use Rattle.origin.specs.Asks.{limits-ask, slice-asks, update-asks, put-room, put-asks, axials}
+use Rattle.origin.specs.Asks.{position-asks, limits-ask, slice-asks, update-asks, put-room, put-asks, axials}
 use Rattle.origin.specs.Comes.{trim-comes, slice-layers, reshape-comes, update-comes, put-comes, glue-comes}
 use Rattle.rows.specs.Moves.{in-again, over-again, once, to-the-end, layer-every, turn-every}
 use Rattle.rows.proofs.pattern_of.Statement.{statement}
@@ -20,8 +19,8 @@ use Rattle.rows.proofs.pattern_of.Tie as tie
 
 -- the position of the detail, where it is read
 position : (s : tie.Start) {x : ℕ} → x ≡ positionAt (s .args .step .at) (now (s .args .s))
-    → x ≡ positionAt 0 (part (s .args .step .at) detailBytes (now (s .args .s)))
-position s e = e ∙ position-there (now (s .args .s)) (s .args .step .at)
+    → x ≡ positionAt 0 (part (s .args .step .at) (detailOf (s .args .step)) (now (s .args .s)))
+position s e = e ∙ position-there (now (s .args .s)) (s .args .step)
 
 -- the cells that are left
 module _ (c : tie.After-cells-after) where
@@ -42,7 +41,7 @@ unfolding resultAxes
 lines-of-requires c κs =
     let s = start (c .before .before) in
     let M = moving-as (c .enum-told .given .1) (s .pre .1 .0) in
-    limits-ask (now (s .args .s)) (s .args .step .at) M (s .pre .1 .1) (M .axes)
+    limits-ask M (s .pre .1 .1) (M .axes)
 
 returns : tie.Need-returns
 returns c =
@@ -81,7 +80,7 @@ unfolding resultAxes
 lines-of-requires-2 c κs =
     let s = start (c .before .before) in
     let M = moving-as (c .enum-told3 .given .1) (s .pre .1 .0) in
-    limits-ask (now (s .args .s)) (s .args .step .at) M (s .pre .1 .1) (M .axes)
+    limits-ask M (s .pre .1 .1) (M .axes)
 
 returns-3 : tie.Need-returns-3
 returns-3 c =
@@ -108,6 +107,9 @@ returns-6 c =
     let s = start (b .before .before) in
     let e = b .enum-told6 .given .1 in
     rw (e, c .laid-lines .ensures) (over-again (λ j h. update-comes (moving-as e (s .pre .1 .0)) h) (c .before .lines-of3 .ensures))
+
+position-at-requires : tie.Need-position-at-requires
+position-at-requires c κs = let s = start (c .before .before) in position-asks (s .args .step) (s .pre .0)
 
 patch-of-requires : tie.Need-patch-of-requires
 patch-of-requires c κs =
@@ -162,6 +164,6 @@ pattern-of-spec =
     (λ c. search needs) cells-after-requires sub-left (λ c. search needs) lines-of-requires (λ c κs. search needs) returns
     (λ c. search needs) layer-of-requires block-of-requires lines-left-requires returns-2 (λ c. search needs) lines-of-requires-2
     (λ c κs. search needs) returns-3 (λ c. search needs) (λ c κs. tt) returns-4 (λ c. search needs) (λ c κs. tt) returns-5
-    (λ c. search needs) lines-of-requires-3 (λ c κs. search needs) returns-6 (λ c. search needs) (λ c κs. search needs) patch-of-requires
+    (λ c. search needs) lines-of-requires-3 (λ c κs. search needs) returns-6 (λ c. search needs) position-at-requires patch-of-requires
     lines-of-requires-4 (λ c κs. search needs) returns-7 (λ c. search needs) block-of-requires-2 block-of-requires-3 add-lines-left
     lines-left-requires-2 returns-8)

@@ -5,13 +5,12 @@ use native.Mathlib.Nat.{mod-lt}
 use native.Mathlib.Omega.{arith}
 use denote.Ref.{now}
 use borrow.Author.Needs.{needs}
-use Rattle.paper.specs.Limits.{detailBytes}
 use Rattle.paper.specs.Numbers.{part, positionAt}
 use Rattle.paper.specs.Recipe.{resultAxes}
 use Rattle.laws.specs.Answers.{axes-few}
-use Rattle.step.specs.Steps.{position-there}
+use Rattle.step.specs.Steps.{detailOf, position-there}
 use Rattle.origin.specs.Origins.{moving-as}
-use Rattle.origin.specs.Asks.{limits-ask, slice-asks, update-asks, put-room, put-asks, axials}
+use Rattle.origin.specs.Asks.{position-asks, limits-ask, slice-asks, update-asks, put-room, put-asks, axials}
 use Rattle.origin.specs.Comes.{trim-comes, slice-layers, reshape-comes, shift-comes, rename-comes, update-comes, put-comes, glue-comes}
 use Rattle.rows.specs.Moves.{in-along, over-along, own-along, layer-along, turn-along}
 use Rattle.rows.proofs.run_length.Statement.{statement}
@@ -19,15 +18,15 @@ use Rattle.rows.proofs.run_length.Tie as tie
 
 -- the position of the detail, where it is read
 position : (s : tie.Start) {x : ℕ} → x ≡ positionAt (s .args .step .at) (now (s .args .s))
-    → x ≡ positionAt 0 (part (s .args .step .at) detailBytes (now (s .args .s)))
-position s e = e ∙ position-there (now (s .args .s)) (s .args .step .at)
+    → x ≡ positionAt 0 (part (s .args .step .at) (detailOf (s .args .step)) (now (s .args .s)))
+position s e = e ∙ position-there (now (s .args .s)) (s .args .step)
 
 side-by-side-requires : tie.Need-side-by-side-requires
 unfolding resultAxes
 side-by-side-requires c κs =
     let s = c .before .before .before .before in
     let M = moving-as (c .enum-told .given .1) (s .pre .1 .0) in
-    limits-ask (now (s .args .s)) (s .args .step .at) M (s .pre .1 .1) (M .axes)
+    limits-ask M (s .pre .1 .1) (M .axes)
 
 returns : tie.Need-returns
 returns c =
@@ -58,7 +57,7 @@ unfolding resultAxes
 side-by-side-requires-2 c κs =
     let s = c .before .before .before .before in
     let M = moving-as (c .enum-told3 .given .1) (s .pre .1 .0) in
-    limits-ask (now (s .args .s)) (s .args .step .at) M (s .pre .1 .1) (M .axes)
+    limits-ask M (s .pre .1 .1) (M .axes)
 
 returns-3 : tie.Need-returns-3
 returns-3 c =
@@ -96,6 +95,9 @@ returns-6 c =
     let e = c .before .enum-told6 .given .1 in
     let r = c .side-around .ensures in
     (r .some, rw e (over-along (λ j h. update-comes (moving-as e (s .pre .1 .0)) h) r))
+
+position-at-requires : tie.Need-position-at-requires
+position-at-requires c κs = let s = c .before .before .before .before in position-asks (s .args .step) (s .pre .0)
 
 patch-of-requires : tie.Need-patch-of-requires
 patch-of-requires c κs =
@@ -140,5 +142,5 @@ run-length-spec =
     (λ c. search needs) (λ c. search needs) side-by-side-requires returns (λ c. search needs) layer-of-requires (λ c. search needs)
     sub-result returns-2 (λ c. search needs) side-by-side-requires-2 returns-3 (λ c. search needs) cells-after-requires returns-4
     (λ c. search needs) cells-after-requires-2 returns-5 (λ c. search needs) side-around-requires returns-6 (λ c. search needs)
-    (λ c κs. search needs) patch-of-requires side-around-requires-2 returns-7 (λ c. search needs) block-of-requires block-of-requires-2
+    position-at-requires patch-of-requires side-around-requires-2 returns-7 (λ c. search needs) block-of-requires block-of-requires-2
     turn-left-requires returns-8)

@@ -1,16 +1,18 @@
 -- `stretch::side_refusal` meets its contract: each way out by the paper's tests up to it.
 use Prim.Native.Nat.{ℕ, _*_}
 use mathlib.Core.Path.{_≡_, sym, ap, _∙_}
-use mathlib.Core.Bool.{true}
+use mathlib.Core.Bool.{Bool, true}
 use mathlib.Core.List.{List}
 use borrow.Author.Needs.{needs}
 use borrow.Author.Tests.{not-true, not-false, eq-eqb, ne-eqb}
 use lib.ListN.{length}
 use Rattle.paper.specs.declared.Name.{Name}
 use Rattle.paper.specs.declared.Axis.{Axis}
-use Rattle.paper.specs.Limits.{mostAxes, cellBytes}
+use Rattle.paper.specs.declared.Sizes.{Sizes}
+use Rattle.paper.specs.Limits.{cellBytes, sizesOf}
 use Rattle.paper.specs.Refusals.{between}
 use Rattle.paper.specs.Axes.{goodExtent, cells}
+use Rattle.paper.specs.Bundle.{namesFit}
 use Rattle.paper.specs.Cells.{isType}
 use Rattle.paper.specs.Answers.{axesOf, namesFor}
 use Rattle.paper.specs.Stretch.{judge}
@@ -18,24 +20,58 @@ use Rattle.extent.specs.Judged.{good-zero, good-some}
 use Rattle.stretch.proofs.side_refusal.Statement.{statement}
 use Rattle.stretch.proofs.side_refusal.Tie as tie
 
--- its type is good, so is its axis count, so is its extent
+-- its type is good
 typed : (c : tie.Else1) → isType (c .before .before .args .kind) ≡ true
 typed c = sym (c .before .in-range .ensures) ∙ not-false _ (c .if1 .left)
 
-ranked : (c : tie.Else2) → between 1 mostAxes (length (axesOf (c .before .before .before .before .before .args .e))) ≡ true
-ranked c = rw (← c .before .before .rank-of .ensures .number) (sym (c .before .in-range2 .ensures) ∙ not-false _ (c .if2 .left))
+-- its axis count was tested
+module _ (c : tie.After-in-range2) where
+  abbrev s : tie.Start
+  s = c .before .before .before .before .before
 
-module _ (c : tie.Else3) where
+  abbrev z : Sizes
+  z = sizesOf (s .args .v)
+
   abbrev E : List Axis
-  E = axesOf (c .before .before .before .before .before .before .before .args .e)
+  E = axesOf (s .args .e)
 
   abbrev N : List Name
-  N = namesFor E (c .before .before .before .before .before .before .before .args .names)
+  N = namesFor E (s .args .names)
 
-  good : (goodExtent N E ≡ true) × (cells E ≡ c .before .good-extent .result)
+  type : isType (s .args .kind) ≡ true
+  type = typed (c .before .before .before)
+
+  ranked : {b : Bool} → c .in-range2 .result ≡ b → between 1 (z .axes) (length E) ≡ b
+  ranked e = rw (← c .before .before .rank-of .ensures .number, ← c .before .sizes .ensures) (sym (c .in-range2 .ensures) ∙ e)
+
+-- its names were
+module _ (c : tie.After-names-fit) where
+  abbrev r : tie.After-in-range2
+  r = c .before .before
+
+  count : between 1 (z r .axes) (length (E r)) ≡ true
+  count = ranked r (not-false _ (c .before .if2 .left))
+
+  named : {b : Bool} → c .names-fit .result ≡ b → namesFit (z r) (N r) ≡ b
+  named e = rw (← r .before .before .rank-of .ensures .number) (sym (c .names-fit .ensures) ∙ e)
+
+-- and have room
+module _ (c : tie.Else3) where
+  abbrev n : tie.After-names-fit
+  n = c .before
+
+  fit : namesFit (z (r n)) (N (r n)) ≡ true
+  fit = named n (not-false _ (c .if3 .left))
+
+-- and its extent is good
+module _ (c : tie.Else4) where
+  abbrev d : tie.Else3
+  d = c .before .before
+
+  good : (goodExtent (N (r (n d))) (E (r (n d))) ≡ true) × (cells (E (r (n d))) ≡ c .before .good-extent .result)
   good =
       let e = c .before .good-extent .ensures .0 in
-      let g = good-some N E (λ z. c .if3 .left (e ∙ z)) in
+      let g = good-some (N (r (n d))) (E (r (n d))) (λ x. c .if4 .left (e ∙ x)) in
       (g .0, g .1 ∙ sym e)
 
 returns : tie.Need-returns
@@ -47,39 +83,47 @@ returns c =
 returns-2 : tie.Need-returns-2
 unfolding judge
 returns-2 c =
-    let r = c .before .before in
-    let n = sym (r .in-range2 .ensures) ∙ not-true _ (c .before .if2 .taken) in
-    record { said = λ bs q. rw (c .refuse2 .ensures, typed (r .before .before), ← r .before .rank-of .ensures .number, n) }
+    let a = c .before .before in
+    let f = ranked a (not-true _ (c .before .if2 .taken)) in
+    record { said = λ bs q. rw (c .refuse2 .ensures, type a, f) }
 
 returns-3 : tie.Need-returns-3
 unfolding judge
 returns-3 c =
-    let r = c .before .before .before in
-    let g = good-zero _ _ (sym (c .before .before .good-extent .ensures .0) ∙ c .before .if3 .taken) in
-    record { said = λ bs q. rw (c .refuse3 .ensures, typed (r .before .before .before), ranked r, g) }
+    let a = c .before .before in
+    let f = named a (not-true _ (c .before .if3 .taken)) in
+    record { said = λ bs q. rw (c .refuse3 .ensures, type (r a), count a, f) }
 
 returns-4 : tie.Need-returns-4
 unfolding judge
 returns-4 c =
-    let d = c .before .before in
-    let r = d .before .before in
-    let nine = ap (λ (x : ℕ). x * cellBytes) (good d .1) in
-    record {
-      said = λ bs q.
-          let n = ne-eqb (length bs) (cells (E d) * cellBytes) (λ z. c .before .if4 .taken (sym q ∙ z ∙ nine)) in
-          rw (c .refuse4 .ensures, typed (r .before .before .before), ranked r, good d .0, n);
-    }
+    let e = c .before .before .before in
+    let a = n e in
+    let g = good-zero _ _ (sym (c .before .before .good-extent .ensures .0) ∙ c .before .if4 .taken) in
+    record { said = λ bs q. rw (c .refuse4 .ensures, type (r a), count a, fit e, g) }
 
 returns-5 : tie.Need-returns-5
 unfolding judge
 returns-5 c =
-    let d = c .before .before in
-    let r = d .before .before in
-    let nine = ap (λ (x : ℕ). x * cellBytes) (good d .1) in
+    let g = c .before .before in
+    let a = n (d g) in
+    let nine = ap (λ (x : ℕ). x * cellBytes) (good g .1) in
     record {
       said = λ bs q.
-          let n = eq-eqb (length bs) (cells (E d) * cellBytes) (q ∙ c .before .if4 .left ∙ sym nine) in
-          rw (c .none .ensures, typed (r .before .before .before), ranked r, good d .0, n);
+          let k = ne-eqb (length bs) (cells (E (r a)) * cellBytes) (λ x. c .before .if5 .taken (sym q ∙ x ∙ nine)) in
+          rw (c .refuse5 .ensures, type (r a), count a, fit (d g), good g .0, k);
+    }
+
+returns-6 : tie.Need-returns-6
+unfolding judge
+returns-6 c =
+    let g = c .before .before in
+    let a = n (d g) in
+    let nine = ap (λ (x : ℕ). x * cellBytes) (good g .1) in
+    record {
+      said = λ bs q.
+          let k = eq-eqb (length bs) (cells (E (r a)) * cellBytes) (q ∙ c .before .if5 .left ∙ sym nine) in
+          rw (c .none .ensures, type (r a), count a, fit (d g), good g .0, k);
     }
 
 pub side-refusal-spec : {M : Type 1} → statement M
@@ -87,5 +131,6 @@ side-refusal-spec =
     tie.close
     (tie.spec
     (λ c κs. search needs) (λ c κs. search needs) returns (λ c κs. search needs) (λ c κs. search needs)
-    (λ c κs. search needs) returns-2 (λ c κs. search needs) (λ c κs. search needs) returns-3 (λ c. search needs)
-    (λ c κs. search needs) returns-4 (λ c κs. search needs) returns-5)
+    (λ c κs. search needs) (λ c κs. search needs) returns-2 (λ c κs. search needs) (λ c κs. search needs) returns-3
+    (λ c κs. search needs) (λ c κs. search needs) returns-4 (λ c. search needs) (λ c κs. search needs) returns-5
+    (λ c κs. search needs) returns-6)

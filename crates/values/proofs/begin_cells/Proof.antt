@@ -12,7 +12,7 @@ use Rattle.paper.specs.declared.Work.the-variants.{Pair, Scalar, Single}
 use Rattle.quick.specs.Operands.{pairing}
 use Rattle.quick.specs.declared.operands.Pairing.{Pairing}
 use Rattle.values.specs.Turns.{handed, pairingOf}
-use Rattle.values.specs.Runs.{workable, started}
+use Rattle.values.specs.Runs.{scalar-room, workable, started}
 use Rattle.values.proofs.begin_cells.Statement.{statement}
 use Rattle.values.proofs.begin_cells.Tie as tie
 
@@ -51,6 +51,9 @@ returns-2 c =
     started (pair p) (works p) (q p) (told p) _ _ (h .begin-arrays .ensures)
 
 -- an array and a scalar
+word-requires : tie.Need-word-requires
+word-requires c κs = scalar-room (start (c .before .before .before .before .before .before) .pre)
+
 module _ (c : tie.After-pair-code2) where
   abbrev known2 : tie.After-op2
   known2 = c .before .before .before .before .before .before .before .before .before
@@ -106,6 +109,6 @@ begin-cells-spec =
     (tie.spec
     (λ c. search needs) (λ c κs. search needs) (λ c κs. tt) (λ c κs. tt) (λ c. search needs) returns (λ c. search needs) (λ c κs. tt)
     (λ c. search needs) (λ c κs. tt) (λ c κs. tt) (λ c κs. workable (start (known c) .pre) (pair c) (works c) (q c) (told c)) (λ c. search needs)
-    returns-2 (λ c. search needs) (λ c. search needs) (λ c κs. search needs) (λ c κs. tt)
+    returns-2 (λ c. search needs) (λ c. search needs) word-requires (λ c κs. tt)
     (λ c κs. workable (start (known2 c) .pre) (scalar c) (works2 c) (q2 c) (told2 c)) (λ c. search needs) returns-3 (λ c. search needs) (λ c κs. tt)
     (λ c κs. workable (start (known3 c) .pre) (single c) (works3 c) (q3 c) (told3 c)) (λ c. search needs) returns-4)

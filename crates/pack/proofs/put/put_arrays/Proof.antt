@@ -11,24 +11,24 @@ use denote.Ref.{now}
 use lib.ListN.{length, getD, take, drop}
 use Rattle.laws.specs.Loops.{length-mapped, length-first, drop-first-cons}
 use Rattle.paper.specs.declared.Form.{Form}
-use Rattle.paper.specs.Limits.{mostArrays}
+use Rattle.paper.specs.Limits.{mostArrays, sizesOf}
 use Rattle.pack.specs.Laying.{Laying, laying-start, laying-room, laying-more, laying-end}
 
 abbrev Inv-loop : tie.InvT-loop
-Inv-loop count cells d₀ forms from₀ at₀ i₀ d from at i = Laying (take count forms) cells d₀ d from at i
+Inv-loop v count cells d₀ forms from₀ at₀ i₀ d from at i = Laying (sizesOf v) (take count forms) cells d₀ d from at i
 
 abbrev μ-loop : tie.MeasureT-loop
-μ-loop count cells d₀ forms from₀ at₀ i₀ d from at i = count - i
+μ-loop v count cells d₀ forms from₀ at₀ i₀ d from at i = count - i
 
 module _ (c : tie.Start Inv-loop μ-loop) where
-  full : length (c .args .t2) ≡ mostArrays
+  full : length (c .args .t3) ≡ mostArrays
   full = search (needs, length-mapped)
 
-  room : c .args .count ≤ length (c .args .t2)
+  room : c .args .count ≤ length (c .args .t3)
   room = omega (arith, full, c .pre .few)
 
-  first : length (take (c .args .count) (c .args .t2)) ≡ c .args .count
-  first = length-first (c .args .t2) (c .args .count) room
+  first : length (take (c .args .count) (c .args .t3)) ≡ c .args .count
+  first = length-first (c .args .t3) (c .args .count) room
 
 -- the form that the loop is at
 module _ (c : tie.In-loop Inv-loop μ-loop) where
@@ -38,12 +38,12 @@ module _ (c : tie.In-loop Inv-loop μ-loop) where
   abbrev i : ℕ
   i = c .before .loop .i
 
-  next : (f : Form) → drop i (take (s .args .count) (s .args .t2))
-      ≡ getD (s .args .t2) i f ∷ drop (i + 1) (take (s .args .count) (s .args .t2))
-  next f = rw add-one (drop-first-cons (s .args .t2) (s .args .count) (room s) i f (c .loop-test .taken))
+  next : (f : Form) → drop i (take (s .args .count) (s .args .t3))
+      ≡ getD (s .args .t3) i f ∷ drop (i + 1) (take (s .args .count) (s .args .t3))
+  next f = rw add-one (drop-first-cons (s .args .t3) (s .args .count) (room s) i f (c .loop-test .taken))
 
 loop-holds : tie.Need-loop-holds Inv-loop μ-loop
-loop-holds c = let q = c .before .before in laying-start _ (now (q .args .cells)) (now (q .args .d)) (q .pre .ready) (q .pre .room)
+loop-holds c = let q = c .before .before in laying-start _ _ (now (q .args .cells)) (now (q .args .d)) (q .pre .ready) (q .pre .room)
 
 -- an array is written
 module _ (c : tie.After-put-array Inv-loop μ-loop) where

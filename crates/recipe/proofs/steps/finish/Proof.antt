@@ -66,7 +66,7 @@ returns-3 c =
     let p = start x .args in
     let q : axesOf (m .starred .result) ≡ map star (E x) = m .starred .ensures ∙ ap (map star) (told x) in
     finish-good (now (p .s)) (p .step) (p .a) (p .b) (p .at) (p .k .0) _ _ _ refl (c .none .ensures) refl
-    (start x .pre .detail) (λ i. shaped (k .result-kind .ensures i) (named x i) (told x i) (q i)) (counted x) (y .before .if1 .left)
+    (start x .pre) (λ i. shaped (k .result-kind .ensures i) (named x i) (told x i) (q i)) (counted x) (y .before .if1 .left)
     (λ z. k .before .if2 .left (y .rank-of .ensures .number ∙ ap length (told x) ∙ z))
 
 pub finish-spec : {M : Type 1} → statement M

@@ -9,6 +9,9 @@ use Rattle.paper.specs.Refusals.{if_then_else_}
 use Rattle.paper.specs.Recipe.{stepTests}
 use Rattle.paper.specs.Answers.{axesOf, unless}
 use Rattle.step.specs.Steps.{stepIn}
+use Rattle.paper.specs.declared.Sizes.{Sizes}
+use Rattle.paper.specs.Limits.{sizesOf}
+use Rattle.laws.specs.Sizes.{fits}
 use Rattle.step.specs.Using.{usedBy, Column, column}
 use Rattle.recipe.specs.declared.Operand.{Operand}
 use Rattle.recipe.specs.Operands.{noOperand, shapeIn}
@@ -24,11 +27,17 @@ module _ (c : tie.After-used-b) where
   abbrev used : tie.After-used-by
   used = c .before
 
-  column-of : Column (start .args .step .operation) (length (axesOf (start .args .a .head .form .extent))) (used .used-by .result)
+  abbrev z : Sizes
+  z = sizesOf (start .args .step .version)
+
+  uses-told : used .used-by .result ≡ usedBy (start .args .step .operation) (z .name) (length (axesOf (start .args .a .head .form .extent)))
+  uses-told = used .used-by .ensures ∙ ap (usedBy (start .args .step .operation) (z .name)) (used .before .rank-of .ensures .number)
+
+  column-of : Column (start .args .step .operation) z (length (axesOf (start .args .a .head .form .extent))) (used .used-by .result)
   column-of =
       let op = start .args .step .operation in
-      let e = used .used-by .ensures ∙ ap (usedBy op) (used .before .rank-of .ensures .number) in
-      subst (Column op _) (sym e) (column op _)
+      let n = length (axesOf (start .args .a .head .form .extent)) in
+      subst (Column op z n) (sym uses-told) (column op z n (fits (start .args .step .version)))
 
   second : c .used-b .result ≡ secondOf (start .args .step) (start .args .b)
   second = c .used-b .ensures ∙ ap (λ (t : Bool). if t then start .args .b else noOperand true) (sym (column-of .b))
@@ -56,11 +65,11 @@ module _ (c : tie.After-step-refusal) where
   both = its (c .before)
 
   tested : unless (c .step-refusal .result) tt
-      ≡ stepTests (start both .args .k .0) (stepIn (now (start both .args .s)) (start both .args .step)) (shapeIn (start both .args .a .head))
+      ≡ stepTests (z both) (start both .args .k .0) (stepIn (now (start both .args .s)) (start both .args .step)) (shapeIn (start both .args .a .head))
       (shapeIn (secondOf (start both .args .step) (start both .args .b) .head))
   tested =
       c .step-refusal .ensures
-      ∙ ap (λ (o : Operand). stepTests (start both .args .k .0) (stepIn (now (start both .args .s)) (start both .args .step)) (shapeIn (start both .args .a .head)) (shapeIn (o .head))) (second both)
+      ∙ ap (λ (o : Operand). stepTests (z both) (start both .args .k .0) (stepIn (now (start both .args .s)) (start both .args .step)) (shapeIn (start both .args .a .head)) (shapeIn (o .head))) (second both)
 
 returns-2 : tie.Need-returns-2
 returns-2 c =
@@ -73,7 +82,7 @@ returns-2 c =
 step-refusal-requires : tie.Need-step-refusal-requires
 step-refusal-requires c κs =
     let x = its c in
-    (start x .pre .0, (start x .pre .1 .1, used x .used-by .ensures ∙ ap (usedBy (start x .args .step .operation)) (used x .before .rank-of .ensures .number)))
+    (start x .pre .0 .small, (record { holds = start x .pre .1 .1; few = start x .pre .0 .few }, uses-told x))
 
 returns-3 : tie.Need-returns-3
 returns-3 c =

@@ -10,7 +10,9 @@ use Rattle.paper.specs.Refusals.{outside6, between, ensure}
 use Rattle.paper.specs.Axes.{Shape}
 use Rattle.paper.specs.Recipe.{Step, uses, unusedZero, axisIn, typesFit, agree, stepTests}
 use Rattle.paper.specs.Answers.{shapeOf}
-use Rattle.laws.specs.Answers.{axes-few}
+use Rattle.paper.specs.declared.Sizes.{Sizes}
+use Rattle.paper.specs.Limits.{sizesOf}
+use Rattle.laws.specs.Sizes.{fits}
 use Rattle.step.specs.Steps.{stepIn}
 use Rattle.step.specs.Using.{Column, column, axis-by, unused-by}
 use Rattle.recipe.proofs.steps.step_refusal.Statement.{statement}
@@ -26,22 +28,25 @@ module _ (c : tie.Start) where
   abbrev B : Shape
   B = shapeOf (c .args .b)
 
-  uses-by : Column (st .operation) (length (A .axes)) (c .args .used)
-  uses-by = subst (Column (st .operation) (length (A .axes))) (sym (c .pre .1 .1)) (column (st .operation) (length (A .axes)))
+  abbrev z : Sizes
+  z = sizesOf (c .args .step .version)
+
+  uses-by : Column (st .operation) z (length (A .axes)) (c .args .used)
+  uses-by = subst (Column (st .operation) z (length (A .axes))) (sym (c .pre .1 .1)) (column (st .operation) z (length (A .axes)) (fits (c .args .step .version)))
 
 -- 4
 module _ (c : tie.After-unused-zero) where
   abbrev start : tie.Start
   start = c .before .before
 
-  unused-told : (b : Bool) → c .unused-zero .result ≡ b → unusedZero (uses (st start .operation)) (length (A start .axes)) (st start) ≡ b
-  unused-told b e = sym (unused-by _ _ _ (uses-by start) (st start)) ∙ sym (c .unused-zero .ensures) ∙ e
+  unused-told : (b : Bool) → c .unused-zero .result ≡ b → unusedZero (uses (st start .operation)) (z start .name) (length (A start .axes)) (st start) ≡ b
+  unused-told b e = sym (unused-by _ _ _ _ (uses-by start) (st start)) ∙ sym (c .unused-zero .ensures) ∙ e
 
 module _ (c : tie.Else1) where
   abbrev in4 : tie.Start
   in4 = start (c .before)
 
-  held4 : unusedZero (uses (st in4 .operation)) (length (A in4 .axes)) (st in4) ≡ true
+  held4 : unusedZero (uses (st in4 .operation)) (z in4 .name) (length (A in4 .axes)) (st in4) ≡ true
   held4 = unused-told (c .before) true (not-false _ (c .if1 .left))
 
 -- 5
@@ -51,7 +56,7 @@ module _ (c : tie.After-axis-in) where
 
   axis-told : (b : Bool) → c .axis-in .result ≡ b → axisIn (uses (st (in4 past4) .operation)) (length (A (in4 past4) .axes)) (st (in4 past4) .axis) ≡ b
   axis-told b e =
-      sym (axis-by _ _ _ (uses-by (in4 past4)) (st (in4 past4) .axis))
+      sym (axis-by _ _ _ _ (uses-by (in4 past4)) (st (in4 past4) .axis))
       ∙ ap (λ (n : ℕ). not (in4 past4 .args .used .axis) || between 1 n (st (in4 past4) .axis)) (sym (c .before .rank-of .ensures .number))
       ∙ sym (c .axis-in .ensures) ∙ e
 
@@ -90,7 +95,7 @@ module _ (c : tie.After-fits-in) where
   its = in5 (past5 in6)
 
   fits-told : (b : Bool) → c .fits-in .result ≡ b
-      → stepTests (its .args .k .0) (st its) (A its) (B its) ≡ ensure b outside6 (its .args .k .0)
+      → stepTests (z its) (its .args .k .0) (st its) (A its) (B its) ≡ ensure b outside6 (its .args .k .0)
   unfolding stepTests
   fits-told b e =
       rw (
@@ -102,7 +107,7 @@ module _ (c : tie.After-fits-in) where
       )
 
 unused-zero-requires : tie.Need-unused-zero-requires
-unused-zero-requires c κs = let p = c .before in (uses-by p .few (axes-few (p .args .a .extent)), p .pre .1 .0)
+unused-zero-requires c κs = let p = c .before in (uses-by p .few (p .pre .1 .0 .few), p .pre .1 .0 .holds)
 
 returns : tie.Need-returns
 unfolding stepTests
@@ -115,7 +120,7 @@ returns-2 c =
     rw (c .refuse2 .ensures, held4 (past4 x), axis-told x false (not-true _ (c .before .if2 .taken)))
 
 types-fit-requires : tie.Need-types-fit-requires
-types-fit-requires c κs = let p = in5 c in (p .pre .1 .0, sym (uses-by p .b))
+types-fit-requires c κs = let p = in5 c in (p .pre .1 .0 .holds, sym (uses-by p .b))
 
 returns-3 : tie.Need-returns-3
 unfolding stepTests

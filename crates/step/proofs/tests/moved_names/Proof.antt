@@ -1,5 +1,5 @@
 -- `step::tests::moved_names` meets its contract: each move by its own line of the table.
-use Prim.Native.Nat.{ℕ, _≤_}
+use Prim.Native.Nat.{ℕ, _*_, _≤_}
 use mathlib.Core.List.{List}
 use mathlib.Core.Path.{_≡_, _∙_, ap, sym, subst}
 use native.Mathlib.Omega.{arith}
@@ -11,12 +11,12 @@ use Rattle.paper.specs.declared.Axis.{Axis}
 use Rattle.paper.specs.declared.Move.{Move}
 use Rattle.paper.specs.declared.Move.the-variants.{Trim, Slice, Reshape, Shift, Rename, Update, Put, Glue}
 use Rattle.paper.specs.declared.Operation.the-variants.{Moves}
-use Rattle.paper.specs.Limits.{mostAxes}
+use Rattle.paper.specs.Limits.{mostAxes, sizesOf}
 use Rattle.paper.specs.Recipe.{resultNames}
 use Rattle.paper.specs.Answers.{axesOf, namesFor}
 use Rattle.laws.specs.Answers.{axes-few}
 use Rattle.laws.specs.Loops.{length-mapped}
-use Rattle.step.specs.Steps.{stepIn}
+use Rattle.step.specs.Steps.{detailOf, stepIn, names-there, fewer}
 use Rattle.step.specs.Named.{NamesTold, names-kept, names-anew}
 use Rattle.step.proofs.tests.moved_names.Statement.{statement}
 use Rattle.step.proofs.tests.moved_names.Tie as tie
@@ -32,7 +32,7 @@ module _ (c : tie.Start) where
   room = omega (arith, full, axes-few (c .args .e))
 
   abbrev told : Move → List Name → Type 0
-  told mv new = NamesTold (Moves mv) (stepIn (now (c .args .s)) (c .args .step)) (c .args .m) (c .args .e) new
+  told mv new = NamesTold (sizesOf (c .args .step .version) .name) (Moves mv) (stepIn (now (c .args .s)) (c .args .step)) (c .args .m) (c .args .e) new
 
   arm : (mv : Move) (new : List Name) → c .args .mv ≡ mv → told mv new → told (c .args .mv) new
   arm mv new e t = subst (λ (x : Move). told x new) (sym e) t
@@ -76,16 +76,21 @@ returns-2 c =
     arm s Slice _ (c .before .before .before .enum-told2 .given .1) (rw (← e) (c .without-name .ensures))
 
 names-at-requires : tie.Need-names-at-requires
-names-at-requires c κs = (c .rank-of2 .ensures .few, c .before .before .before .before .pre)
+names-at-requires c κs =
+    let s = c .before .before .before .before in
+    let h = s .args .step in
+    let w = sizesOf (h .version) .name in
+    let e : length (E s) * w ≡ c .rank-of2 .result * w = ap (λ (n : ℕ). n * w) (sym (c .rank-of2 .ensures .number)) in
+    (c .rank-of2 .ensures .few, fewer (h .at) (c .rank-of2 .result * w) (detailOf h) (now (s .args .s)) (rw e at (names-there (s .pre))) (s .pre .holds))
 
 returns-5 : tie.Need-returns-5
 unfolding resultNames
 returns-5 c =
     let s = c .before .before .before .before .before in
     let r = c .before .rank-of2 .ensures in
-    let d = stepIn (now (s .args .s)) (s .args .step) .detail in
+    let h = s .args .step in
     arm s Rename _ (c .before .before .enum-told5 .given .1)
-    (names-anew (E s) (s .args .m) (c .names-at .result) d (c .before .rank-of2 .result) (r .number) (room s) (c .names-at .ensures))
+    (names-anew (sizesOf (h .version) .name) (E s) (s .args .m) (c .names-at .result) (now (s .args .s)) (h .at) (detailOf h) (c .before .rank-of2 .result) (r .number) (room s) (names-there (s .pre)) (c .names-at .ensures))
 
 pub moved-names-spec : {M : Type 1} → statement M
 moved-names-spec =

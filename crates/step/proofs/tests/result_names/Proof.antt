@@ -8,7 +8,7 @@ use denote.Ref.{now}
 use lib.ListN.{length}
 use Rattle.paper.specs.declared.Name.{Name}
 use Rattle.paper.specs.declared.Operation.{Operation}
-use Rattle.paper.specs.Limits.{mostAxes}
+use Rattle.paper.specs.Limits.{mostAxes, sizesOf}
 use Rattle.paper.specs.Recipe.{resultNames}
 use Rattle.paper.specs.Answers.{axesOf}
 use Rattle.laws.specs.Answers.{axes-few}
@@ -20,7 +20,7 @@ use Rattle.step.proofs.tests.result_names.Tie as tie
 
 module _ (c : tie.Start) where
   abbrev told : Operation → List Name → Type 0
-  told op new = NamesTold op (stepIn (now (c .args .s)) (c .args .step)) (c .args .m) (c .args .e) new
+  told op new = NamesTold (sizesOf (c .args .step .version) .name) op (stepIn (now (c .args .s)) (c .args .step)) (c .args .m) (c .args .e) new
 
   arm : (op : Operation) (new : List Name) → c .args .step .operation ≡ op → told op new → told (c .args .step .operation) new
   arm op new e t = subst (λ (x : Operation). told x new) (sym e) t

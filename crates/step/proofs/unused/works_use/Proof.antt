@@ -6,15 +6,15 @@ use Rattle.step.proofs.unused.works_use.Tie as tie
 
 returns : tie.Need-returns
 unfolding usedBy
-returns c = rw (c .before .enum-told .given .1) (c .used-as .ensures)
+returns c m n = rw (c .before .enum-told .given .1) (c .used-as .ensures)
 
 returns-2 : tie.Need-returns-2
 unfolding usedBy
-returns-2 c = rw (c .before .enum-told2 .given .1) (c .used-as2 .ensures)
+returns-2 c m n = rw (c .before .enum-told2 .given .1) (c .used-as2 .ensures)
 
 returns-3 : tie.Need-returns-3
 unfolding usedBy
-returns-3 c = rw (c .before .enum-told3 .given .1) (c .used-as3 .ensures)
+returns-3 c m n = rw (c .before .enum-told3 .given .1) (c .used-as3 .ensures)
 
 pub works-use-spec : {M : Type 1} → statement M
 works-use-spec =

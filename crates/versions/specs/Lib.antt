@@ -1,0 +1,2 @@
+-- What a told version says, in the paper's terms.
+pub mod Told
