@@ -1,6 +1,6 @@
--- ArrayRead array read, by cases: each way out of the code from the tests that lead to it, at offsets into the bundle's bytes.
+-- An array read, by cases: each way out of the code from the tests that lead to it, at offsets into the bundle's bytes.
 use Prim.Native.Nat.{ℕ, _+_, _-_, _*_, _≤_, _<_}
-use mathlib.Core.Path.{_≡_, sym, ap, ap₂, subst, _∙_}
+use mathlib.Core.Path.{_≡_, refl, sym, ap, ap₂, _∙_}
 use mathlib.Core.Bool.{true, false, _&&_}
 use mathlib.Core.List.{List}
 use native.Mathlib.Omega.{arith}
@@ -12,7 +12,6 @@ use Rattle.paper.specs.declared.Sizes.{Sizes}
 use Rattle.paper.specs.declared.Name.{Name}
 use Rattle.paper.specs.declared.Axis.{Axis}
 use Rattle.paper.specs.declared.Form.{Form}
-use Rattle.paper.specs.declared.Head.{Head}
 use Rattle.paper.specs.declared.Extent.{Extent}
 use Rattle.paper.specs.declared.Refusal.{Refusal}
 use Rattle.paper.specs.Limits.{mostCells, typeBytes, cellBytes}
@@ -24,40 +23,10 @@ use Rattle.paper.specs.Answers.{extentOf, namesOf, shapeOf}
 use Rattle.laws.specs.Sizes.{Fits}
 use Rattle.laws.specs.Tests.{between-true}
 use Rattle.laws.specs.Judged.{firstBad, cellsFrom, judged, cells-judged}
-use Rattle.laws.specs.Answers.{unless-refused, formOf, form-shape}
+use Rattle.laws.specs.Answers.{unless-refused, unless-got, noHead, formOf, form-shape}
 use Rattle.extent.specs.Judged.{cellsWithin, within-zero, within-some}
-use Rattle.bundle.specs.declared.ArrayRead.{ArrayRead}
 use Rattle.bundle.specs.Axes.{length-each}
-use Rattle.bundle.specs.Read.{cellsIn, axesIn, arrayAt, oneOf, noArray, Fit, JudgedArray, ReadArray}
-
--- ---- an answer that is a refusal
-
-module _ (bs : List ℕ) (x : Refusal) (h : x .number ≡ 0 → ⊥) where
-  -- of a form
-  pub judged-none : (from k : ℕ) (form : Form) (r : ArrayRead) → r ≡ noArray x → refused x ≡ arrayOf k (shapeOf form) (drop from bs)
-      → JudgedArray bs from k form r
-  judged-none from k form r e q =
-      let z : r .refusal .number ≡ 0 → ⊥ = λ f. h (sym (ap (λ (o : ArrayRead). o .refusal .number) e) ∙ f) in
-      record {
-        said = ap (oneOf bs) e ∙ unless-refused x _ h ∙ q;
-        end = omega (arith, ap (λ (o : ArrayRead). o .end) e);
-        fit = λ f. absurd (z f);
-        held = λ f. absurd (z f);
-        past = λ f. absurd (z f);
-      }
-
-  -- from its first byte
-  pub read-none : (z : Sizes) (at k : ℕ) (r : ArrayRead) → r ≡ noArray x → refused x ≡ readArray z k (drop at bs) → ReadArray z bs at k r
-  read-none z at k r e q =
-      let n : r .refusal .number ≡ 0 → ⊥ = λ f. h (sym (ap (λ (o : ArrayRead). o .refusal .number) e) ∙ f) in
-      record {
-        said = ap (oneOf bs) e ∙ unless-refused x _ h ∙ q;
-        end = omega (arith, ap (λ (o : ArrayRead). o .end) e);
-        fit = λ f. absurd (n f);
-        tidy = λ f. absurd (n f);
-        lies = λ f. absurd (n f);
-        rank = λ f. absurd (n f);
-      }
+use Rattle.bundle.specs.Read.{arrayAt, headAt, oneOf, JudgedArray, cellsAt, FormAt, FormRead, ReadArray}
 
 -- ---- from the bytes after the axes
 
@@ -69,54 +38,59 @@ module _ (k : ℕ) (s : List ℕ) (from : ℕ) (form : Form) (n : ℕ)
   abbrev t : ℕ
   t = form .kind
 
-  pub of-extent : n ≡ 0 → refused (refusal badExtent2 k 0) ≡ arrayOf k shape (drop from s)
+  -- an answer that is a refusal
+  of-none : {x : Refusal} → (x .number ≡ 0 → ⊥) → refused x ≡ arrayOf k shape (drop from s) → JudgedArray s k (headAt form from 0) x
+  of-none {x} h e = record { said = unless-refused x _ h ∙ e; fit = λ f. absurd (h f) }
+
+  pub of-extent : n ≡ 0 → JudgedArray s k (headAt form from 0) (refusal badExtent2 k 0)
   unfolding arrayOf
-  of-extent e = rw (within-zero (shape .names) (shape .axes) (shape .maximum) (sym q ∙ e))
+  of-extent e = of-none (λ y. omega arith) (rw (within-zero (shape .names) (shape .axes) (shape .maximum) (sym q ∙ e)))
 
   module _ (some : n ≡ 0 → ⊥) where
     is-good : ((goodExtent (shape .names) (shape .axes) && within (shape .axes) (shape .maximum)) ≡ true) × (cells (shape .axes) ≡ n)
     is-good = let g = within-some (shape .names) (shape .axes) (shape .maximum) (λ e. some (q ∙ e)) in (g .0, g .1 ∙ sym q)
 
-    pub of-short : length s - from < n * cellBytes → refused (refusal badBytes1 k 0) ≡ arrayOf k shape (drop from s)
+    pub of-short : length s - from < n * cellBytes → JudgedArray s k (headAt form from 0) (refusal badBytes1 k 0)
     unfolding arrayOf
     of-short h =
         let f : leb (n * cellBytes) (length s - from) ≡ false = lt-leb (n * cellBytes) (length s - from) h in
-        rw (is-good .0, is-good .1, length-drop, f)
+        of-none (λ y. omega arith) (rw (is-good .0, is-good .1, length-drop, f))
 
     module _ (h : n * cellBytes ≤ length s - from) (b : ℕ) (e : b ≡ firstBad t 1 n (drop from s)) where
       of-cells : arrayOf k shape (drop from s)
-          ≡ (judged k b (cellsFrom t n (drop from s)) >>= (λ cs. got (record { shape = shape; cells = cs }, drop (n * cellBytes) (drop from s))))
+          ≡ (judged k b (cellsFrom t n (drop from s))
+          >>= (λ cs. got (record { shape = shape; cells = cs }, drop (n * cellBytes) (drop from s))))
       unfolding arrayOf
       of-cells =
           let f : leb (n * cellBytes) (length s - from) ≡ true = le-leb (n * cellBytes) (length s - from) h in
           rw (is-good .0, is-good .1, length-drop, f, cells-judged n k t 1 (drop from s) (omega arith), ← e)
 
-      pub of-bad : (b ≡ 0 → ⊥) → refused (refusal badCell3 k b) ≡ arrayOf k shape (drop from s)
-      of-bad z = let f : eqb b 0 ≡ false = ne-eqb b 0 z in sym (of-cells ∙ rw f)
+      pub of-bad : (b ≡ 0 → ⊥) → JudgedArray s k (headAt form from 0) (refusal badCell3 k b)
+      of-bad z = let f : eqb b 0 ≡ false = ne-eqb b 0 z in of-none (λ y. omega arith) (sym (of-cells ∙ rw f))
 
       -- all cells are cells: the array is as it stands in the bytes
-      pub of-got : from ≤ length s → b ≡ 0 → n ≤ mostCells → (r : ArrayRead)
-          → r ≡ record { refusal = refusal 0 0 0; head = record { form = form; at = from; cells = n }; end = from + n * cellBytes }
-          → JudgedArray s from k form r
+      pub of-got : from ≤ length s → b ≡ 0 → n ≤ mostCells → JudgedArray s k (headAt form from n) (refusal 0 0 0)
       unfolding arrayAt
-      of-got l z few r w =
+      of-got l z few =
           let m = is-good .1 in
-          let head : Head = record { form = form; at = from; cells = n } in
-          let fit : Fit s head = record { good = is-good .0; counted = sym m; few = few; fits = omega (arith, m); clean = ap (λ (j : ℕ). firstBad t 1 j (drop from s)) m ∙ sym e ∙ z } in
           record {
             said =
-                ap (oneOf s) w
-                ∙ ap₂ (λ (j : ℕ) (d : List ℕ). got (record { shape = shape; cells = cellsFrom t j (drop from s) }, d)) m (sym (drop-drop (n * cellBytes) from s))
+                ap₂ (λ (j : ℕ) (d : List ℕ). got (record { shape = shape; cells = cellsFrom t j (drop from s) }, d)) m
+                (sym (drop-drop (n * cellBytes) from s))
                 ∙ sym (of-cells ∙ rw z);
-            end = omega (arith, ap (λ (o : ArrayRead). o .end) w);
-            fit = λ f. subst (λ (o : ArrayRead). Fit s (o .head)) (sym w) fit;
-            held = λ f. ap (λ (o : ArrayRead). o .head) w ∙ (λ i. record { form = form; at = from; cells = sym m i });
-            past = λ f. ap (λ (o : ArrayRead). o .end) w ∙ ap (λ (j : ℕ). from + j * cellBytes) (sym m);
+            fit = λ f.
+                record {
+                  good = is-good .0;
+                  counted = sym m;
+                  few = few;
+                  fits = omega (arith, m);
+                  clean = ap (λ (j : ℕ). firstBad t 1 j (drop from s)) m ∙ sym e ∙ z;
+                };
           }
 
 -- ---- from its first byte
 
-module _ (z : Sizes) (fits : Fits z) (k : ℕ) (s : List ℕ) (at t n : ℕ) (et : t ≡ getD s at 0) (en : n ≡ getD s (at + 1) 0) where
+module _ (z : Sizes) (fits : Fits z) (s : List ℕ) (at t n : ℕ) (et : t ≡ getD s at 0) (en : n ≡ getD s (at + 1) 0) where
   abbrev N : List Name
   N = eachAxis z (nameOf z) n (drop (at + typeBytes) s)
 
@@ -126,62 +100,93 @@ module _ (z : Sizes) (fits : Fits z) (k : ℕ) (s : List ℕ) (at t n : ℕ) (et
   abbrev M : List Axis
   M = eachAxis z (maximumOf z) n (drop (at + typeBytes) s)
 
-  moved : readArray z k (drop at s)
-      ≡ (ensure (isType t) badBytes1 k >> (ensure (between 1 (z .axes) n) badBytes1 k >> (ensure (leb (typeBytes + n * z .axis) (length s - at)) badBytes1 k
+  moved : (k : ℕ) → readArray z k (drop at s)
+      ≡ (ensure (isType t) badBytes1 k >> (ensure (between 1 (z .axes) n) badBytes1 k
+      >> (ensure (leb (typeBytes + n * z .axis) (length s - at)) badBytes1 k
       >> arrayOf k (shaped t N E M) (drop (at + typeBytes + n * z .axis) s))))
   unfolding readArray
-  moved =
+  moved k =
       let o : at + 0 ≡ at = omega arith in
       let p : getD (drop at s) 0 0 ≡ t = getD-drop at s 0 0 ∙ ap (λ (j : ℕ). getD s j 0) o ∙ sym et in
       let r : getD (drop at s) 1 0 ≡ n = getD-drop at s 1 0 ∙ sym en in
       let w : at + (typeBytes + n * z .axis) ≡ at + typeBytes + n * z .axis = omega arith in
       rw (p, r, length-drop at s, drop-drop typeBytes at s, drop-drop (typeBytes + n * z .axis) at s, w)
 
-  pub head-type : isType t ≡ false → refused (refusal badBytes1 k 0) ≡ readArray z k (drop at s)
-  head-type e = sym (moved ∙ rw e)
+  -- the bytes are bad: the form has no axis
+  form-none : ((k : ℕ) → refused (refusal badBytes1 k 0) ≡ readArray z k (drop at s)) → FormRead z s at (noHead .form)
+  form-none q = record { bad = λ o. q; good = λ h. absurd (h refl) }
+
+  pub form-type : isType t ≡ false → FormRead z s at (noHead .form)
+  form-type e = form-none (λ k. sym (moved k ∙ rw e))
 
   module _ (e : isType t ≡ true) where
-    pub head-count : between 1 (z .axes) n ≡ false → refused (refusal badBytes1 k 0) ≡ readArray z k (drop at s)
-    head-count f = sym (moved ∙ rw (e, f))
+    pub form-count : between 1 (z .axes) n ≡ false → FormRead z s at (noHead .form)
+    form-count f = form-none (λ k. sym (moved k ∙ rw (e, f)))
 
     module _ (f : between 1 (z .axes) n ≡ true) where
-      pub head-short : length s - at < typeBytes + n * z .axis → refused (refusal badBytes1 k 0) ≡ readArray z k (drop at s)
-      head-short h = let g : leb (typeBytes + n * z .axis) (length s - at) ≡ false = lt-leb _ _ h in sym (moved ∙ rw (e, f, g))
+      pub form-short : length s - at < typeBytes + n * z .axis → FormRead z s at (noHead .form)
+      form-short h =
+          let g : leb (typeBytes + n * z .axis) (length s - at) ≡ false = lt-leb _ _ h in
+          form-none (λ k. sym (moved k ∙ rw (e, f, g)))
 
-      -- what array_of says of the form that was read
+      -- the axes are read
       module _ (h : typeBytes + n * z .axis ≤ length s - at) (l : List Name) (x m : Extent)
           (el : l ≡ namesOf N) (ex : x ≡ extentOf E) (em : m ≡ extentOf M) where
         abbrev form : Form
-        form = record { kind = t; names = l; extent = x; maximum = m }
+        form = record { kind = t; extent = x; names = l; maximum = m }
 
         form-is : form ≡ formOf (shaped t N E M)
-        form-is = λ i. record { kind = t; names = el i; extent = ex i; maximum = em i }
+        form-is = λ i. record { kind = t; extent = ex i; names = el i; maximum = em i }
+
+        few : n ≤ z .axes
+        few = between-true (z .axes) n f .1
+
+        long : length E ≡ n
+        long = length-each z (axisOf z) n (drop (at + typeBytes) s)
+
+        ranked : x .rank ≡ n
+        ranked = ap (λ (o : Extent). o .rank) ex ∙ long
 
         shape-is : shapeOf form ≡ shaped t N E M
         shape-is =
-            let few = between-true (z .axes) n f .1 in
             let d = drop (at + typeBytes) s in
-            let long = length-each z (axisOf z) n d in
-            ap shapeOf form-is ∙ form-shape (shaped t N E M) (length-each z (nameOf z) n d ∙ sym long) (omega (arith, long, fits .axes))
-            (omega (arith, length-each z (maximumOf z) n d, fits .axes))
+            ap shapeOf form-is
+            ∙ form-shape (shaped t N E M) (length-each z (nameOf z) n d ∙ sym long) (omega (arith, long, few, fits .axes))
+            (omega (arith, length-each z (maximumOf z) n d, few, fits .axes))
 
-        pub head-rest : (r : ArrayRead) → JudgedArray s (at + typeBytes + n * z .axis) k form r → ReadArray z s at k r
-        head-rest r j =
+        form-whole : FormAt z s at form
+        form-whole =
             let g : leb (typeBytes + n * z .axis) (length s - at) ≡ true = le-leb _ _ h in
-            let from : ℕ = at + typeBytes + n * z .axis in
-            let wide : length (shapeOf form .axes) ≡ n = ap (λ (y : Shape). length (y .axes)) shape-is ∙ length-each z (axisOf z) n (drop (at + typeBytes) s) in
             record {
-              said = j .said ∙ ap (λ (y : Shape). arrayOf k y (drop from s)) shape-is ∙ sym (moved ∙ rw (e, f, g));
-              end = j .end;
-              fit = j .fit;
-              tidy = λ y.
-                  let w = j .held y in
-                  let q : shapeOf (r .head .form) ≡ shaped t N E M = ap (λ (o : Head). shapeOf (o .form)) w ∙ shape-is in
-                  w ∙ (λ i. record { form = (form-is ∙ sym (ap formOf q)) i; at = ap (λ (o : Head). o .at) (sym w) i; cells = ap (λ (o : Head). cellsIn (o .form)) (sym w) i });
-              lies = λ y.
-                  let w = j .held y in
-                  let a : r .head .at ≡ from = ap (λ (o : Head). o .at) w in
-                  let l : length (shapeOf (r .head .form) .axes) ≡ n = ap (λ (o : Head). length (shapeOf (o .form) .axes)) w ∙ wide in
-                  record { begins = a ∙ (omega arith) ∙ ap (λ (m : ℕ). at + (typeBytes + m * z .axis)) (sym l); ends = j .past y ∙ ap₂ (λ (x y : ℕ). x + y * cellBytes) (sym a) (sym (ap (λ (o : Head). cellsIn (o .form)) w)) };
-              rank = λ y. let few = between-true (z .axes) n f .1 in omega (arith, ap axesIn (j .held y), wide);
+              tidy = form-is ∙ sym (ap formOf shape-is);
+              rank = ranked ∙ sym (ap (λ (y : Shape). length (y .axes)) shape-is ∙ long);
+              few = omega (arith, ranked, few);
+              room = rw ranked (omega arith);
+              rest = λ k.
+                  ap₂ (λ (y : Shape) (b : ℕ). arrayOf k y (drop (at + typeBytes + b * z .axis) s)) shape-is ranked
+                  ∙ sym (moved k ∙ rw (e, f, g));
             }
+
+        pub form-read : FormRead z s at form
+        form-read = record { bad = λ o. absurd (omega (arith, ranked, between-true (z .axes) n f)); good = λ o. form-whole }
+
+-- ---- its form read, and then its cells judged, from byte `from` on
+
+module _ {z : Sizes} {bs : List ℕ} {at from k n : ℕ} {form : Form} {x : Refusal} (f : FormAt z bs at form)
+    (p : from ≡ cellsAt z at form) (j : JudgedArray bs k (headAt form from n) x) where
+  judged-rest : oneOf bs x (headAt form from n) ≡ readArray z k (drop at bs)
+  judged-rest = j .said ∙ ap (λ (b : ℕ). arrayOf k (shapeOf form) (drop b bs)) p ∙ f .rest k
+
+  pub array-refused : (x .number ≡ 0 → ⊥) → refused x ≡ readArray z k (drop at bs)
+  array-refused h = sym (unless-refused x _ h) ∙ judged-rest
+
+  pub array-read : x .number ≡ 0 → ReadArray z bs at k (headAt form from n)
+  array-read y =
+      let w = j .fit y in
+      record {
+        said = sym judged-rest ∙ unless-got x _ y;
+        fit = w;
+        tidy = λ i. record { form = f .tidy i; at = from; cells = w .counted i };
+        begins = p ∙ (omega arith) ∙ ap (λ (m : ℕ). at + (typeBytes + m * z .axis)) (f .rank);
+        rank = omega (arith, f .rank, f .few);
+      }

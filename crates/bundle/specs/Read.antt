@@ -10,13 +10,14 @@ use Rattle.paper.specs.declared.Head.{Head}
 use Rattle.paper.specs.declared.Reading.{Reading}
 use Rattle.paper.specs.declared.Refusal.{Refusal}
 use Rattle.paper.specs.Limits.{mostArrays, mostCells, typeBytes, cellBytes, sizesOf}
-use Rattle.paper.specs.Refusals.{Res}
+use Rattle.paper.specs.Refusals.{Res, got, refused, _>>=_, _>>_, refusal, ensure, badBytes1}
+use Rattle.paper.specs.Numbers.{none?}
 use Rattle.paper.specs.Axes.{cells, goodExtent, within, Shape, Array}
-use Rattle.paper.specs.Bundle.{versionIn, arrayOf, readArray, readBundle}
+use Rattle.paper.specs.Bundle.{markBytes, versionIn, arrayOf, readArray, readArrays, readAs, readBundle}
 use Rattle.paper.specs.Answers.{shapeOf, unless, reading, readSaid}
 use Rattle.laws.specs.Judged.{firstBad, cellsFrom}
-use Rattle.laws.specs.Answers.{headOf, noHead, readingOf}
-use Rattle.bundle.specs.declared.ArrayRead.{ArrayRead}
+use Rattle.laws.specs.Answers.{formOf, headOf, noHead, readingOf}
+use Rattle.bundle.specs.declared.Counted.{Counted}
 
 -- the number of cells that a form has
 abbrev pub cellsIn : Form → ℕ
@@ -26,13 +27,21 @@ cellsIn f = cells (shapeOf f .axes)
 unfoldable pub arrayAt : List ℕ → Head → Array
 arrayAt bs h = record { shape = shapeOf (h .form); cells = cellsFrom (h .form .kind) (cellsIn (h .form)) (drop (h .at) bs) }
 
+-- the head of a form whose n cells begin at byte `from`
+abbrev pub headAt : Form → ℕ → ℕ → Head
+headAt form from n = record { form = form; at = from; cells = n }
+
+-- the byte after a head's cells
+abbrev pub endOf : Head → ℕ
+endOf h = h .at + h .cells * cellBytes
+
 -- an array and the bytes after it, or the refusal
-abbrev pub oneOf : List ℕ → ArrayRead → Res (Array × List ℕ)
-oneOf bs r = unless (r .refusal) (arrayAt bs (r .head), drop (r .end) bs)
+abbrev pub oneOf : List ℕ → Refusal → Head → Res (Array × List ℕ)
+oneOf bs x h = unless x (arrayAt bs h, drop (endOf h) bs)
 
 -- the answer that is a refusal
-abbrev pub noArray : Refusal → ArrayRead
-noArray x = record { refusal = x; head = noHead; end = 0 }
+abbrev pub notCounted : Refusal → Counted
+notCounted x = record { refusal = x; cells = 0 }
 
 -- what later code leans on: the extent is good and inside its maximum, its cells are counted, they lie in the bytes, and each is one
 pub record Fit (bs : List ℕ) (h : Head) : Type 0 where
@@ -44,13 +53,27 @@ pub record Fit (bs : List ℕ) (h : Head) : Type 0 where
 
 -- ---- one array
 
--- array k of a form, its cells from byte `from` on
-pub record JudgedArray (bs : List ℕ) (from k : ℕ) (form : Form) (r : ArrayRead) : Type 0 where
-  pub said : oneOf bs r ≡ arrayOf k (shapeOf form) (drop from bs)
-  pub end : r .end ≤ length bs
-  pub fit : r .refusal .number ≡ 0 → Fit bs (r .head)
-  pub held : r .refusal .number ≡ 0 → r .head ≡ record { form = form; at = from; cells = cellsIn form }
-  pub past : r .refusal .number ≡ 0 → r .end ≡ from + cellsIn form * cellBytes
+-- array k, whose form and first cell's byte a head tells: its extent, its cell bytes and its cells judged, with the refusal x
+pub record JudgedArray (bs : List ℕ) (k : ℕ) (h : Head) (x : Refusal) : Type 0 where
+  pub said : oneOf bs x h ≡ arrayOf k (shapeOf (h .form)) (drop (h .at) bs)
+  pub fit : x .number ≡ 0 → Fit bs h
+
+-- the byte after the type, the axis count and the axes of an array that begins at `at` and has this form
+abbrev pub cellsAt : Sizes → ℕ → Form → ℕ
+cellsAt z at form = at + typeBytes + form .extent .rank * z .axis
+
+-- the form of the array that begins at byte `at`: nothing stands past its last axis, its axis bytes are there, and the rest is left to do
+pub record FormAt (z : Sizes) (bs : List ℕ) (at : ℕ) (form : Form) : Type 0 where
+  pub tidy : form ≡ formOf (shapeOf form)
+  pub rank : form .extent .rank ≡ length (shapeOf form .axes)
+  pub few : form .extent .rank ≤ z .axes
+  pub room : cellsAt z at form ≤ length bs
+  pub rest : (k : ℕ) → arrayOf k (shapeOf form) (drop (cellsAt z at form) bs) ≡ readArray z k (drop at bs)
+
+-- the same, or a form with no axis where the bytes are bad
+pub record FormRead (z : Sizes) (bs : List ℕ) (at : ℕ) (form : Form) : Type 0 where
+  pub bad : form .extent .rank ≡ 0 → (k : ℕ) → refused (refusal badBytes1 k 0) ≡ readArray z k (drop at bs)
+  pub good : (form .extent .rank ≡ 0 → ⊥) → FormAt z bs at form
 
 -- the number of axes that a head has
 abbrev pub axesIn : Head → ℕ
@@ -60,21 +83,26 @@ axesIn h = length (shapeOf (h .form) .axes)
 abbrev pub TidyHead : Head → Type 0
 TidyHead h = h ≡ headOf (shapeOf (h .form), h .at)
 
--- the cells begin after the type, the axis count and the axes of an array that begins at `at`, and end at `end`
-pub record LiesAt (z : Sizes) (at end : ℕ) (h : Head) : Type 0 where
+-- array k was read from byte `at` on: its cells begin after its type, its axis count and its axes
+pub record ReadArray (z : Sizes) (bs : List ℕ) (at k : ℕ) (h : Head) : Type 0 where
+  pub said : readArray z k (drop at bs) ≡ got (arrayAt bs h, drop (endOf h) bs)
+  pub fit : Fit bs h
+  pub tidy : TidyHead h
   pub begins : h .at ≡ at + (typeBytes + axesIn h * z .axis)
-  pub ends : end ≡ h .at + cellsIn (h .form) * cellBytes
-
--- array k, from byte `at` on
-pub record ReadArray (z : Sizes) (bs : List ℕ) (at k : ℕ) (r : ArrayRead) : Type 0 where
-  pub said : oneOf bs r ≡ readArray z k (drop at bs)
-  pub end : r .end ≤ length bs
-  pub fit : r .refusal .number ≡ 0 → Fit bs (r .head)
-  pub tidy : r .refusal .number ≡ 0 → TidyHead (r .head)
-  pub lies : r .refusal .number ≡ 0 → LiesAt z at (r .end) (r .head)
-  pub rank : r .refusal .number ≡ 0 → axesIn (r .head) ≤ z .axes
+  pub rank : axesIn h ≤ z .axes
 
 -- ---- the bundle
+
+-- n arrays after the opening bytes, and nothing after them
+abbrev pub readRest : Sizes → ℕ → List ℕ → Res (List Array)
+readRest z n bs = readArrays z 1 n (drop (markBytes + 1) bs) >>= (λ p. ensure (none? (p .1)) badBytes1 0 >> got (p .0))
+
+-- the opening bytes are good and tell of n arrays, which are left to do; n is 0 where they are bad
+pub record Opened (z : Sizes) (bs : List ℕ) (n : ℕ) : Type 0 where
+  pub bad : n ≡ 0 → refused (refusal badBytes1 0 0) ≡ readAs z bs
+  pub few : n ≤ mostArrays
+  pub long : (n ≡ 0 → ⊥) → markBytes + 1 ≤ length bs
+  pub rest : (n ≡ 0 → ⊥) → readAs z bs ≡ readRest z n bs
 
 -- the first n heads fit
 abbrev pub AllFit : List ℕ → ℕ → List Head → Type 0

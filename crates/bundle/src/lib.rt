@@ -2,12 +2,12 @@
 // A refusal with number 0 is none.
 ghost use mathlib.Core.Path.{_≡_};
 ghost use Prim.Native.Nat.{_≤_};
-ghost use lib.ListN.{length};
+ghost use lib.ListN.{length, replicate};
 ghost use Rattle.paper.specs.declared.Version.the-variants.{One};
-ghost use Rattle.paper.specs.Limits.{sizesOf};
+ghost use Rattle.paper.specs.Limits.{mostArrays, sizesOf};
 ghost use Rattle.paper.specs.Refusals.{refused, refusal};
 ghost use Rattle.laws.specs.Answers.{noHead, readingOf};
-ghost use Rattle.bundle.specs.Read.{noArray, JudgedArray, ReadArray, ReadAll};
+ghost use Rattle.bundle.specs.Read.{notCounted, headAt, JudgedArray, FormRead, Opened, ReadAll};
 use axes::bounds_at;
 use extent::extent_cells;
 use judged::first_bad;
@@ -33,26 +33,32 @@ use versions::sizes;
 pub mod axes;
 pub mod mark;
 
-// An array read: its head, and the byte after it.
-pub struct ArrayRead {
+// An array's cells judged: how many, or the refusal.
+pub struct Counted {
     pub refusal: Refusal,
-    pub head: Head,
-    pub end: usize,
+    pub cells: usize,
+}
+
+// No axis, and no type.
+fn no_form() -> Form
+    ensures { λ r. ⌜ r ≡ noHead .form ⌝ }
+{
+    let extent = empty();
+    let names = no_names();
+    let maximum = empty();
+    Form {
+        kind: 0,
+        extent,
+        names,
+        maximum,
+    }
 }
 
 // No array, with no cell.
 pub fn no_head() -> Head
     ensures { λ r. ⌜ r ≡ noHead ⌝ }
 {
-    let extent = empty();
-    let maximum = empty();
-    let names = no_names();
-    let form = Form {
-        kind: 0,
-        names,
-        extent,
-        maximum,
-    };
+    let form = no_form();
     Head {
         form,
         at: 0,
@@ -60,83 +66,75 @@ pub fn no_head() -> Head
     }
 }
 
-fn no_array(number: u8, place: u32, ordinality: u32) -> ArrayRead
-    ensures { λ r. ⌜ r ≡ noArray (refusal number place ordinality) ⌝ }
+fn not_counted(number: u8, k: u32, ordinality: u32) -> Counted
+    ensures { λ r. ⌜ r ≡ notCounted (refusal number k ordinality) ⌝ }
 {
-    let refusal = refuse_at(number, place, ordinality);
-    let head = no_head();
-    ArrayRead {
-        refusal,
-        head,
-        end: 0,
-    }
+    let refusal = refuse_at(number, k, ordinality);
+    Counted { refusal, cells: 0 }
 }
 
 // Array k of this form, from the bytes after its axes: its extent, its cell bytes present, its cells.
-pub fn array_of(s: &[u8], from: usize, k: u32, form: Form) -> ArrayRead
+pub fn array_of(s: &[u8], from: usize, k: u32, form: Form) -> Counted
     requires { ⌜ from ≤ length (now s) ⌝ }
-    ensures { λ r. ⌜ JudgedArray (now (s .entry)) from k form r ⌝ }
+    ensures { λ r. ⌜ JudgedArray (now (s .entry)) k (headAt form from (r .cells)) (r .refusal) ⌝ }
 {
     let names = form.names;
     let n = extent_cells(names, form.extent, form.maximum);
     if n == 0 {
-        return no_array(2, k, 0);
+        return not_counted(2, k, 0);
     }
     if s.len() - from < n * CELL_BYTES {
-        return no_array(1, k, 0);
+        return not_counted(1, k, 0);
     }
     let bad = first_bad(s, from, form.kind, n);
     if bad != 0 {
-        return no_array(3, k, bad as u32);
+        return not_counted(3, k, bad as u32);
     }
     let refusal = none();
-    let head = Head {
-        form,
-        at: from,
-        cells: n,
-    };
-    ArrayRead {
-        refusal,
-        head,
-        end: from + n * CELL_BYTES,
-    }
+    Counted { refusal, cells: n }
 }
 
-// Array k from the byte `at` on: its type, axis count and axis bytes, and then the above.
-fn array_at(s: &[u8], v: Version, at: usize, k: u32) -> ArrayRead
+// The form of the array that begins at byte `at`: its type, axis count and axes; with no axis where these bytes are bad.
+fn form_at(s: &[u8], v: Version, at: usize) -> Form
     requires { ⌜ at ≤ length (now s) ⌝ }
-    ensures { λ r. ⌜ ReadArray (sizesOf v) (now (s .entry)) at k r ⌝ }
+    ensures { λ r. ⌜ FormRead (sizesOf v) (now (s .entry)) at r ⌝ }
 {
     let z = sizes(v);
     let kind = byte_at(s, at);
     let rank = byte_at(s, at + 1) as usize;
     if !in_range(kind as usize, paper::TYPES) {
-        return no_array(1, k, 0);
+        return no_form();
     }
     if !in_range(rank, z.axes) {
-        return no_array(1, k, 0);
+        return no_form();
     }
     if s.len() - at < TYPE_BYTES + rank * z.axis {
-        return no_array(1, k, 0);
+        return no_form();
     }
     let bounds = bounds_at(v, s, at + TYPE_BYTES, rank);
-    let names = bounds.names;
     let extent = bounds.extent;
+    let names = bounds.names;
     let maximum = bounds.maximum;
-    let form = Form {
+    Form {
         kind,
-        names,
         extent,
+        names,
         maximum,
-    };
-    array_of(s, at + TYPE_BYTES + rank * z.axis, k, form)
+    }
+}
+
+// No array at all.
+fn no_heads() -> [Head; paper::ARRAYS]
+    ensures { λ r. ⌜ r ≡ replicate mostArrays noHead ⌝ }
+{
+    let head = no_head();
+    [head; paper::ARRAYS]
 }
 
 fn no_reading(refusal: Refusal) -> Reading
     ensures { λ r. ⌜ r ≡ readingOf One (refused refusal) ⌝ }
 {
-    let head = no_head();
-    let heads = [head; paper::ARRAYS];
+    let heads = no_heads();
     Reading {
         refusal,
         version: Version::One,
@@ -145,48 +143,60 @@ fn no_reading(refusal: Refusal) -> Reading
     }
 }
 
+// How many arrays the opening bytes of a bundle of version v tell of; 0 where they are bad.
+fn opened(s: &[u8], v: Version) -> usize
+    ensures { λ r. ⌜ Opened (sizesOf v) (now (s .entry)) r ⌝ }
+{
+    if s.len() < OPENING_BYTES {
+        return 0;
+    }
+    if !is_marked(s, v) {
+        return 0;
+    }
+    let n = byte_at(s, MARK_BYTES) as usize;
+    if !in_range(n, paper::ARRAYS) {
+        return 0;
+    }
+    n
+}
+
 // The bundle's arrays, or the first refusal in the paper's order.
 pub fn read(s: &[u8]) -> Reading
     ensures { λ r. ⌜ ReadAll (now (s .entry)) r ⌝ }
 {
-    let bad = Refusal {
-        number: 1,
-        place: 0,
-        ordinality: 0,
-    };
-    if s.len() < OPENING_BYTES {
-        return no_reading(bad);
+    let version = version_in(s);
+    let count = opened(s, version);
+    if count == 0 {
+        return no_reading(refuse_at(1, 0, 0));
     }
-    let v = version_in(s);
-    if !is_marked(s, v) {
-        return no_reading(bad);
-    }
-    let n = byte_at(s, MARK_BYTES) as usize;
-    if !in_range(n, paper::ARRAYS) {
-        return no_reading(bad);
-    }
-    let head = no_head();
-    let mut heads = [head; paper::ARRAYS];
-    let mut at = OPENING_BYTES;
+    let z = sizes(version);
+    let mut heads = no_heads();
+    let mut next = OPENING_BYTES;
     let mut i: usize = 0;
-    while i < n {
-        let one = array_at(s, v, at, (i + 1) as u32);
+    while i < count {
+        let k = (i + 1) as u32;
+        let form = form_at(s, version, next);
+        let rank = form.extent.rank;
+        if rank == 0 {
+            return no_reading(refuse_at(1, k, 0));
+        }
+        let at = next + TYPE_BYTES + rank * z.axis;
+        let one = array_of(s, at, k, form);
         if one.refusal.number != 0 {
             return no_reading(one.refusal);
         }
-        let h = one.head;
-        heads[i] = h;
-        at = one.end;
+        let cells = one.cells;
+        heads[i] = Head { form, at, cells };
+        next = at + cells * CELL_BYTES;
         i += 1;
     }
-    if at < s.len() {
-        return no_reading(bad);
+    if next < s.len() {
+        return no_reading(refuse_at(1, 0, 0));
     }
-    let refusal = none();
     Reading {
-        refusal,
-        version: v,
-        count: n,
+        refusal: none(),
+        version,
+        count,
         heads,
     }
 }

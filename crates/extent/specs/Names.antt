@@ -74,7 +74,7 @@ pub record Left (i n : ℕ) : Type 0 where
   pub few : i ≤ halfName
   pub fits : n < 256 ^ (halfName - i)
 
-zeros-append : (a b : List ℕ) → zeros (a ++ b) ≡ (zeros a && zeros b)
+pub zeros-append : (a b : List ℕ) → zeros (a ++ b) ≡ (zeros a && zeros b)
 unfolding zeros
 zeros-append [] b = refl
 zeros-append (x ∷ a) b = ap (λ (y : Bool). eqb x 0 && y) (zeros-append a b) ∙ and-and (eqb x 0) (zeros a) (zeros b)

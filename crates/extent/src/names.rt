@@ -6,7 +6,7 @@ ghost use Prim.Native.Nat.{ℕ, _-_, _≤_};
 ghost use lib.ListN.{take, drop};
 ghost use Rattle.paper.specs.Limits.{mostAxes, halfName, sizesOf};
 ghost use Rattle.paper.specs.Numbers.{leBytes, zeros, alike};
-ghost use Rattle.paper.specs.Axes.{inName, nameRest, lettersOf, goodName, sameName, named, goodNames};
+ghost use Rattle.paper.specs.Axes.{inName, nameRest, lettersOf, goodName, sameName, goodNames};
 ghost use Rattle.paper.specs.Bundle.{namesFit};
 ghost use Rattle.extent.specs.Names.{Left};
 use paper::AXES;
@@ -104,21 +104,6 @@ pub fn names_fit(v: Version, names: [Name; AXES], rank: usize) -> bool
     true
 }
 
-// One of the first `rank` names, from `first` on, is n.
-fn is_named(n: Name, names: [Name; AXES], rank: usize, first: usize) -> bool
-    requires { ⌜ rank ≤ mostAxes ⌝ }
-    ensures { λ r. ⌜ r ≡ named n (drop first (take rank names)) ⌝ }
-{
-    let mut i = first;
-    while i < rank {
-        if same_name(n, names[i]) {
-            return true;
-        }
-        i += 1;
-    }
-    false
-}
-
 // Each of the first `rank` names good, no two equal.
 pub fn good_names(names: [Name; AXES], rank: usize) -> bool
     requires { ⌜ rank ≤ mostAxes ⌝ }
@@ -130,8 +115,12 @@ pub fn good_names(names: [Name; AXES], rank: usize) -> bool
         if !is_name(n) {
             return false;
         }
-        if is_named(n, names, rank, i + 1) {
-            return false;
+        let mut j = i + 1;
+        while j < rank {
+            if same_name(n, names[j]) {
+                return false;
+            }
+            j += 1;
         }
         i += 1;
     }

@@ -1,6 +1,6 @@
 -- Forms judged one after the other: what is known of one, the loop as a record with a law for each event, and what is known of all.
 use Prim.Native.Nat.{ℕ, _+_, _-_, _*_, _≤_, _<_}
-use mathlib.Core.Path.{_≡_, refl, sym, ap, _∙_}
+use mathlib.Core.Path.{_≡_, refl, sym, ap, ap₂, _∙_}
 use mathlib.Core.Bool.{Bool, true, false}
 use mathlib.Core.List.{List, [], _∷_, map}
 use native.Mathlib.Numerals.{add-one}
@@ -11,7 +11,7 @@ use lib.Seq.{drop-drop}
 use Rattle.paper.specs.declared.Sizes.{Sizes}
 use Rattle.paper.specs.declared.Form.{Form}
 use Rattle.paper.specs.declared.Refusal.{Refusal}
-use Rattle.paper.specs.Limits.{mostArrays, mostAxes, typeBytes}
+use Rattle.paper.specs.Limits.{mostArrays, mostAxes, typeBytes, cellBytes}
 use Rattle.paper.specs.Refusals.{refused, refusal, between, badBytes1, badExtent2}
 use Rattle.paper.specs.Numbers.{none?}
 use Rattle.paper.specs.Cells.{isType}
@@ -22,13 +22,13 @@ use Rattle.laws.specs.Loops.{length-first, drop-first-cons}
 use Rattle.laws.specs.Sizes.{Fits}
 use Rattle.laws.specs.Tests.{between-true}
 use Rattle.extent.specs.Rank.{Rank}
-use Rattle.bundle.specs.declared.ArrayRead.{ArrayRead}
 use Rattle.bundle.specs.Axes.{axes-small}
-use Rattle.bundle.specs.Read.{JudgedArray}
+use Rattle.bundle.specs.Read.{headAt, JudgedArray}
 use Rattle.pack.specs.declared.judge.FormJudged.{FormJudged}
 use Rattle.pack.specs.declared.judge.Verdict.{Verdict}
 use Rattle.pack.specs.Put.{names-full}
-use Rattle.pack.specs.Laid.{shapesOf, shapes-length, shapes-few, cellRoom, formBytes, mostBytes, FormPassed, ready-packed, ready-small, ready-long, AllReady, laidBytes, restOf, packed-left}
+use Rattle.pack.specs.Laid.{shapesOf, shapes-length, shapes-few, cellRoom, formBytes, mostBytes, FormPassed}
+use Rattle.pack.specs.Laid.{ready-packed, ready-small, ready-long, AllReady, laidBytes, restOf, packed-left}
 
 -- ---- one form
 
@@ -77,28 +77,37 @@ module _ {z : Sizes} (fits : Fits z) {bs : List ℕ} {from k : ℕ} {form : Form
       unfolding packArray
       form-long e = form-refused (λ y. omega arith) (rw (t, counted z form r b, names-are z form r e))
 
-      module _ (e : namesFit z (take n (form .names)) ≡ true) {o : ArrayRead} (j : JudgedArray bs from k form o) where
-        pub form-bad : (o .refusal .number ≡ 0 → ⊥) → JudgedForm z bs from k form (stopped (o .refusal))
+      module _ (e : namesFit z (take n (form .names)) ≡ true) {c : ℕ} {x : Refusal} (j : JudgedArray bs k (headAt form from c) x) where
+        pub form-bad : (x .number ≡ 0 → ⊥) → JudgedForm z bs from k form (stopped x)
         unfolding packArray
-        form-bad f = form-refused f (rw (t, counted z form r b, names-are z form r e) (sym (j .said) ∙ unless-refused (o .refusal) _ f))
+        form-bad f = form-refused f (rw (t, counted z form r b, names-are z form r e) (sym (j .said) ∙ unless-refused x _ f))
 
         -- an array that was read is ready to be packed
-        pub form-got : length (form .names) ≡ mostAxes → from ≤ length bs → o .refusal .number ≡ 0
-            → JudgedForm z bs from k form (record { refusal = o .refusal; end = o .end; long = typeBytes + n * z .axis + (o .end - from) })
-        form-got m w y =
-            let f = rw (j .held y) at (j .fit y) in
+        pub form-got : length (form .names) ≡ mostAxes → x .number ≡ 0
+            → JudgedForm z bs from k form
+            (record { refusal = x; end = from + c * cellBytes; long = typeBytes + n * z .axis + c * cellBytes })
+        form-got m y =
+            let f = j .fit y in
             let l : cellRoom form ≤ length (drop from bs) = omega (arith, length-drop from bs, f .fits) in
             let v : FormPassed z form (drop from bs) =
-            record { type = t; rank = counted z form r b; short = names-are z form r e; good = f .good; named = names-full form m; fits = l; clean = f .clean } in
-            let p = j .past y in
+            record {
+              type = t;
+              rank = counted z form r b;
+              short = names-are z form r e;
+              good = f .good;
+              named = names-full form m;
+              fits = l;
+              clean = f .clean;
+            } in
+            let p : c * cellBytes ≡ cellRoom form = ap (λ (i : ℕ). i * cellBytes) (f .counted) in
             let s = axes-small z fits n (between-true (z .axes) n b .1) in
             record {
               no = λ f. absurd (f y);
               ready = λ f. v;
-              end = λ f. p;
-              long = λ f. ap (λ (m : ℕ). typeBytes + m * z .axis + (o .end - from)) (r .number) ∙ (omega (arith, ready-long fits v));
+              end = λ f. ap (λ (i : ℕ). from + i) p;
+              long = λ f. ap₂ (λ (i j : ℕ). typeBytes + i * z .axis + j) (r .number) p ∙ sym (ready-long fits v);
               few = omega (arith, s, ready-small fits v .few);
-              room = j .end;
+              room = omega (arith, p, f .fits);
             }
 
 -- ---- arrays in a loop
@@ -118,8 +127,8 @@ pub judging-start : (z : Sizes) (fs : List Form) (bs : List ℕ) → Judging z f
 judging-start z fs bs =
     record { turns = omega arith; few = omega arith; room = omega arith; no = λ x e. e; ready = λ v. v; rest = refl; size = refl }
 
-module _ {z : Sizes} (fits : Fits z) {fs : List Form} {bs : List ℕ} {at long i : ℕ} (v : Judging z fs bs at long i) {f : Form} (e : drop i fs ≡ f ∷ drop (i + 1) fs)
-    {r : FormJudged} (j : JudgedForm z bs at (i + 1) f r) where
+module _ {z : Sizes} (fits : Fits z) {fs : List Form} {bs : List ℕ} {at long i : ℕ} (v : Judging z fs bs at long i)
+    {f : Form} (e : drop i fs ≡ f ∷ drop (i + 1) fs) {r : FormJudged} (j : JudgedForm z bs at (i + 1) f r) where
   judging-refused : (r .refusal .number ≡ 0 → ⊥) → packArrays z 1 (map shapeOf fs) bs ≡ refused (r .refusal)
   unfolding packArrays
   judging-refused h = v .no (r .refusal) (rw (e, j .no h))
@@ -196,7 +205,8 @@ module _ {z : Sizes} (fits : Fits z) {count : ℕ} {forms : List Form} where
         pub all-left : at < length bs → JudgedAll z count forms bs (over (refusal badBytes1 0 0))
         all-left g =
             let y : none? (drop at bs) ≡ false = rw (length-drop at bs) (ne-eqb (length bs - at) 0 (λ e. omega arith)) in
-            all-refused (λ y. omega arith) (λ room. packed-left z fits count forms bs room count-few (n .range) all-ready (rw its-rest at y))
+            all-refused (λ y. omega arith)
+            (λ room. packed-left z fits count forms bs room count-few (n .range) all-ready (rw its-rest at y))
 
         pub all-got : length bs ≤ at → JudgedAll z count forms bs (record { refusal = refusal 0 0 0; long = long })
         unfolding laidBytes

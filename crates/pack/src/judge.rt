@@ -72,8 +72,8 @@ fn form_judged(v: Version, cells: &[u8], from: usize, k: u32, form: Form) -> For
     let refusal = one.refusal;
     FormJudged {
         refusal,
-        end: one.end,
-        long: TYPE_BYTES + rank * z.axis + (one.end - from),
+        end: from + one.cells * paper::CELL_BYTES,
+        long: TYPE_BYTES + rank * z.axis + one.cells * paper::CELL_BYTES,
     }
 }
 

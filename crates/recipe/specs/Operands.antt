@@ -5,12 +5,12 @@ use mathlib.Core.Bool.{Bool, true, false}
 use mathlib.Core.List.{List, [], _∷_, _++_, map}
 use mathlib.Core.Option.{Option, none, some, Option·map}
 use native.Mathlib.Omega.{arith}
-use borrow.Author.Tests.{le-leb, lt-leb, leb-false, eqb-true, eqb-false}
+use borrow.Author.Tests.{le-leb, lt-leb, leb-true, leb-false, eqb-true, eqb-false}
 use lib.Dec.{eqb, leb}
 use lib.ListN.{length, getD, set, replicate, length-set, length-append, length-replicate}
 use lib.Seq.{getD-set-same, getD-set-other}
 use Rattle.paper.specs.declared.Head.{Head}
-use Rattle.paper.specs.Limits.{mostSteps, stepsFrom}
+use Rattle.paper.specs.Limits.{mostArrays, mostSteps, stepsFrom}
 use Rattle.paper.specs.Refusals.{if_then_else_}
 use Rattle.paper.specs.Numbers.{nth}
 use Rattle.paper.specs.Axes.{cells, Shape}
@@ -70,15 +70,6 @@ operand-map f xs ys n = by (leb n stepsFrom)
     by true = nth-mapped f xs n
     by false = nth-mapped f ys (n - stepsFrom)
 
--- past the last number there is nothing, nor under 0
-operand-past : {A : Type 0} (xs ys : List A) (n : ℕ) → stepsFrom + length ys < n → stepsFrom < n → operand xs ys n ≡ none
-unfolding operand
-operand-past xs ys n h l = rw (lt-leb n stepsFrom l) (nth-past ys (n - stepsFrom) (omega arith))
-
-operand-zero : {A : Type 0} (xs ys : List A) → operand xs ys 0 ≡ none
-unfolding operand
-operand-zero xs ys = refl
-
 -- one array more
 module _ {A : Type 0} (xs ys : List A) (x : A) where
   array-last : length xs < stepsFrom → operand (xs ++ (x ∷ [])) ys (suc (length xs)) ≡ some x
@@ -106,17 +97,55 @@ module _ {A : Type 0} (xs ys : List A) (y : A) where
       by true e = refl
       by false e = nth-others ys y (n - stepsFrom) (λ q. let l = leb-false n stepsFrom e in h (omega arith))
 
--- ---- under each number
+-- ---- where it is kept
 
--- where a number stands; under 0, as under every number past the last, there is nothing
-abbrev pub numberIn : ℕ → ℕ
-numberIn n = if leb n (stepsFrom + mostSteps) then n else 0
+-- nothing at 0, then the bundle's arrays, then the results; every number that can name none of these is kept at 0
+abbrev pub slotOf : ℕ → ℕ
+slotOf n = if leb n mostArrays then n else (if leb n stepsFrom then 0 else (if leb n (stepsFrom + mostSteps) then mostArrays + (n - stepsFrom) else 0))
 
--- what stands under each, over these arrays and results
+-- the number that is kept there
+abbrev numberAt : ℕ → ℕ
+numberAt i = if leb i mostArrays then i else stepsFrom + (i - mostArrays)
+
+slot-back : (n : ℕ) → (slotOf n ≡ 0 → ⊥) → numberAt (slotOf n) ≡ n
+slot-back n = by (leb n mostArrays) (leb n stepsFrom) (leb n (stepsFrom + mostSteps)) refl refl
+  where
+    by : (a b c : Bool) → leb n mostArrays ≡ a → leb n stepsFrom ≡ b
+        → ((if a then n else (if b then 0 else (if c then mostArrays + (n - stepsFrom) else 0))) ≡ 0 → ⊥)
+        → numberAt (if a then n else (if b then 0 else (if c then mostArrays + (n - stepsFrom) else 0))) ≡ n
+    by true b c e f h = rw e
+    by false true c e f h = absurd (h refl)
+    by false false true e f h =
+        let l = leb-false n stepsFrom f in
+        rw (lt-leb (mostArrays + (n - stepsFrom)) mostArrays (omega arith)) (omega arith)
+    by false false false e f h = absurd (h refl)
+
+slot-apart : (n k : ℕ) → (slotOf k ≡ 0 → ⊥) → (n ≡ k → ⊥) → slotOf n ≡ slotOf k → ⊥
+slot-apart n k h q e = q (sym (slot-back n (λ z. h (sym e ∙ z))) ∙ ap numberAt e ∙ slot-back k h)
+
+pub slot-few : (n : ℕ) → slotOf n ≤ mostArrays + mostSteps
+slot-few n = by (leb n mostArrays) (leb n stepsFrom) (leb n (stepsFrom + mostSteps)) refl refl
+  where
+    by : (a b c : Bool) → leb n mostArrays ≡ a → leb n (stepsFrom + mostSteps) ≡ c
+        → (if a then n else (if b then 0 else (if c then mostArrays + (n - stepsFrom) else 0))) ≤ mostArrays + mostSteps
+    by true b c e g = let l = leb-true n mostArrays e in omega arith
+    by false true c e g = omega arith
+    by false false true e g = let l = leb-true n (stepsFrom + mostSteps) g in omega arith
+    by false false false e g = omega arith
+
+-- an array's and a result's
+slot-array : (n : ℕ) → n ≤ mostArrays → slotOf n ≡ n
+slot-array n h = rw (le-leb n mostArrays h)
+
+slot-result : (j : ℕ) → 1 ≤ j → j ≤ mostSteps → slotOf (stepsFrom + j) ≡ mostArrays + j
+slot-result j h l =
+    rw (lt-leb (stepsFrom + j) mostArrays (omega arith), lt-leb (stepsFrom + j) stepsFrom (omega arith), le-leb (stepsFrom + j) (stepsFrom + mostSteps) (omega arith))
+    (omega arith)
+
+-- what is kept for each number, over these arrays and results
 pub record Named (arrays results : List Head) (l : List Operand) : Type 0 where
-  pub long : length l ≡ suc (stepsFrom + mostSteps)
-  pub few : length results ≤ mostSteps
-  pub at : (n : ℕ) → getD l n (noOperand false) ≡ under n (operand arrays results n)
+  pub long : length l ≡ suc (mostArrays + mostSteps)
+  pub at : (n : ℕ) → getD l (slotOf n) (noOperand false) ≡ under n (operand arrays results n)
 
 pub getD-same : {A : Type 0} (m n : ℕ) (d : A) → getD (replicate m d) n d ≡ d
 getD-same zero n d = refl
@@ -128,12 +157,11 @@ nth-none zero = refl
 nth-none (suc n) = refl
 
 -- nothing yet
-pub none-named : Named [] [] (replicate (suc (stepsFrom + mostSteps)) (noOperand false))
+pub none-named : Named [] [] (replicate (suc (mostArrays + mostSteps)) (noOperand false))
 unfolding operand
 none-named = record {
-  long = length-replicate (suc (stepsFrom + mostSteps)) (noOperand false);
-  few = omega arith;
-  at = λ n. getD-same (suc (stepsFrom + mostSteps)) n (noOperand false) ∙ ap (under n) (by n (leb n stepsFrom));
+  long = length-replicate (suc (mostArrays + mostSteps)) (noOperand false);
+  at = λ n. getD-same (suc (mostArrays + mostSteps)) (slotOf n) (noOperand false) ∙ ap (under n) (by n (leb n stepsFrom));
 }
   where
     by : (n : ℕ) (b : Bool) → none ≡ (if b then nth {A = Head} [] n else nth {A = Head} [] (n - stepsFrom))
@@ -141,47 +169,41 @@ none-named = record {
     by n false = sym (nth-none (n - stepsFrom))
 
 module _ (arrays results : List Head) (l : List Operand) (v : Named arrays results l) where
-  pub named-in : (n : ℕ) → getD l (numberIn n) (noOperand false) ≡ under n (operand arrays results n)
-  named-in n = by (leb n (stepsFrom + mostSteps)) refl
-    where
-      by : (b : Bool) → leb n (stepsFrom + mostSteps) ≡ b
-          → getD l (if b then n else 0) (noOperand false) ≡ under n (operand arrays results n)
-      by true e = v .at n
-      by false e =
-          let h = leb-false n (stepsFrom + mostSteps) e in
-          v .at 0 ∙ rw (operand-zero arrays results, operand-past arrays results n (omega (arith, v .few)) (omega arith))
-
-  pub named-shape : (n : ℕ) → operand (map shapeIn arrays) (map shapeIn results) n ≡ foundShape (getD l (numberIn n) (noOperand false))
-  named-shape n = operand-map shapeIn arrays results n ∙ sym (under-shape n (operand arrays results n)) ∙ sym (ap foundShape (named-in n))
+  pub named-shape : (n : ℕ) → operand (map shapeIn arrays) (map shapeIn results) n ≡ foundShape (getD l (slotOf n) (noOperand false))
+  named-shape n = operand-map shapeIn arrays results n ∙ sym (under-shape n (operand arrays results n)) ∙ sym (ap foundShape (v .at n))
 
   -- one number changed
-  set-named : (As Rs : List Head) (k : ℕ) (h : Head) → k ≤ stepsFrom + mostSteps → length Rs ≤ mostSteps → operand As Rs k ≡ some h
-      → ((n : ℕ) → (n ≡ k → ⊥) → operand As Rs n ≡ operand arrays results n) → Named As Rs (set l k (placed (sideOf k) h))
-  set-named As Rs k h b f e q =
-      record { long = length-set l k (placed (sideOf k) h) ∙ v .long; few = f; at = λ n. by n (eqb n k) refl }
+  set-named : (As Rs : List Head) (k : ℕ) (h : Head) → (slotOf k ≡ 0 → ⊥) → operand As Rs k ≡ some h
+      → ((n : ℕ) → (n ≡ k → ⊥) → operand As Rs n ≡ operand arrays results n) → Named As Rs (set l (slotOf k) (placed (sideOf k) h))
+  set-named As Rs k h b e q =
+      record { long = length-set l (slotOf k) (placed (sideOf k) h) ∙ v .long; at = λ n. by n (eqb n k) refl }
     where
-      by : (n : ℕ) (t : Bool) → eqb n k ≡ t → getD (set l k (placed (sideOf k) h)) n (noOperand false) ≡ under n (operand As Rs n)
+      by : (n : ℕ) (t : Bool) → eqb n k ≡ t
+          → getD (set l (slotOf k) (placed (sideOf k) h)) (slotOf n) (noOperand false) ≡ under n (operand As Rs n)
       by n true i =
           let j = eqb-true n k i in
-          subst (λ (m : ℕ). getD (set l k (placed (sideOf k) h)) m (noOperand false) ≡ under m (operand As Rs m)) (sym j)
-          (getD-set-same l k (placed (sideOf k) h) (noOperand false) (omega (arith, v .long)) ∙ sym (ap (under k) e))
+          subst (λ (m : ℕ). getD (set l (slotOf k) (placed (sideOf k) h)) (slotOf m) (noOperand false) ≡ under m (operand As Rs m)) (sym j)
+          (getD-set-same l (slotOf k) (placed (sideOf k) h) (noOperand false) (omega (arith, v .long, slot-few k)) ∙ sym (ap (under k) e))
       by n false i =
           let j = eqb-false n k i in
-          getD-set-other l k n (placed (sideOf k) h) (noOperand false) j ∙ v .at n ∙ sym (ap (under n) (q n j))
+          getD-set-other l (slotOf k) (slotOf n) (placed (sideOf k) h) (noOperand false) (slot-apart n k b j) ∙ v .at n ∙ sym (ap (under n) (q n j))
 
-  pub array-more : (h : Head) → length arrays < stepsFrom
+  pub array-more : (h : Head) → length arrays < mostArrays
       → Named (arrays ++ (h ∷ [])) results (set l (suc (length arrays)) (placed bundleSide h))
   array-more h b =
       let k = suc (length arrays) in
       let e : sideOf k ≡ bundleSide = rw (le-leb k stepsFrom (omega arith)) in
+      let i = slot-array k (omega arith) in
       subst (λ (w : ℕ). Named (arrays ++ (h ∷ [])) results (set l k (placed w h))) e
-      (set-named (arrays ++ (h ∷ [])) results k h (omega arith) (v .few) (array-last arrays results h b) (array-others arrays results h))
+      (subst (λ (j : ℕ). Named (arrays ++ (h ∷ [])) results (set l j (placed (sideOf k) h))) i
+      (set-named (arrays ++ (h ∷ [])) results k h (λ z. omega (arith, sym i ∙ z)) (array-last arrays results h (omega arith)) (array-others arrays results h)))
 
   pub result-more : (h : Head) → length results < mostSteps
-      → Named arrays (results ++ (h ∷ [])) (set l (stepsFrom + suc (length results)) (placed workSide h))
+      → Named arrays (results ++ (h ∷ [])) (set l (mostArrays + suc (length results)) (placed workSide h))
   result-more h b =
       let k = stepsFrom + suc (length results) in
       let e : sideOf k ≡ workSide = rw (lt-leb k stepsFrom (omega arith)) in
-      subst (λ (w : ℕ). Named arrays (results ++ (h ∷ [])) (set l k (placed w h))) e
-      (set-named arrays (results ++ (h ∷ [])) k h (omega arith) (omega (arith, length-append results (h ∷ [])))
-      (result-last arrays results h) (result-others arrays results h))
+      let i = slot-result (suc (length results)) (omega arith) (omega arith) in
+      subst (λ (w : ℕ). Named arrays (results ++ (h ∷ [])) (set l (mostArrays + suc (length results)) (placed w h))) e
+      (subst (λ (j : ℕ). Named arrays (results ++ (h ∷ [])) (set l j (placed (sideOf k) h))) i
+      (set-named arrays (results ++ (h ∷ [])) k h (λ z. omega (arith, sym i ∙ z)) (result-last arrays results h) (result-others arrays results h)))

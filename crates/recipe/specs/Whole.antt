@@ -15,7 +15,7 @@ use Rattle.paper.specs.declared.Sizes.{Sizes}
 use Rattle.paper.specs.declared.Head.{Head}
 use Rattle.paper.specs.declared.Reading.{Reading}
 use Rattle.paper.specs.declared.Refusal.{Refusal}
-use Rattle.paper.specs.Limits.{mostArrays, mostSteps, mostCells, stepsFrom, cellBytes, sizesOf}
+use Rattle.paper.specs.Limits.{mostArrays, mostSteps, mostCells, cellBytes, sizesOf}
 use Rattle.paper.specs.Refusals.{Res, got, refused, refusal, unknown4, between}
 use Rattle.paper.specs.Numbers.{part, total}
 use Rattle.paper.specs.Recipe.{Planned, planStep, planSteps, planRecipe, cellsOfAll}
@@ -43,7 +43,7 @@ abbrev pub arraysOf : Plan → List Head
 arraysOf p = headsFrom 1 (p .arrays) (p .operands)
 
 abbrev pub resultsOf : Plan → List Head
-resultsOf p = headsFrom (suc stepsFrom) (p .count) (p .operands)
+resultsOf p = headsFrom (suc mostArrays) (p .count) (p .operands)
 
 abbrev pub headsOf : Plan → List StepHead
 headsOf p = take (p .count) (p .steps)
@@ -105,7 +105,7 @@ emptyPlan x v = record {
   count = 0;
   cells = 0;
   steps = replicate mostSteps noStep;
-  operands = replicate (suc (stepsFrom + mostSteps)) (noOperand false);
+  operands = replicate (suc (mostArrays + mostSteps)) (noOperand false);
 }
 
 abbrev pub noPlan : Refusal → Plan
@@ -128,7 +128,7 @@ pub record Begun (R : Reading) (p : Plan) : Type 0 where
   pub cells : p .cells ≡ 0
   pub long : length (p .steps) ≡ mostSteps
   pub turns : p .arrays ≤ R .count
-  pub wide : length (p .operands) ≡ suc (stepsFrom + mostSteps)
+  pub wide : length (p .operands) ≡ suc (mostArrays + mostSteps)
   pub same : arraysOf p ≡ take (p .arrays) (R .heads)
   pub named : Named (arraysOf p) [] (p .operands)
   pub small : AllSmall (R .version) (p .operands)
@@ -141,10 +141,10 @@ begun-none R p e = rw e (record {
   cells = refl;
   long = length-replicate mostSteps noStep;
   turns = omega arith;
-  wide = length-replicate (suc (stepsFrom + mostSteps)) (noOperand false);
+  wide = length-replicate (suc (mostArrays + mostSteps)) (noOperand false);
   same = refl;
   named = none-named;
-  small = λ n. rw (getD-same (suc (stepsFrom + mostSteps)) n (noOperand false)) (fitting-none (R .version));
+  small = λ n. rw (getD-same (suc (mostArrays + mostSteps)) n (noOperand false)) (fitting-none (R .version));
 })
 
 -- one array more
@@ -190,7 +190,7 @@ pub record Loop (u : Version) (s : List ℕ) (n : ℕ) (p : Plan) : Type 0 where
   pub few : n ≤ mostSteps
   pub room : n * sizesOf u .step ≤ length s
   pub long : length (p .steps) ≡ mostSteps
-  pub wide : length (p .operands) ≡ suc (stepsFrom + mostSteps)
+  pub wide : length (p .operands) ≡ suc (mostArrays + mostSteps)
   pub most : p .cells ≤ p .count * mostCells
   pub arrays : p .arrays ≤ mostArrays
   pub none : p .refusal ≡ refusal 0 0 0
@@ -234,7 +234,7 @@ withStep p o = record {
   count = p .count + 1;
   cells = p .cells + o .result .cells;
   steps = set (p .steps) (p .count) (o .step);
-  operands = set (p .operands) (stepsFrom + (p .count + 1)) (placed workSide (o .result));
+  operands = set (p .operands) (mostArrays + (p .count + 1)) (placed workSide (o .result));
 }
 
 total-more : (l : List ℕ) (n : ℕ) → total (l ++ (n ∷ [])) ≡ total l + n
@@ -277,7 +277,7 @@ module _ (u : Version) (s : List ℕ) (n : ℕ) (p : Plan) (v : Loop u s n p) (h
     x = placed workSide (o .result)
 
     abbrev at : ℕ
-    at = stepsFrom + (i + 1)
+    at = mostArrays + (i + 1)
 
     here : at < length (p .operands)
     here = omega (arith, v .few, v .wide)
@@ -286,10 +286,10 @@ module _ (u : Version) (s : List ℕ) (n : ℕ) (p : Plan) (v : Loop u s n p) (h
     arrays-same = heads-same 1 (p .arrays) (p .operands) at x (omega (arith, v .arrays))
 
     results-more : resultsOf (withStep p o) ≡ resultsOf p ++ (o .result ∷ [])
-    results-more = heads-more (suc stepsFrom) i (p .operands) at x (omega arith) here
+    results-more = heads-more (suc mostArrays) i (p .operands) at x (omega arith) here
 
     results-many : length (resultsOf p) ≡ i
-    results-many = heads-many (suc stepsFrom) i (p .operands) at x (omega (arith, here))
+    results-many = heads-many (suc mostArrays) i (p .operands) at x (omega (arith, here))
 
     heads-long : length (headsOf p) ≡ i
     heads-long = length-take-le i (p .steps) (omega (arith, v .few, v .long))
@@ -315,7 +315,7 @@ module _ (u : Version) (s : List ℕ) (n : ℕ) (p : Plan) (v : Loop u s n p) (h
     pub loop-more : Loop u s n (withStep p o)
     loop-more =
         let k = w .kept y in
-        let f : stepsFrom + suc (length (resultsOf p)) ≡ at = omega (arith, results-many) in
+        let f : mostArrays + suc (length (resultsOf p)) ≡ at = omega (arith, results-many) in
         let q : p .cells ≡ 0 + cellsIn (resultsOf p) = omega (arith, v .sum) in
         record {
           version = v .version;
@@ -373,7 +373,7 @@ module _ {bs : List ℕ} {p : Plan} (v : Laid bs p) where
   heads-count = length-take-le (p .count) (p .steps) (omega (arith, v .few, v .long))
 
   pub results-count : length (resultsOf p) ≡ p .count
-  results-count = heads-many (suc stepsFrom) (p .count) (p .operands) 0 (noOperand false) (omega (arith, v .few, v .named .long))
+  results-count = heads-many (suc mostArrays) (p .count) (p .operands) 0 (noOperand false) (omega (arith, v .few, v .named .long))
 
   pub steps-count : length (stepsOf bs p) ≡ p .count
   steps-count = length-zipped (plannedOf bs) (headsOf p) (resultsOf p) (heads-count ∙ sym results-count) ∙ heads-count
@@ -384,12 +384,12 @@ module _ {bs : List ℕ} {p : Plan} (v : Laid bs p) where
 
   module _ (j : ℕ) (h : j < p .count) where
     -- the result of step j, from 0, stands under its number
-    pub result-there : getD (resultsOf p) j noHead ≡ getD (p .operands) (stepsFrom + (j + 1)) (noOperand false) .head
+    pub result-there : getD (resultsOf p) j noHead ≡ getD (p .operands) (mostArrays + (j + 1)) (noOperand false) .head
     result-there =
-        let e : suc stepsFrom + j ≡ stepsFrom + (j + 1) = omega arith in
-        getD-mapped (λ (o : Operand). o .head) (take (p .count) (drop (suc stepsFrom) (p .operands))) j (noOperand false) noHead
-        (omega (arith, results-count, length-map (take (p .count) (drop (suc stepsFrom) (p .operands))) (λ (o : Operand). o .head)))
-        ∙ ap (λ (o : Operand). o .head) (getD-take (p .count) (drop (suc stepsFrom) (p .operands)) j (noOperand false) h ∙ getD-drop (suc stepsFrom) (p .operands) j (noOperand false))
+        let e : suc mostArrays + j ≡ mostArrays + (j + 1) = omega arith in
+        getD-mapped (λ (o : Operand). o .head) (take (p .count) (drop (suc mostArrays) (p .operands))) j (noOperand false) noHead
+        (omega (arith, results-count, length-map (take (p .count) (drop (suc mostArrays) (p .operands))) (λ (o : Operand). o .head)))
+        ∙ ap (λ (o : Operand). o .head) (getD-take (p .count) (drop (suc mostArrays) (p .operands)) j (noOperand false) h ∙ getD-drop (suc mostArrays) (p .operands) j (noOperand false))
         ∙ ap (λ (i : ℕ). getD (p .operands) i (noOperand false) .head) e
 
     pub step-there : (d : Planned) → getD (stepsOf bs p) j d ≡ plannedOf bs (getD (p .steps) j noStep) (getD (resultsOf p) j noHead)

@@ -1,5 +1,5 @@
-// A recipe judged as the paper does: its length, then each step in turn. The plan knows every array that a step can name, the bundle's
-// and the results, each under its operand's number: its type, extent and maximum, where its cells lie, and how many they are.
+// A recipe judged as the paper does: its length, then each step in turn. The plan keeps every array that a step can name, the bundle's
+// and the results: its type, extent and maximum, where its cells lie, and how many they are.
 pub mod operands;
 pub mod steps;
 
@@ -12,12 +12,12 @@ ghost use Rattle.paper.specs.Refusals.{between};
 ghost use Rattle.recipe.specs.Whole.{emptyPlan, noPlan, GoodArrays, Begun, PlannedAll};
 use crate::operands::in_work;
 use crate::operands::no_operand;
-use crate::operands::numbered;
+use crate::operands::slot_of;
 use crate::steps::no_step;
 use crate::steps::plan_step;
+use paper::ARRAYS;
 use paper::CELL_BYTES;
 use paper::Head;
-use paper::RESULTS;
 use paper::Reading;
 use paper::Refusal;
 use paper::STEPS;
@@ -37,8 +37,8 @@ pub struct Operand {
     pub head: Head,
 }
 
-// The bundle's version and the number of its arrays; the steps planned, the first `count` of these; the number of cells of all their results; and what
-// stands under each operand's number: from 1 on the arrays, from 17 on the results.
+// The bundle's version and the number of its arrays; the steps planned, the first `count` of these; the number of cells of all their
+// results; and what steps can name: nothing at 0, then the arrays, and the results behind the most arrays that a bundle has.
 pub struct Plan {
     pub refusal: Refusal,
     pub version: Version,
@@ -46,7 +46,7 @@ pub struct Plan {
     pub count: usize,
     pub cells: usize,
     pub steps: [StepHead; STEPS],
-    pub operands: [Operand; RESULTS + STEPS + 1],
+    pub operands: [Operand; ARRAYS + STEPS + 1],
 }
 
 // ---- no step yet
@@ -58,7 +58,7 @@ fn empty_plan(refusal: Refusal, version: Version) -> Plan
     let step = no_step();
     let operand = no_operand(false);
     let steps = [step; STEPS];
-    let operands = [operand; RESULTS + STEPS + 1];
+    let operands = [operand; ARRAYS + STEPS + 1];
     Plan {
         refusal,
         version,
@@ -126,11 +126,11 @@ pub fn plan_recipe(reading: Reading, s: &[u8]) -> Plan
     while plan.count < n {
         let k = plan.count;
         let next = k + 1;
-        let result_at = RESULTS + next;
+        let result_at = ARRAYS + next;
         let base = k * long;
         let one = plan_step(
-            plan.operands[numbered(s[base + 1])],
-            plan.operands[numbered(s[base + 2])],
+            plan.operands[slot_of(s[base + 1])],
+            plan.operands[slot_of(s[base + 2])],
             v,
             base,
             plan.cells * CELL_BYTES,

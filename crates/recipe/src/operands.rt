@@ -1,13 +1,14 @@
-// What stands under an operand's number: nothing, one of the bundle's arrays, or a step's result.
+// What stands under an operand's number: nothing, one of the bundle's arrays, or a step's result; and where a plan keeps it.
 ghost use mathlib.Core.Path.{_≡_};
 ghost use mathlib.Core.Bool.{true};
 ghost use Prim.Native.Nat.{_+_, _≤_};
-ghost use Rattle.paper.specs.Limits.{stepsFrom, mostSteps};
+ghost use Rattle.paper.specs.Limits.{mostArrays, mostSteps};
 ghost use Rattle.paper.specs.Refusals.{if_then_else_};
 ghost use Rattle.quick.specs.Operands.{workSide};
-ghost use Rattle.recipe.specs.Operands.{noOperand, placed, numberIn};
+ghost use Rattle.recipe.specs.Operands.{noOperand, placed, slotOf};
 use crate::Operand;
 use bundle::no_head;
+use paper::ARRAYS;
 use paper::Head;
 use paper::RESULTS;
 use paper::STEPS;
@@ -47,13 +48,19 @@ pub fn used_b(used: bool, b: Operand) -> Operand
     no_operand(true)
 }
 
-// Where operand n stands; under 0, as under every number past the last, there is nothing.
-pub fn numbered(n: u8) -> usize
-    ensures { λ r. ⌜ (r ≡ numberIn n) × (r ≤ stepsFrom + mostSteps) ⌝ }
+// Where a plan keeps what operand n names; at 0 there is nothing.
+pub fn slot_of(n: u8) -> usize
+    ensures { λ r. ⌜ (r ≡ slotOf n) × (r ≤ mostArrays + mostSteps) ⌝ }
 {
     let i = n as usize;
-    if i <= RESULTS + STEPS {
+    if i <= ARRAYS {
         return i;
+    }
+    if i <= RESULTS {
+        return 0;
+    }
+    if i <= RESULTS + STEPS {
+        return ARRAYS + (i - RESULTS);
     }
     0
 }

@@ -15,7 +15,7 @@ use Rattle.paper.specs.declared.Cell.the-variants.{Empty}
 use Rattle.paper.specs.declared.Head.{Head}
 use Rattle.paper.specs.declared.Reading.{Reading}
 use Rattle.paper.specs.declared.Refusal.{Refusal}
-use Rattle.paper.specs.Limits.{stepsFrom, cellBytes, limitBytes, BOOLEAN, sizesOf}
+use Rattle.paper.specs.Limits.{mostArrays, cellBytes, limitBytes, BOOLEAN, sizesOf}
 use Rattle.paper.specs.Refusals.{got, refused, refusal, between, unfit7, smallWork10, badPage11}
 use Rattle.paper.specs.Numbers.{lastOf}
 use Rattle.paper.specs.Axes.{cells, Array}
@@ -123,7 +123,7 @@ module _ (B bs : List ℕ) (R : Reading) (P : Plan) (r : ReadAll B R) where
 
 -- the head of the last result, as the code finds it
 abbrev pub lastIn : Plan → Head
-lastIn P = getD (P .operands) (stepsFrom + P .count) past .head
+lastIn P = getD (P .operands) (mostArrays + P .count) past .head
 
 pub last-is : {A : Type 0} (d e : A) (l : List A) → 1 ≤ length l → lastOf d l ≡ getD l (length l - 1) e
 unfolding lastOf
@@ -143,9 +143,9 @@ module _ {bs : List ℕ} {P : Plan} (v : Laid bs P) (some : 1 ≤ P .count) wher
 
   pub last-there : getD (resultsOf P) j noHead ≡ lastIn P
   last-there =
-      let e : stepsFrom + (j + 1) ≡ stepsFrom + P .count = omega arith in
+      let e : mostArrays + (j + 1) ≡ mostArrays + P .count = omega arith in
       result-there v j before ∙ ap (λ (i : ℕ). getD (P .operands) i (noOperand false) .head) e
-      ∙ ap (λ (o : Operand). o .head) (getD-any (P .operands) (stepsFrom + P .count) (noOperand false) past (omega (arith, v .few, v .named .long)))
+      ∙ ap (λ (o : Operand). o .head) (getD-any (P .operands) (mostArrays + P .count) (noOperand false) past (omega (arith, v .few, v .named .long)))
 
   pub last-laid : ResultLaid (P .version) bs (cellsOfAll (take j (stepsOf bs P)) * cellBytes) (getD (P .steps) j noStep) (lastIn P)
   last-laid = rw last-there at (laid-there v j before)

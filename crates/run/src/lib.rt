@@ -18,6 +18,7 @@ use extent::rank_of;
 use listing::list;
 use pack::put::put_head;
 use pack::put::whole_head;
+use paper::ARRAYS;
 use paper::BOOLEAN;
 use paper::CELL_BYTES;
 use paper::Foreseen;
@@ -27,7 +28,6 @@ use paper::NumberAnswer;
 use paper::Ordinality;
 use paper::PageAnswer;
 use paper::PlanAnswer;
-use paper::RESULTS;
 use paper::Refusal;
 use recipe::Plan;
 use recipe::no_plan;
@@ -126,7 +126,7 @@ pub fn plan(bundle: &[u8], recipe: &[u8]) -> PlanAnswer
     if plan.refusal.number != 0 {
         return PlanAnswer::Refused(plan.refusal);
     }
-    let operand = plan.operands[RESULTS + plan.count];
+    let operand = plan.operands[ARRAYS + plan.count];
     PlanAnswer::Got(Foreseen {
         total: plan.cells as u32,
         kind: operand.head.form.kind,
@@ -149,7 +149,7 @@ pub fn extent(bundle: &[u8], recipe: &[u8], head: &mut [u8]) -> NumberAnswer
     if head.len() < long {
         return NumberAnswer::Refused(refuse(14, 0));
     }
-    let operand = plan.operands[RESULTS + plan.count];
+    let operand = plan.operands[ARRAYS + plan.count];
     clear(head, long);
     put_head(v, operand.head.form, head, 0);
     NumberAnswer::Got(long as u32)
@@ -199,7 +199,7 @@ pub fn page_rows(
     if plan.refusal.number != 0 {
         return no_page(plan.refusal);
     }
-    let last = plan.operands[RESULTS + plan.count];
+    let last = plan.operands[ARRAYS + plan.count];
     let bytes = plan.cells * CELL_BYTES;
     let unfit = page_refusal(last.head, plan.count, bytes, work.len(), start, rows.len());
     if unfit.number != 0 {

@@ -6,9 +6,10 @@ use mathlib.Core.List.{List, [], _∷_, _++_}
 use native.Mathlib.Nat.{mul-comm, mul-le-mul-right, le-trans, le-of-eq}
 use native.Mathlib.Omega.{arith}
 use native.Mathlib.Numerals.{add-one}
+use borrow.Author.Tests.{eqb-true, eqb-false, eq-eqb, ne-eqb}
 use lib.Dec.{eqb}
 use lib.ListN.{drop, length, getD, length-drop, length-take}
-use lib.Seq.{drop-cons, take-all}
+use lib.Seq.{drop-cons, drop-drop, take-add, take-all}
 use Rattle.paper.specs.declared.Sizes.{Sizes}
 use Rattle.paper.specs.declared.Operation.{Operation}
 use Rattle.paper.specs.declared.Operation.the-variants.{Moves, Works}
@@ -16,11 +17,12 @@ use Rattle.paper.specs.declared.Move.the-variants.{Trim, Slice, Reshape, Shift,
 use Rattle.paper.specs.declared.Work.the-variants.{Pair, Scalar, Single}
 use Rattle.paper.specs.Limits.{pairBytes, limitBytes, wordBytes, scalarAt}
 use Rattle.paper.specs.Refusals.{if_then_else_, between}
-use Rattle.paper.specs.Numbers.{part, zeros}
+use Rattle.paper.specs.Numbers.{leOf, part, zeros}
 use Rattle.paper.specs.Recipe.{Step, uses, unusedZero, axisIn}
 use Rattle.positions.specs.Runs.{part-part}
 use Rattle.laws.specs.Sizes.{Fits}
-use Rattle.laws.specs.Tests.{and-and, and-none, and-true}
+use Rattle.laws.specs.Tests.{and-none, and-true}
+use Rattle.extent.specs.Names.{zeros-append}
 use Rattle.step.specs.declared.unused.Used.{Used}
 
 abbrev pub usedAs : Bool → Bool → Bool → ℕ → Used
@@ -95,10 +97,25 @@ module _ (s : List ℕ) (to i : ℕ) where
   unfolding zeros
   zeros-end h = let e : to - i ≡ 0 = omega arith in rw e
 
-zeros-append : (a b : List ℕ) → zeros (a ++ b) ≡ (zeros a && zeros b)
+-- a number is 0 where its bytes are
+zeros-number : (bs : List ℕ) → zeros bs ≡ eqb (leOf bs) 0
 unfolding zeros
-zeros-append [] b = refl
-zeros-append (x ∷ a) b = ap (λ (y : Bool). eqb x 0 && y) (zeros-append a b) ∙ and-and (eqb x 0) (zeros a) (zeros b)
+zeros-number [] = refl
+zeros-number (b ∷ bs) = rw (zeros-number bs) (by (eqb b 0) (eqb (leOf bs) 0) refl refl)
+  where
+    by : (x y : Bool) → eqb b 0 ≡ x → eqb (leOf bs) 0 ≡ y → (x && y) ≡ eqb (b + 256 * leOf bs) 0
+    by true true p q = let m = eqb-true b 0 p in let n = eqb-true (leOf bs) 0 q in sym (eq-eqb (b + 256 * leOf bs) 0 (omega arith))
+    by true false p q = let n = eqb-false (leOf bs) 0 q in sym (ne-eqb (b + 256 * leOf bs) 0 (λ z. n (omega arith)))
+    by false y p q = let m = eqb-false b 0 p in sym (ne-eqb (b + 256 * leOf bs) 0 (λ z. m (omega arith)))
+
+-- eight bytes more
+pub zeros-word : (s : List ℕ) (to i : ℕ) → wordBytes ≤ to - i
+    → zeros (part i (to - i) s) ≡ (eqb (leOf (part i wordBytes s)) 0 && zeros (part (i + wordBytes) (to - (i + wordBytes)) s))
+zeros-word s to i h =
+    let e : to - i ≡ wordBytes + (to - (i + wordBytes)) = omega arith in
+    ap (λ (n : ℕ). zeros (part i n s)) e ∙ ap zeros (take-add wordBytes (to - (i + wordBytes)) (drop i s))
+    ∙ zeros-append (part i wordBytes s) _
+    ∙ rw (zeros-number (part i wordBytes s), drop-drop wordBytes i s) refl
 
 -- ---- the bytes of the detail at `at` that are not used
 

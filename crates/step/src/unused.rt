@@ -13,6 +13,7 @@ ghost use Rattle.positions.specs.Runs.{Holds};
 ghost use Rattle.step.specs.Steps.{detailOf, stepIn};
 ghost use Rattle.step.specs.Using.{usedAs, usedBy, unusedOf, unusedTested};
 use crate::StepHead;
+use cell::bytes::word;
 use paper::LIMIT_BYTES;
 use paper::Move;
 use paper::Operation;
@@ -85,12 +86,18 @@ pub fn used_by(op: Operation, v: Version, n: usize) -> Used
     }
 }
 
-// The bytes from `from` on, up to `to`, are zero.
+// The bytes from `from` on, up to `to`, are zero: eight at a time, then one after the other.
 fn zero_between(s: &[u8], from: usize, to: usize) -> bool
-    requires { ⌜ to ≤ length (now s) ⌝ }
+    requires { ⌜ (from ≤ to) × (to ≤ length (now s)) ⌝ }
     ensures { λ r. ⌜ r ≡ zeros (part from (to - from) (now (s .entry))) ⌝ }
 {
     let mut i = from;
+    while WORD_BYTES <= to - i {
+        if word(s, i) != 0 {
+            return false;
+        }
+        i += WORD_BYTES;
+    }
     while i < to {
         if s[i] != 0 {
             return false;

@@ -11,7 +11,7 @@ use lib.Dec.{eqb, leb}
 use lib.ListN.{length, getD, take, drop, length-map, length-take, length-drop}
 use lib.Seq.{getD-take, take-take, length-take-le}
 use Rattle.paper.specs.declared.Head.{Head}
-use Rattle.paper.specs.Limits.{stepsFrom, mostSteps, cellBytes, scalarAt, wordBytes}
+use Rattle.paper.specs.Limits.{mostArrays, mostSteps, stepsFrom, cellBytes, scalarAt, wordBytes}
 use Rattle.paper.specs.Refusals.{if_then_else_}
 use Rattle.paper.specs.Numbers.{leOf, part, nth}
 use Rattle.paper.specs.Axes.{Shape, Array}
@@ -35,7 +35,7 @@ use Rattle.step.specs.Steps.{detailOf}
 use Rattle.quick.specs.Operands.{bundleSide, workSide}
 use Rattle.recipe.specs.declared.Operand.{Operand}
 use Rattle.recipe.specs.declared.Plan.{Plan}
-use Rattle.recipe.specs.Operands.{noOperand, placed, shapeIn, no-shape}
+use Rattle.recipe.specs.Operands.{noOperand, placed, shapeIn, no-shape, slotOf, slot-few}
 use Rattle.recipe.specs.Stepped.{noStep, plannedOf, ResultLaid}
 use Rattle.recipe.specs.Whole.{arraysOf, resultsOf, stepsOf, Laid, results-count, steps-count, result-there, step-there, laid-there}
 use Rattle.values.specs.declared.Turn.{Turn}
@@ -77,14 +77,6 @@ some-mapped : {A C : Type 0} (f : A → C) (o : Option A) (y : C) → Option·ma
 some-mapped f none y e = absurd (no-none y e)
 some-mapped f (some x) y e = (x, refl, some-one (f x) y e)
 
-operand-few : {A : Type 0} (xs ys : List A) (n : ℕ) (x : A) → operand xs ys n ≡ some x → n ≤ stepsFrom + length ys
-unfolding operand
-operand-few xs ys n x = by (leb n stepsFrom) refl
-  where
-    by : (b : Bool) → leb n stepsFrom ≡ b → (if b then nth xs n else nth ys (n - stepsFrom)) ≡ some x → n ≤ stepsFrom + length ys
-    by true e q = omega (arith, leb-true n stepsFrom e)
-    by false e q = omega (arith, nth-is ys (n - stepsFrom) x q .last)
-
 whole-take : (As : List Array) (j : ℕ) → AllWhole As → AllWhole (take j As)
 whole-take As zero h i b = absurd (omega arith)
 whole-take [] (suc j) h i b = absurd (omega arith)
@@ -108,9 +100,9 @@ past = record { found = false; which = 0; head = record { form = record { kind =
 abbrev pub turnIn : Plan → ℕ → Turn
 turnIn P s = record {
   step = getD (P .steps) s noStep;
-  a = getD (P .operands) (getD (P .steps) s noStep .a) past;
-  b = getD (P .operands) (getD (P .steps) s noStep .b) past;
-  result = getD (P .operands) (stepsFrom + (s + 1)) past .head;
+  a = getD (P .operands) (slotOf (getD (P .steps) s noStep .a)) past;
+  b = getD (P .operands) (slotOf (getD (P .steps) s noStep .b)) past;
+  result = getD (P .operands) (mostArrays + (s + 1)) past .head;
 }
 
 -- what is had for B, used or not
@@ -166,7 +158,7 @@ module _ {B bs : List ℕ} {P : Plan} (v : Setting B bs P) {W : List ℕ} {s : �
 
   module _ (n : ℕ) where
     abbrev its : Operand
-    its = getD (P .operands) n (noOperand false)
+    its = getD (P .operands) (slotOf n) (noOperand false)
 
     in-bundle : leb n stepsFrom ≡ true → (h : Head) → nth (arraysOf P) n ≡ some h → Found B As Rs n its (shapeIn h)
     unfolding operand arrayAt
@@ -263,36 +255,15 @@ module _ {B bs : List ℕ} {P : Plan} (v : Setting B bs P) {W : List ℕ} {s : �
             let o : its (p .step .b) ≡ noOperand false = ap its n ∙ v .laid .named .at 0 in
             rw (z, o) (record { shape = q; kept = λ i. nothing 0; other = no-shape; stands = λ u. absurd (no-both false u refl) })
 
-    -- its operands' numbers are numbers of operands
-    first-few : p .step .a ≤ stepsFrom + mostSteps
-    first-few = omega (arith, operand-few As Rs (p .step .a) _ (first .is), d .count, turns, v .laid .few)
-
-    second-few : p .step .b ≤ stepsFrom + mostSteps
-    unfolding unusedZero
-    second-few = by (uses (p .step .operation) .b) refl
-      where
-        by : (b : Bool) → uses (p .step .operation) .b ≡ b → p .step .b ≤ stepsFrom + mostSteps
-        by true e =
-            let f = found (p .step .b) (passes .second) (rw (d .shapes) (rw e at (passes .is-second))) in
-            omega (arith, operand-few As Rs (p .step .b) _ (f .is), d .count, turns, v .laid .few)
-        by false e =
-            let n = eqb-true (p .step .b) 0 (or-left (uses (p .step .operation) .b) (eqb (p .step .b) 0) e (and-left _ _ (passes .tested .unused))) in
-            omega arith
-
-    pub numbers-few : (getD (P .steps) s noStep .a ≤ stepsFrom + mostSteps) × (getD (P .steps) s noStep .b ≤ stepsFrom + mostSteps)
-    numbers-few =
-        let e = step-there (v .laid) s turns noPlanned in
-        (rw (ap (λ (q : Planned). q .step .a) e) at first-few, rw (ap (λ (q : Planned). q .step .b) e) at second-few)
-
     abbrev t : Turn
     t = turnIn P s
 
-    -- it is what stands under the numbers
-    there : (n : ℕ) → n ≤ stepsFrom + mostSteps → getD (P .operands) n past ≡ its n
-    there n h = getD-any (P .operands) n past (noOperand false) (omega (arith, v .laid .named .long))
+    -- it is what is kept there
+    there : (i : ℕ) → i ≤ mostArrays + mostSteps → getD (P .operands) i past ≡ getD (P .operands) i (noOperand false)
+    there i h = getD-any (P .operands) i past (noOperand false) (omega (arith, v .laid .named .long))
 
     result-is : getD (resultsOf P) s noHead ≡ t .result
-    result-is = result-there (v .laid) s turns ∙ ap (λ (o : Operand). o .head) (sym (there (stepsFrom + (s + 1)) (omega (arith, turns, v .laid .few))))
+    result-is = result-there (v .laid) s turns ∙ ap (λ (o : Operand). o .head) (sym (there (mostArrays + (s + 1)) (omega (arith, turns, v .laid .few))))
 
     kept-here : ResultLaid (P .version) bs (cellsOfAll (take s ps) * cellBytes) (t .step) (t .result)
     kept-here = rw result-is at (laid-there (v .laid) s turns)
@@ -304,8 +275,8 @@ module _ {B bs : List ℕ} {P : Plan} (v : Setting B bs P) {W : List ℕ} {s : �
     pub ready : Ready B bs (resultBytes Rs) A Z p t
     ready =
         let e : p ≡ plannedOf bs (t .step) (t .result) = step-there (v .laid) s turns noPlanned ∙ ap (plannedOf bs (t .step)) result-is in
-        let a : t .a ≡ its (p .step .a) = there (t .step .a) (numbers-few .0) ∙ ap (λ (x : Planned). its (x .step .a)) (sym e) in
-        let b : t .b ≡ its (p .step .b) = there (t .step .b) (numbers-few .1) ∙ ap (λ (x : Planned). its (x .step .b)) (sym e) in
+        let a : t .a ≡ its (p .step .a) = there (slotOf (t .step .a)) (slot-few (t .step .a)) ∙ ap (λ (x : Planned). its (x .step .a)) (sym e) in
+        let b : t .b ≡ its (p .step .b) = there (slotOf (t .step .b)) (slot-few (t .step .b)) ∙ ap (λ (x : Planned). its (x .step .b)) (sym e) in
         let i : A .shape ≡ passes .first = ap (λ (X : Array). X .shape) first-is ∙ first .shape in
         record {
           step = ap (λ (x : Planned). x .step) e;
@@ -318,8 +289,8 @@ module _ {B bs : List ℕ} {P : Plan} (v : Setting B bs P) {W : List ℕ} {s : �
           kept = has-b .kept;
           scalar = rw (ap (λ (x : Planned). scalarOf (x .step)) e) (scalar-fits bs (t .step) (v .bytes) (kept-here .detail));
           detail = kept-here .detail;
-          small-first = rw a (v .laid .small (p .step .a) .small);
-          small-second = rw b (v .laid .small (p .step .b) .small);
+          small-first = rw a (v .laid .small (slotOf (p .step .a)) .small);
+          small-second = rw b (v .laid .small (slotOf (p .step .b)) .small);
           small-result = kept-here .small;
           count = kept-here .count;
         }

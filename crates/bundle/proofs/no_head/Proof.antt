@@ -4,7 +4,7 @@ use Rattle.bundle.proofs.no_head.Statement.{statement}
 use Rattle.bundle.proofs.no_head.Tie as tie
 
 returns : tie.Need-returns
-returns c = rw (c .before .before .empty .ensures, c .before .empty2 .ensures, c .no-names .ensures)
+returns c = rw (c .no-form .ensures)
 
 pub no-head-spec : {M : Type 1} → statement M
-no-head-spec = tie.close (tie.spec (λ c κs. search needs) (λ c κs. search needs) (λ c κs. search needs) returns)
+no-head-spec = tie.close (tie.spec (λ c κs. search needs) returns)

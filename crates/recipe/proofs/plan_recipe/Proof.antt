@@ -14,7 +14,7 @@ use Rattle.paper.specs.declared.Version.{Version}
 use Rattle.paper.specs.declared.Sizes.{Sizes}
 use Rattle.paper.specs.declared.Reading.{Reading}
 use Rattle.paper.specs.Refusals.{between}
-use Rattle.paper.specs.Limits.{cellBytes, stepsFrom, mostSteps, sizesOf}
+use Rattle.paper.specs.Limits.{cellBytes, mostArrays, mostSteps, sizesOf}
 use Rattle.paper.specs.Numbers.{part}
 use Rattle.paper.specs.Recipe.{operand, planStep, planSteps}
 use Rattle.paper.specs.Answers.{axesOf}
@@ -23,7 +23,7 @@ use Rattle.laws.specs.Sizes.{fits}
 use Rattle.shape.specs.Names.{names-room}
 use Rattle.recipe.specs.declared.Operand.{Operand}
 use Rattle.recipe.specs.declared.Plan.{Plan}
-use Rattle.recipe.specs.Operands.{noOperand, shapeIn, foundShape, numberIn, named-shape}
+use Rattle.recipe.specs.Operands.{noOperand, shapeIn, foundShape, slotOf, named-shape}
 use Rattle.recipe.specs.Stepped.{Fitting, Answered}
 use Rattle.recipe.specs.Whole.{arraysIn, arraysOf, resultsOf, noPlan, Loop, loop-start, withStep, loop-more, arrays-same, steps-refused, goodLength, length-bad, length-few, step-refused, all-planned}
 use Rattle.recipe.proofs.plan_recipe.Statement.{statement}
@@ -90,13 +90,13 @@ module _ (c : tie.At-loop Inv-loop μ-loop) where
   over = let e = c .before .over-arrays .ensures in c .loop .inv .1 ∙ e .0 .same ∙ ap (λ (k : ℕ). take k (R by .heads)) (e .1)
 
   -- what stands under an operand's number, whatever would stand past the last
-  found : (i : ℕ) (d : Operand) → i ≤ stepsFrom + mostSteps → getD (its .operands) i d ≡ getD (its .operands) i (noOperand false)
+  found : (i : ℕ) (d : Operand) → i ≤ mostArrays + mostSteps → getD (its .operands) i d ≡ getD (its .operands) i (noOperand false)
   found i d h = getD-any (its .operands) i d (noOperand false) (omega (arith, c .loop .inv .0 .wide))
 
-  small-found : (i : ℕ) (d : Operand) → i ≤ stepsFrom + mostSteps → Fitting (v by) (axesOf (getD (its .operands) i d .head .form .extent))
+  small-found : (i : ℕ) (d : Operand) → i ≤ mostArrays + mostSteps → Fitting (v by) (axesOf (getD (its .operands) i d .head .form .extent))
   small-found i d h = rw (found i d h) (c .loop .inv .0 .small i)
 
-  shape-found : (k i : ℕ) (d : Operand) → i ≡ numberIn k → i ≤ stepsFrom + mostSteps
+  shape-found : (k i : ℕ) (d : Operand) → i ≡ slotOf k → i ≤ mostArrays + mostSteps
       → operand (map shapeIn (arraysOf its)) (map shapeIn (resultsOf its)) k ≡ foundShape (getD (its .operands) i d)
   shape-found k i d e h =
       named-shape (arraysOf its) (resultsOf its) (its .operands) (c .loop .inv .0 .named) k
@@ -129,8 +129,8 @@ module _ (c : tie.After-plan-step Inv-loop μ-loop) where
   answered : Answered (v (by loop)) ss (p .cells * cellBytes) (c .plan-step .result)
       (planStep (z (by loop)) (p .count + 1) (map shapeIn (arraysOf p)) (map shapeIn (resultsOf p)) (part (p .count * z (by loop) .step) (z (by loop) .step) ss))
   answered =
-      let a = c .before .before .before .before .before .numbered .ensures in
-      let b = c .before .before .numbered2 .ensures in
+      let a = c .before .before .before .before .before .slot-of .ensures in
+      let b = c .before .before .slot-of2 .ensures in
       subst (λ (w : ℕ). Answered (v (by loop)) ss (p .cells * cellBytes) (c .plan-step .result) (planStep (z (by loop)) (p .count + 1) (map shapeIn (arraysOf p)) (map shapeIn (resultsOf p)) (part (p .count * w) (z (by loop) .step) ss))) (sized (by loop))
       (c .plan-step .ensures .over _ _ (shape-found loop _ _ _ (a .0) (a .1)) (shape-found loop _ _ _ (b .0) (b .1)))
 
@@ -154,7 +154,7 @@ module _ (c : tie.Else2 Inv-loop μ-loop) where
     count = grown .count;
     cells = grown .cells;
     steps = grown .steps;
-    operands = set (p judged .operands) (stepsFrom + (p judged .count + 1)) o;
+    operands = set (p judged .operands) (mostArrays + (p judged .count + 1)) o;
   }
 
 good-length-requires : tie.Need-good-length-requires Inv-loop μ-loop
@@ -183,7 +183,7 @@ plan-step-requires c κs =
     let m = k .before .before .before in
     let w = m .before .before .before in
     let r = step-room w (m .before .before .loop-test .taken) in
-    (small-found w _ _ (m .numbered .ensures .1), (small-found w _ _ (k .numbered2 .ensures .1), omega (arith, r, sized (by w))))
+    (small-found w _ _ (m .slot-of .ensures .1), (small-found w _ _ (k .slot-of2 .ensures .1), omega (arith, r, sized (by w))))
 
 returns-2 : tie.Need-returns-2 Inv-loop μ-loop
 returns-2 c =

@@ -5,12 +5,12 @@ use mathlib.Core.List.{List}
 use native.Mathlib.Omega.{arith}
 use denote.Ref.{now}
 use borrow.Author.Needs.{needs}
-use lib.ListN.{length, take}
+use lib.ListN.{length, getD, take}
 use lib.Seq.{length-take-le}
 use Rattle.paper.specs.declared.Refusal.{Refusal}
 use Rattle.paper.specs.declared.Work.{Work}
 use Rattle.paper.specs.declared.Operation.the-variants.{Works}
-use Rattle.paper.specs.Limits.{cellBytes, wordBytes, scalarAt, mostCells, mostSteps, stepsFrom}
+use Rattle.paper.specs.Limits.{cellBytes, wordBytes, scalarAt, mostCells, mostSteps}
 use Rattle.paper.specs.Numbers.{leOf, part}
 use Rattle.paper.specs.Refusals.{refused, refusal}
 use Rattle.recipe.specs.declared.Plan.{Plan}
@@ -21,7 +21,7 @@ use Rattle.quick.specs.Cells.{answerAt}
 use Rattle.values.specs.declared.Turn.{Turn}
 use Rattle.values.specs.Done.{stepAt, answerTo, Done, StepsDone, CellsDone, run-begins, step-begins, steps-long}
 use Rattle.values.specs.Turns.{pairingOf, Computes}
-use Rattle.values.specs.Found.{arraysAt, turnIn, numbers-few, begins-at, ready}
+use Rattle.values.specs.Found.{arraysAt, past, turnIn, begins-at, ready}
 use Rattle.values.specs.Runs.{InTurn, Asked, few-cells, keeps, room-all, ended, worked-at, worked-on, refuses, untouched, late}
 use Rattle.values.proofs.run_steps.Statement.{statement}
 use Rattle.values.proofs.run_steps.Tie as tie
@@ -42,9 +42,12 @@ abbrev μ-steps : tie.MeasureT-steps
 μ-steps bundle recipe work₀ plan m out₀ s₀ work out s = m - s
 
 -- a step begins
-module _ (c : tie.In-steps Inv-cells μ-cells Inv-steps μ-steps) where
+module _ (c : tie.After-slot-of2 Inv-cells μ-cells Inv-steps μ-steps) where
+  abbrev begins : tie.In-steps Inv-cells μ-cells Inv-steps μ-steps
+  begins = c .before .before .before .before
+
   abbrev start : tie.Start Inv-cells μ-cells Inv-steps μ-steps
-  start = c .before .before .before .before .before .before
+  start = begins .before .before .before .before .before .before
 
   abbrev B : List ℕ
   B = now (start .args .bundle)
@@ -59,25 +62,38 @@ module _ (c : tie.In-steps Inv-cells μ-cells Inv-steps μ-steps) where
   W = now (start .args .work)
 
   abbrev s : ℕ
-  s = c .before .steps .s
+  s = begins .before .steps .s
 
-  abbrev sofar : StepsDone (arraysAt B P) (stepsOf bs P) W s (c .before .steps .work)
-  sofar = c .before .steps .inv .2
+  abbrev sofar : StepsDone (arraysAt B P) (stepsOf bs P) W s (begins .before .steps .work)
+  sofar = begins .before .steps .inv .2
 
   here : s < length (stepsOf bs P)
-  here = omega (arith, steps-count (start .pre .setting .laid), c .steps-test .taken)
+  here = omega (arith, steps-count (start .pre .setting .laid), begins .steps-test .taken)
 
+  -- what it names, as it was found
   abbrev t : Turn
-  t = turnIn P s
+  t = record {
+    step = turnIn P s .step;
+    a = getD (P .operands) (c .before .before .slot-of .result) past;
+    b = getD (P .operands) (c .slot-of2 .result) past;
+    result = turnIn P s .result;
+  }
 
-  numbers : (t .step .a ≤ stepsFrom + mostSteps) × (t .step .b ≤ stepsFrom + mostSteps)
-  numbers = numbers-few (start .pre .setting) (sofar .done) here
+  same : turnIn P s ≡ t
+  same i = record {
+    step = turnIn P s .step;
+    a = getD (P .operands) (sym (c .before .before .slot-of .ensures .0) i) past;
+    b = getD (P .operands) (sym (c .slot-of2 .ensures .0) i) past;
+    result = turnIn P s .result;
+  }
 
   -- it is ready, whatever the work area was
   turned : (X : List ℕ) (d : Done (arraysAt B P) (stepsOf bs P) X s) → InTurn B bs t d
-  turned X d = record { at = begins-at (start .pre .setting) d here; ready = ready (start .pre .setting) d here }
+  turned X d =
+      subst (λ (u : Turn). InTurn B bs u d) same
+      (record { at = begins-at (start .pre .setting) d here; ready = ready (start .pre .setting) d here })
 
-  abbrev asked : Asked B bs (c .before .steps .work) t
+  abbrev asked : Asked B bs (begins .before .steps .work) t
   asked = record {
     arrays = arraysAt B P;
     steps = stepsOf bs P;
@@ -94,24 +110,24 @@ steps-holds c =
     (omega arith, p .pre .setting .laid .few, run-begins _ _ _ (p .pre .room), c .none .ensures)
 
 mul-a : tie.Need-mul-a Inv-cells μ-cells Inv-steps μ-steps
-mul-a c = omega (arith, numbers (c .before .before) .0)
+mul-a c = omega (arith, c .slot-of .ensures .1)
 
 element-copy-out-a : tie.Need-element-copy-out-a Inv-cells μ-cells Inv-steps μ-steps
-element-copy-out-a c = omega (arith, numbers (c .before .before) .0)
+element-copy-out-a c = omega (arith, c .slot-of .ensures .1)
 
 mul-b : tie.Need-mul-b Inv-cells μ-cells Inv-steps μ-steps
-mul-b c = omega (arith, numbers (c .before .before .before .before) .1)
+mul-b c = omega (arith, c .slot-of2 .ensures .1)
 
 element-copy-out-b : tie.Need-element-copy-out-b Inv-cells μ-cells Inv-steps μ-steps
-element-copy-out-b c = omega (arith, numbers (c .before .before .before .before) .1)
+element-copy-out-b c = omega (arith, c .slot-of2 .ensures .1)
 
 begin-cells-requires : tie.Need-begin-cells-requires Inv-cells μ-cells Inv-steps μ-steps
-begin-cells-requires c κs = asked (c .before .before .before .before .before .before .before .before)
+begin-cells-requires c κs = asked (c .before .before .before .before)
 
 -- its first cells are there
 module _ (c : tie.After-begin-cells Inv-cells μ-cells Inv-steps μ-steps) where
-  abbrev its : tie.In-steps Inv-cells μ-cells Inv-steps μ-steps
-  its = c .before .before .before .before .before .before .before .before .before
+  abbrev its : tie.After-slot-of2 Inv-cells μ-cells Inv-steps μ-steps
+  its = c .before .before .before .before .before
 
   begun : CellsDone (sofar its .done) (c .begin-cells .result .count) (c .begin-cells .last .1 .1 .0)
   begun = c .begin-cells .ensures .filled (asked its)
@@ -170,7 +186,7 @@ module _ (c : tie.After-computed Inv-cells μ-cells Inv-steps μ-steps) where
   abbrev turn : tie.In-cells Inv-cells μ-cells Inv-steps μ-steps
   turn = c .before .before .before .before
 
-  abbrev step : tie.In-steps Inv-cells μ-cells Inv-steps μ-steps
+  abbrev step : tie.After-slot-of2 Inv-cells μ-cells Inv-steps μ-steps
   step = its (pairing turn)
 
   abbrev q : Pairing
@@ -193,7 +209,7 @@ add-write-cell c =
 refusal-of-requires : tie.Need-refusal-of-requires Inv-cells μ-cells Inv-steps μ-steps
 refusal-of-requires c κs =
     let x = c .before .before .before in
-    (omega (arith, step x .before .steps .inv .1, step x .steps-test .taken), omega (arith, head (turn x) .cells .inv .2, turn x .cells-test .taken))
+    (omega (arith, begins (step x) .before .steps .inv .1, begins (step x) .steps-test .taken), omega (arith, head (turn x) .cells .inv .2, turn x .cells-test .taken))
 
 -- the cell is stored
 module _ (c : tie.After-write-cell Inv-cells μ-cells Inv-steps μ-steps) where
@@ -219,7 +235,7 @@ cells-again c =
 steps-again : tie.Need-steps-again Inv-cells μ-cells Inv-steps μ-steps
 steps-again c =
     let l = c .before in
-    let i = its (first l) in
+    let i = begins (its (first l)) in
     (omega (arith, i .steps-test .taken), i .before .steps .inv .1, ended (on l) (fill l) (c .cells-test .left) (l .cells .inv .1), l .cells .inv .5 ∙ i .before .steps .inv .3)
 
 same-length : tie.Need-same-length Inv-cells μ-cells Inv-steps μ-steps

@@ -2,7 +2,6 @@
 use Prim.Native.Nat.{ℕ, _*_, _≤_}
 use mathlib.Core.Path.{_≡_, sym, ap, subst, _∙_}
 use mathlib.Core.Bool.{Bool, true}
-use mathlib.Core.List.{List}
 use native.Mathlib.Omega.{arith}
 use borrow.Author.Needs.{needs}
 use borrow.Author.Tests.{not-true, not-false}
@@ -17,6 +16,7 @@ use Rattle.laws.specs.Loops.{length-mapped}
 use Rattle.laws.specs.Sizes.{Fits, fits}
 use Rattle.laws.specs.Tests.{between-true}
 use Rattle.bundle.specs.Axes.{axes-small}
+use Rattle.bundle.specs.Read.{headAt, Fit}
 use Rattle.pack.specs.declared.judge.FormJudged.{FormJudged}
 use Rattle.pack.specs.Judging.{JudgedForm, form-type, form-count, form-long, form-bad, form-got}
 use Rattle.pack.proofs.judge.form_judged.Statement.{statement}
@@ -44,10 +44,12 @@ module _ (c : tie.After-rank-of) where
 
   answers : (r : FormJudged) → JudgedForm z (now (start .args .cells)) (start .args .from) (start .args .k) (start .args .form) r
       → JudgedForm (sizesOf (start .args .v)) (now (start .args .cells)) (start .args .from) (start .args .k) (start .args .form) r
-  answers r h = subst (λ (x : Sizes). JudgedForm x (now (start .args .cells)) (start .args .from) (start .args .k) (start .args .form) r) same h
+  answers r h =
+      subst (λ (x : Sizes). JudgedForm x (now (start .args .cells)) (start .args .from) (start .args .k) (start .args .form) r) same h
 
   -- the names are short, or not, in these sizes
-  short : {b : Bool} → namesFit (sizesOf (start .args .v)) (take n (start .args .form .names)) ≡ b → namesFit z (take n (start .args .form .names)) ≡ b
+  short : {b : Bool} → namesFit (sizesOf (start .args .v)) (take n (start .args .form .names)) ≡ b
+      → namesFit z (take n (start .args .form .names)) ≡ b
   short e = ap (λ (x : Sizes). namesFit x (take n (start .args .form .names))) same ∙ e
 
 -- the type is one
@@ -67,7 +69,9 @@ module _ (c : tie.Else2) where
   ranked = sym (c .before .in-range2 .ensures) ∙ not-false _ (c .if2 .left)
 
   small : n (counted kind) * z (counted kind) .axis ≤ 192
-  small = axes-small (z (counted kind)) (its (counted kind)) (n (counted kind)) (between-true (z (counted kind) .axes) (n (counted kind)) ranked .1)
+  small =
+      axes-small (z (counted kind)) (its (counted kind)) (n (counted kind))
+      (between-true (z (counted kind) .axes) (n (counted kind)) ranked .1)
 
 -- and the names
 module _ (c : tie.Else3) where
@@ -102,7 +106,8 @@ returns-3 c =
     let t = kind r in
     let p = counted t in
     rw (c .form-refused3 .ensures, c .before .refuse3 .ensures)
-    (answers p _ (form-long (its p) (typed t) (p .rank-of .ensures) (ranked r) (short p (sym (q .before .names-fit .ensures) ∙ not-true _ (q .if3 .taken)))))
+    (answers p _ (form-long (its p) (typed t) (p .rank-of .ensures) (ranked r)
+    (short p (sym (q .before .names-fit .ensures) ∙ not-true _ (q .if3 .taken)))))
 
 returns-4 : tie.Need-returns-4
 returns-4 c =
@@ -110,25 +115,37 @@ returns-4 c =
     let e = o .before in
     let t = kind (range e) in
     rw (c .form-refused4 .ensures)
-    (answers (p e) _ (form-bad (its (p e)) (typed t) (p e .rank-of .ensures) (ranked (range e)) (fit e) (o .array-of .ensures) (c .before .if4 .taken)))
+    (answers (p e) _ (form-bad (its (p e)) (typed t) (p e .rank-of .ensures) (ranked (range e)) (fit e) (o .array-of .ensures)
+    (c .before .if4 .taken)))
+
+-- and its cells
+module _ (c : tie.Else4) where
+  abbrev one : tie.After-array-of
+  one = c .before .before
+
+  abbrev e : tie.Else3
+  e = one .before
+
+  held : Fit (now (start (p e) .args .cells)) (headAt (start (p e) .args .form) (start (p e) .args .from) (one .array-of .result .cells))
+  held = one .array-of .ensures .fit (c .if4 .left)
 
 returns-5 : tie.Need-returns-5
 returns-5 c =
-    let o = c .before .before .before .before .before in
-    let e = o .before in
-    let t = kind (range e) in
-    answers (p e) _ (form-got (its (p e)) (typed t) (p e .rank-of .ensures) (ranked (range e)) (fit e) (o .array-of .ensures) (full (p e)) (start (p e) .pre)
-    (c .before .before .before .if4 .left))
+    let g = c .before .before .before .before in
+    let q = p (e g) in
+    let t = kind (range (e g)) in
+    answers q _ (form-got (its q) (typed t) (q .rank-of .ensures) (ranked (range (e g))) (fit (e g)) (one g .array-of .ensures) (full q)
+    (g .if4 .left))
 
 pub form-judged-spec : {M : Type 1} → statement M
 form-judged-spec =
     tie.close
     (tie.spec
-    (λ c κs. tt) (λ c κs. tt) (λ c. search needs) (λ c κs. tt) (λ c κs. tt) (λ c κs. tt) returns (λ c κs. tt) (λ c κs. tt) (λ c κs. tt) returns-2
-    (λ c κs. counted (kind (c .before)) .rank-of .ensures .few) (λ c κs. tt) (λ c κs. tt) returns-3
-    (λ c κs. search needs) (λ c κs. tt) returns-4
-    (λ c. omega (arith, small (range (c .before .before .before .before .before))))
-    (λ c. omega (arith, small (range (c .before .before .before .before .before))))
-    (λ c. omega (arith, c .before .before .before .before .before .array-of .ensures .past (c .before .before .before .if4 .left)))
-    (λ c. let o = c .before .before .before .before .before in
-    omega (arith, o .array-of .ensures .end, small (range (o .before)), start (p (o .before)) .good)) returns-5)
+    (λ c κs. tt) (λ c κs. tt) (λ c. search needs) (λ c κs. tt) (λ c κs. tt) (λ c κs. tt) returns
+    (λ c κs. tt) (λ c κs. tt) (λ c κs. tt) returns-2 (λ c κs. counted (kind (c .before)) .rank-of .ensures .few)
+    (λ c κs. tt) (λ c κs. tt) returns-3 (λ c κs. search needs) (λ c κs. tt) returns-4 (λ c. omega (arith, held (c .before .before) .few))
+    (λ c. let g = c .before .before in omega (arith, held g .fits, held g .counted, start (p (e g)) .good))
+    (λ c. omega (arith, small (range (e (c .before .before .before)))))
+    (λ c. omega (arith, small (range (e (c .before .before .before)))))
+    (λ c. omega (arith, held (c .before .before .before .before) .few))
+    (λ c. let g = c .before .before .before .before in omega (arith, held g .few, small (range (e g)))) returns-5)

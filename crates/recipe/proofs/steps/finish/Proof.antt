@@ -29,7 +29,7 @@ module _ (c : tie.After-good-extent) where
   N = namesAfter (now (start .args .s)) (start .args .step) (start .args .a)
 
   full : length (start .args .a .names) ≡ mostAxes
-  full = search (needs, length-mapped)
+  full = search (needs, length-mapped, start .good .1 .0 .1 .1)
 
   told : axesOf (c .before .before .before .result-extent .result) ≡ E
   told = c .before .before .before .result-extent .ensures
