@@ -32,9 +32,11 @@ use Rattle.bundle.specs.Front.{front-more, blank-more}
 
 -- the first five bytes, one by one; x is the version's number
 abbrev pub fiveBytes : List ℕ → ℕ → Bool
-fiveBytes s x = eqb (getD s 0 0) 82 && (eqb (getD s 1 0) 77 && (eqb (getD s 2 0) 65 && (eqb (getD s 3 0) x && (eqb (getD s 4 0) 0 && true))))
+fiveBytes s x = eqb (getD s 0 0) 82
+    && (eqb (getD s 1 0) 77 && (eqb (getD s 2 0) 65 && (eqb (getD s 3 0) x && (eqb (getD s 4 0) 0 && true))))
 
-marked-by : (v : Version) (s : List ℕ) → markBytes ≤ length s → same (take markBytes s) (mark (sizesOf v)) ≡ fiveBytes s (sizesOf v .version)
+marked-by : (v : Version) (s : List ℕ) → markBytes ≤ length s
+    → same (take markBytes s) (mark (sizesOf v)) ≡ fiveBytes s (sizesOf v .version)
 unfolding alike leBytes sizesOf
 marked-by One s h = ap (λ (l : List ℕ). same l (mark (sizesOf One))) (bytes-at s 0 markBytes h)
 marked-by Two s h = ap (λ (l : List ℕ). same l (mark (sizesOf Two))) (bytes-at s 0 markBytes h)
@@ -68,14 +70,16 @@ module _ (z : Sizes) (v : Fits z) (s : List ℕ) (at : ℕ) where
   name-told n e = e ∙ ap nameFrom (sym (take-take (z .name) (z .axis) (drop at s) (omega (arith, v .axis))))
 
   -- its limits, and its maximum's, come after it
-  pub axis-told : (a : Axis) → a ≡ limited (positionAt (at + z .name) s) (positionAt (at + z .name + limitBytes) s) → a ≡ axisOf z (part at (z .axis) s)
+  pub axis-told : (a : Axis) → a ≡ limited (positionAt (at + z .name) s) (positionAt (at + z .name + limitBytes) s)
+      → a ≡ axisOf z (part at (z .axis) s)
   axis-told a e =
       let f : at + z .name + limitBytes ≡ at + (z .name + limitBytes) = omega arith in
       let p = limit-part (z .name) (omega (arith, v .axis)) in
       let q = ap (λ (j : ℕ). positionAt j s) f ∙ limit-part (z .name + limitBytes) (omega (arith, v .axis)) in
       e ∙ (λ j. record { lo = p j; hi = q j })
 
-  pub maximum-told : (a : Axis) → a ≡ limited (positionAt (at + z .name + pairBytes) s) (positionAt (at + z .name + pairBytes + limitBytes) s)
+  pub maximum-told : (a : Axis) → a ≡ limited (positionAt (at + z .name + pairBytes) s)
+      (positionAt (at + z .name + pairBytes + limitBytes) s)
       → a ≡ maximumOf z (part at (z .axis) s)
   maximum-told a e =
       let f : at + z .name + pairBytes ≡ at + (z .name + pairBytes) = omega arith in
@@ -130,7 +134,9 @@ module _ {C : Type 0} (z : Sizes) (none : C) (f : List ℕ → C) (s : List ℕ)
   filled-all i l h k v =
       let p : i ≡ n = omega arith in
       let q : n - n ≡ 0 = omega arith in
-      let t : take n l ≡ eachAxis z f n (drop at s) = sym (append-nil (take n l)) ∙ ap (λ (j : ℕ). take n l ++ eachAxis z f j (drop (at + n * z .axis) s)) (sym q) ∙ ap (λ (j : ℕ). take j l ++ eachAxis z f (n - j) (drop (at + j * z .axis) s)) (sym p) ∙ v .whole in
+      let t : take n l ≡ eachAxis z f n (drop at s) = sym (append-nil (take n l))
+      ∙ ap (λ (j : ℕ). take n l ++ eachAxis z f j (drop (at + n * z .axis) s)) (sym q)
+      ∙ ap (λ (j : ℕ). take j l ++ eachAxis z f (n - j) (drop (at + j * z .axis) s)) (sym p) ∙ v .whole in
       let b : drop n l ≡ replicate (mostAxes - n) none =
       ap (λ (j : ℕ). drop j l) (sym p) ∙ v .blank ∙ ap (λ (j : ℕ). replicate (mostAxes - j) none) p in
       let r : n ≡ length (eachAxis z f n (drop at s)) = sym (length-each z f n (drop at s)) in

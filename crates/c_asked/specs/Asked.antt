@@ -16,7 +16,7 @@ use Rattle.paper.specs.Refusals.{Res, got, refused, _>>=_, if_then_else_, refus
 use Rattle.paper.specs.Numbers.{leOf, leBytes, signedAt, nth, over}
 use Rattle.paper.specs.Axes.{Shape, shaped}
 use Rattle.paper.specs.Bundle.{versionTold, nameOf, axisOf, maximumOf, eachAxis, readBundle, packed, After, putInto}
-use Rattle.paper.specs.Stretch.{Side, stretch}
+use Rattle.paper.specs.Stretch.{Side, stretchIn}
 use Rattle.paper.specs.Reference.{chosen}
 use Rattle.paper.specs.Totals.{totals}
 use Rattle.pack.specs.Heads.{headLength}
@@ -73,7 +73,7 @@ sideIn z head cells =
 -- the stretch of two such sides, in the version told
 abbrev pub stretchHeads : ℕ → List ℕ → List ℕ → List ℕ → List ℕ → ℕ → ℕ → Res Part
 stretchHeads v leftHead left rightHead right k o =
-    versionTold v >>= (λ z. stretch v (sideIn z leftHead left) (sideIn z rightHead right) k o)
+    versionTold v >>= (λ z. stretchIn z (sideIn z leftHead left) (sideIn z rightHead right) k o)
 
 -- ---- a coordinate
 

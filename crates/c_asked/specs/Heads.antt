@@ -87,7 +87,8 @@ head-shapes z f zero bs = refl
 head-shapes z f (suc n) bs = ap₂ (λ (s : Shape) (l : List Shape). s ∷ l) (head-shape z f bs) (head-shapes z f n (drop (headLength z) bs))
 
 -- the shapes that are packed are the heads'
-pub heads-shapes : (z : Sizes) → Fits z → (heads : List ℕ) (r : Forms) → HeadsIn z heads r → shapesOf (r .count) (r .forms) ≡ headsIn z heads
+pub heads-shapes : (z : Sizes) → Fits z → (heads : List ℕ) (r : Forms) → HeadsIn z heads r
+    → shapesOf (r .count) (r .forms) ≡ headsIn z heads
 heads-shapes z f heads r v =
     let n = r .count in
     let e : length (take n (r .forms)) ≡ n = ap length (v .forms) ∙ each-length (formIn z) (headLength z) n heads in

@@ -114,7 +114,8 @@ unfolding meeting
 past k i [] [] h = refl
 past k i [] (b ∷ F) h = refl
 past k i (a ∷ E) [] h = refl
-past k i (a ∷ E) (b ∷ F) h = rw (ne-eqb i (k .0) (λ e. omega arith)) (ap (λ (t : Bool). sameLimits a b && t) (past k (i + 1) E F (omega arith)))
+past k i (a ∷ E) (b ∷ F) h = rw (ne-eqb i (k .0) (λ e. omega arith))
+    (ap (λ (t : Bool). sameLimits a b && t) (past k (i + 1) E F (omega arith)))
 
 -- a list without the one that stands after n
 abbrev omit : ℕ → List Axis → List Axis

@@ -93,7 +93,8 @@ module _ (R : List ℕ) where
     left : halfName - i ≡ suc (halfName - (i + 1))
     left = omega arith
 
-    pub rest-more : inName (n % 256) ≡ true → nameRest (leBytes (halfName - (i + 1)) (n / 256) ++ R) ≡ nameRest (leBytes (halfName - i) n ++ R)
+    pub rest-more : inName (n % 256) ≡ true → nameRest (leBytes (halfName - (i + 1)) (n / 256) ++ R) ≡ nameRest
+        (leBytes (halfName - i) n ++ R)
     rest-more e = rw left (rest-more-at (halfName - (i + 1)) n e)
 
     pub rest-stop : inName (n % 256) ≡ false → (eqb n 0 && zeros R) ≡ nameRest (leBytes (halfName - i) n ++ R)

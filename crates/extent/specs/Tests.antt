@@ -70,7 +70,8 @@ module _ (N : List Name) (r : ℕ) (h : r ≤ length N) (i : ℕ) where
 
 -- each no longer than a version's names
 module _ (z : Sizes) (N : List Name) (r : ℕ) (h : r ≤ length N) (i : ℕ) where
-  pub fit-up : i < r → namesFit z (drop i (take r N)) ≡ (zeros (drop (z .name) (lettersOf (getD N i noName))) && namesFit z (drop (i + 1) (take r N)))
+  pub fit-up : i < r → namesFit z (drop i (take r N))
+      ≡ (zeros (drop (z .name) (lettersOf (getD N i noName))) && namesFit z (drop (i + 1) (take r N)))
   unfolding namesFit
   fit-up b = rw (left N r h i b)
 

@@ -185,7 +185,8 @@ pub chosen-valid : (bs : List ℕ) (k : ℕ) (A : Array) → Bytes bs → chosen
 unfolding chosen
 chosen-valid bs k A b e =
     let r = bind-got (readBundle bs) (λ As. present (nth As k) (refusal unknown4 k 0)) A e in
-    nth-valid (sizesIn bs) (r .0) k A (bundle-read bs (r .0) b (r .1) .valid .each) (present-got (nth (r .0) k) (refusal unknown4 k 0) A (r .2))
+    nth-valid (sizesIn bs) (r .0) k A (bundle-read bs (r .0) b (r .1) .valid .each)
+    (present-got (nth (r .0) k) (refusal unknown4 k 0) A (r .2))
 
 pub its-axes : (u : Version) (A : Array) → Valid (sizesOf u) A → (1 ≤ length (A .shape .axes)) × (length (A .shape .axes) ≤ mostAxes)
 its-axes u A v = let r = between-true (sizesOf u .axes) (length (A .shape .axes)) (v .rank) in (r .0, le-trans (r .1) (fits u .axes))

@@ -149,7 +149,13 @@ unfolding agree
 gluable k M N E F one last s e =
     let l = eqb-true (length E) (length F) (and-left (asMany E F) _ e) in
     let x = and-right (asMany E F) _ e in
-    record { one = one; first = last; second = omega arith; same = alike-true (without k E) (without k F) (and-right (alike sameName M N) _ x); sound = s }
+    record {
+      one = one;
+      first = last;
+      second = omega arith;
+      same = alike-true (without k E) (without k F) (and-right (alike sameName M N) _ x);
+      sound = s;
+    }
 
 module _ (k : ℕ) (E F : List Axis) (g : Gluable k E F) where
   abbrev pre : List Axis

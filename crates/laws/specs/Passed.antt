@@ -62,7 +62,8 @@ plan-passed z k arrays earlier bs p e =
     let A : Shape = a .0 in
     let B : Shape = b .0 in
     let t = tests-passed z k s A B _ p (b .2) in
-    let r = ensure-got (goodResult (resultOf (z .name) s A B .names) (resultOf (z .name) s A B .axes)) badResult9 k (got (record { step = s; shape = resultOf (z .name) s A B })) p (t .1) in
+    let r = ensure-got (goodResult (resultOf (z .name) s A B .names) (resultOf (z .name) s A B .axes)) badResult9 k
+    (got (record { step = s; shape = resultOf (z .name) s A B })) p (t .1) in
     subst (Passed z arrays earlier) (got-one (record { step = s; shape = resultOf (z .name) s A B }) p (r .1))
     (record {
       first = A;
@@ -77,31 +78,39 @@ plan-passed z k arrays earlier bs p e =
 abbrev shapesOf : List Planned → List Shape
 shapesOf ps = map (λ (p : Planned). p .shape) ps
 
-steps-passed : (z : Sizes) (n k : ℕ) (arrays earlier : List Shape) (bs : List ℕ) (ps : List Planned) → planSteps z k n arrays earlier bs ≡ got ps
+steps-passed : (z : Sizes) (n k : ℕ) (arrays earlier : List Shape) (bs : List ℕ) (ps : List Planned)
+    → planSteps z k n arrays earlier bs ≡ got ps
     → (length ps ≡ n) × ((j : ℕ) (d : Planned) → j < length ps → Passed z arrays (earlier ++ shapesOf (take j ps)) (getD ps j d))
 unfolding planSteps
 steps-passed z zero k arrays earlier bs ps e =
-    subst (λ (l : List Planned). (length l ≡ 0) × ((j : ℕ) (d : Planned) → j < length l → Passed z arrays (earlier ++ shapesOf (take j l)) (getD l j d))) (got-one [] ps e)
+    subst (λ (l : List Planned). (length l ≡ 0)
+    × ((j : ℕ) (d : Planned) → j < length l → Passed z arrays (earlier ++ shapesOf (take j l)) (getD l j d))) (got-one [] ps e)
     (refl, λ j d h. absurd (omega arith))
 steps-passed z (suc n) k arrays earlier bs ps e =
     let a = bind-got (planStep z k arrays earlier (take (z .step) bs)) _ ps e in
     let b = bind-got (planSteps z (k + 1) n arrays (earlier ++ (a .0 .shape ∷ [])) (drop (z .step) bs)) _ ps (a .2) in
     let r = steps-passed z n (k + 1) arrays (earlier ++ (a .0 .shape ∷ [])) (drop (z .step) bs) (b .0) (b .1) in
-    subst (λ (l : List Planned). (length l ≡ suc n) × ((j : ℕ) (d : Planned) → j < length l → Passed z arrays (earlier ++ shapesOf (take j l)) (getD l j d))) (got-one (a .0 ∷ b .0) ps (b .2))
+    subst (λ (l : List Planned). (length l ≡ suc n)
+    × ((j : ℕ) (d : Planned) → j < length l → Passed z arrays (earlier ++ shapesOf (take j l)) (getD l j d)))
+    (got-one (a .0 ∷ b .0) ps (b .2))
     (ap suc (r .0), each (a .0) (b .0) (a .1) (r .1))
   where
     each : (p : Planned) (l : List Planned) → planStep z k arrays earlier (take (z .step) bs) ≡ got p
         → ((j : ℕ) (d : Planned) → j < length l → Passed z arrays ((earlier ++ (p .shape ∷ [])) ++ shapesOf (take j l)) (getD l j d))
         → (j : ℕ) (d : Planned) → j < suc (length l) → Passed z arrays (earlier ++ shapesOf (take j (p ∷ l))) (getD (p ∷ l) j d)
-    each p l q f zero d h = subst (λ (m : List Shape). Passed z arrays m p) (sym (append-nil earlier)) (plan-passed z k arrays earlier (take (z .step) bs) p q)
-    each p l q f (suc j) d h = subst (λ (m : List Shape). Passed z arrays m (getD l j d)) (append-assoc earlier (p .shape ∷ []) (shapesOf (take j l))) (f j d (omega arith))
+    each p l q f zero d h = subst (λ (m : List Shape). Passed z arrays m p) (sym (append-nil earlier))
+        (plan-passed z k arrays earlier (take (z .step) bs) p q)
+    each p l q f (suc j) d h = subst (λ (m : List Shape). Passed z arrays m (getD l j d))
+        (append-assoc earlier (p .shape ∷ []) (shapesOf (take j l))) (f j d (omega arith))
 
 -- each step of a recipe planned
 pub recipe-passed : (z : Sizes) (arrays : List Shape) (bs : List ℕ) (ps : List Planned) → planRecipe z arrays bs ≡ got ps
-    → (1 ≤ length ps) × ((j : ℕ) (d : Planned) → j < length ps → Passed z arrays (map (λ (p : Planned). p .shape) (take j ps)) (getD ps j d))
+    → (1 ≤ length ps) × ((j : ℕ) (d : Planned) → j < length ps
+    → Passed z arrays (map (λ (p : Planned). p .shape) (take j ps)) (getD ps j d))
 unfolding planRecipe
 recipe-passed z arrays bs ps e =
     let t = ensure-got (eqb (length bs % z .step) 0 && between 1 mostSteps (length bs / z .step)) unknown4 0 _ ps e in
     let r = steps-passed z (length bs / z .step) 1 arrays [] bs ps (t .1) in
-    let l = leb-true 1 (length bs / z .step) (and-left (leb 1 (length bs / z .step)) _ (and-right (eqb (length bs % z .step) 0) _ (t .0))) in
+    let l = leb-true 1 (length bs / z .step) (and-left (leb 1 (length bs / z .step)) _
+    (and-right (eqb (length bs % z .step) 0) _ (t .0))) in
     (omega (arith, r .0), r .1)

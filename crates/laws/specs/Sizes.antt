@@ -24,5 +24,25 @@ pub record Fits (z : Sizes) : Type 0 where
 
 pub fits : (v : Version) → Fits (sizesOf v)
 unfolding sizesOf
-fits One = record { axes = omega arith; name = omega arith; half = omega arith; axis = refl; step = refl; pairs = omega arith; names = omega arith; scalar = omega arith; small = omega arith }
-fits Two = record { axes = omega arith; name = omega arith; half = omega arith; axis = refl; step = refl; pairs = omega arith; names = omega arith; scalar = omega arith; small = omega arith }
+fits One = record {
+  axes = omega arith;
+  name = omega arith;
+  half = omega arith;
+  axis = refl;
+  step = refl;
+  pairs = omega arith;
+  names = omega arith;
+  scalar = omega arith;
+  small = omega arith;
+}
+fits Two = record {
+  axes = omega arith;
+  name = omega arith;
+  half = omega arith;
+  axis = refl;
+  step = refl;
+  pairs = omega arith;
+  names = omega arith;
+  scalar = omega arith;
+  small = omega arith;
+}

@@ -171,7 +171,8 @@ arrays-bytes z p (f ∷ fs) bs v h =
 abbrev pub bundleOf : Sizes → ℕ → List Form → List ℕ → List ℕ
 bundleOf z count fs bs = mark z ++ (count ∷ laidBytes z fs bs)
 
-module _ (z : Sizes) (p : Fits z) (count : ℕ) (forms : List Form) (bs : List ℕ) (room : ℕ) (h : count ≤ length forms) (b : between 1 mostArrays count ≡ true)
+module _ (z : Sizes) (p : Fits z) (count : ℕ) (forms : List Form) (bs : List ℕ) (room : ℕ) (h : count ≤ length forms)
+    (b : between 1 mostArrays count ≡ true)
     (v : AllReady z (take count forms) bs) where
   -- every form passed its tests, and cell bytes are left over
   pub packed-left : none? (restOf (take count forms) bs) ≡ false → packed z (shapesOf count forms) bs room ≡ refused (refusal badBytes1 0 0)
@@ -181,7 +182,8 @@ module _ (z : Sizes) (p : Fits z) (count : ℕ) (forms : List Form) (bs : List �
   -- none are left over: the bundle, where there is room for it
   pub packed-ready : restOf (take count forms) bs ≡ [] → Bytes bs
       → packed z (shapesOf count forms) bs room
-      ≡ (ensure (leb (length (bundleOf z count (take count forms) bs)) room) smallOutput14 0 >> got (bundleOf z count (take count forms) bs))
+      ≡ (ensure (leb (length (bundleOf z count (take count forms) bs)) room) smallOutput14 0 >> got
+      (bundleOf z count (take count forms) bs))
   unfolding packed bundleBytes
   packed-ready e g =
       let fs = take count forms in

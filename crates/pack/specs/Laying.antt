@@ -45,7 +45,8 @@ pub record ArrayPut (z : Sizes) (form : Form) (bs : List ℕ) (from : ℕ) (d : 
   pub cells : r .from ≡ from + cellRoom form
   pub next : r .at ≡ at + length (formBytes z form (drop from bs))
 
-module _ {z : Sizes} (fits : Fits z) {form : Form} {bs : List ℕ} {from : ℕ} {d : List ℕ} {at : ℕ} (q : ArrayRoom z form bs from d at) {m : ℕ}
+module _ {z : Sizes} (fits : Fits z) {form : Form} {bs : List ℕ} {from : ℕ} {d : List ℕ} {at : ℕ} (q : ArrayRoom z form bs from d at)
+    {m : ℕ}
     (em : m ≡ fewCells (axesOf (form .extent))) where
   its-cells : m ≡ cellsIn form
   its-cells = em ∙ rw (le-leb (cellsIn form) mostCells (ready-small fits (q .ready) .few))
@@ -76,7 +77,8 @@ module _ {z : Sizes} (fits : Fits z) {form : Form} {bs : List ℕ} {from : ℕ} 
     }
 
 -- the buffer after an array is as long as before
-pub array-kept : {z : Sizes} {form : Form} {bs : List ℕ} {from : ℕ} {d : List ℕ} {at : ℕ} {r : Ends} {y : List ℕ} → ArrayRoom z form bs from d at
+pub array-kept : {z : Sizes} {form : Form} {bs : List ℕ} {from : ℕ} {d : List ℕ} {at : ℕ} {r : Ends} {y : List ℕ}
+    → ArrayRoom z form bs from d at
     → ArrayPut z form bs from d at r y → length y ≡ length d
 array-kept {z} {form} {bs} {from} {d} {at} q p = ap length (p .bytes) ∙ length-put d at (formBytes z form (drop from bs)) (q .room)
 
@@ -103,7 +105,8 @@ laying-start z fs bs d v h = record { turns = omega arith; long = refl; start = 
 
 module _ {z : Sizes} {fs : List Form} {bs d₀ d : List ℕ} {from at i : ℕ} (v : Laying z fs bs d₀ d from at i) where
   module _ {f : Form} (e : drop i fs ≡ f ∷ drop (i + 1) fs) where
-    its-room : at + (length (formBytes z f (drop from bs)) + length (laidBytes z (drop (i + 1) fs) (drop (from + cellRoom f) bs))) ≤ length d
+    its-room : at + (length (formBytes z f (drop from bs)) + length (laidBytes z (drop (i + 1) fs) (drop (from + cellRoom f) bs)))
+        ≤ length d
     unfolding laidBytes
     its-room = rw (e, drop-drop (cellRoom f) from bs, length-append (formBytes z f (drop from bs))) at (v .room)
 
@@ -113,7 +116,8 @@ module _ {z : Sizes} {fs : List Form} {bs d₀ d : List ℕ} {from at i : ℕ} (
     pub laying-room : ArrayRoom z f bs from d at
     laying-room = record { start = v .start; ready = its-ready .0; room = omega (arith, its-room) }
 
-    pub laying-more : i < length fs → {r : Ends} {y : List ℕ} → ArrayPut z f bs from d at r y → Laying z fs bs d₀ y (r .from) (r .at) (i + 1)
+    pub laying-more : i < length fs → {r : Ends} {y : List ℕ} → ArrayPut z f bs from d at r y
+        → Laying z fs bs d₀ y (r .from) (r .at) (i + 1)
     unfolding laidBytes
     laying-more h {r} {y} p =
         let k = array-kept laying-room p in
@@ -145,7 +149,8 @@ pub pack-refused : (z : Sizes) (ss : List Shape) (bs out : List ℕ) (x : Refusa
 unfolding putInto
 pack-refused z ss bs out x e = record { said = rw e; wrote = rw e }
 
-module _ {z : Sizes} (fits : Fits z) {count : ℕ} {forms : List Form} {bs : List ℕ} {r : Verdict} (j : JudgedAll z count forms bs r) (y : r .refusal .number ≡ 0) where
+module _ {z : Sizes} (fits : Fits z) {count : ℕ} {forms : List Form} {bs : List ℕ} {r : Verdict} (j : JudgedAll z count forms bs r)
+    (y : r .refusal .number ≡ 0) where
   abbrev bundle : List ℕ
   bundle = bundleOf z count (take count forms) bs
 

@@ -164,13 +164,15 @@ module _ {z : Sizes} (f : Fits z) {N : List Name} {e m : Extent} {d₀ : List �
         let x = axisPart z (getD N i noName) (axisNo e i) (axisNo m i) in
         let l = part-length z f (getD N i noName) (axisNo e i) (axisNo m i) in
         let s = axis-room i (length (axesOf e)) (z .axis) at (length d₀) (omega (arith, re .number)) (q .room) in
-        let b : at + i * z .axis + length (axisPart z (getD N i noName) (axisNo e i) (axisNo m i)) ≤ length d = omega (arith, v .long, s, l) in
+        let b : at + i * z .axis + length (axisPart z (getD N i noName) (axisNo e i) (axisNo m i)) ≤ length d = omega
+        (arith, v .long, s, l) in
         record {
           turns = omega (arith, re .number);
           long = ap length w ∙ length-put d (at + i * z .axis) x b ∙ v .long;
           left =
               after d _ x _ y _ (at + (i + 1) * z .axis) b (omega (arith, l)) w refl
-              ∙ ap (put d (at + i * z .axis)) (append-assoc (take (z .name) (lettersOf (getD N i noName))) (limitsPart (axisNo e i) (axisNo m i)) _)
+              ∙ ap (put d (at + i * z .axis)) (append-assoc (take (z .name) (lettersOf (getD N i noName)))
+              (limitsPart (axisNo e i) (axisNo m i)) _)
               ∙ (rw (names-up h, axes-up e r re i h, axes-up m r rm i h) at (v .left));
         }
 
@@ -188,4 +190,11 @@ axes-length z f (n ∷ N) [] M k h = absurd (omega arith)
 axes-length z f (n ∷ N) (a ∷ E) [] k h = absurd (omega arith)
 axes-length z f (n ∷ N) (a ∷ E) (m ∷ M) k h =
     let T = take (z .name) (lettersOf n) in
-    omega (arith, length-append T (limitsPart a m ++ axesBytes z N E M), name-length z f n, axes-length z f N E M (omega arith) (omega arith), f .axis, suc-mul (length E) (z .axis))
+    omega (
+      arith,
+      length-append T (limitsPart a m ++ axesBytes z N E M),
+      name-length z f n,
+      axes-length z f N E M (omega arith) (omega arith),
+      f .axis,
+      suc-mul (length E) (z .axis),
+    )

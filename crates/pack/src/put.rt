@@ -145,7 +145,8 @@ pub fn put_arrays(
     d: &mut [u8],
 )
     requires { ⌜ AllRoom (sizesOf v) count forms (now cells) (now d) ⌝ }
-    ensures { λ _. ⌜ now (d .exit) ≡ put (now (d .entry)) (markBytes + 1) (laidBytes (sizesOf v) (take count forms) (now (cells .entry))) ⌝ }
+    ensures { λ _. ⌜ now (d .exit)
+        ≡ put (now (d .entry)) (markBytes + 1) (laidBytes (sizesOf v) (take count forms) (now (cells .entry))) ⌝ }
 {
     let mut from: usize = 0;
     let mut at = OPENING_BYTES;

@@ -27,8 +27,9 @@ unfolding Limits.sizesOf Numbers.leBytes Numbers.position Numbers.distance Numbe
     Totals.floatSum Totals.totalOf Totals.totals Recipe.operation Recipe.operand Recipe.uses Recipe.unusedZero Recipe.isScalar
     Recipe.takesType Recipe.typesFit Recipe.agree Recipe.eachAnew Recipe.glued Recipe.fitsIn Recipe.resultType Recipe.resultNames Recipe.resultAxes
     Recipe.stepTests Recipe.stepResult Recipe.stepOver Recipe.planStep Recipe.planSteps Recipe.planRecipe Values.shiftedBack Values.whence
-    Values.taken Values.made Values.cellAt Values.settled Values.valueOf Values.valuesFrom Listing.planned Listing.workAfter
+    Values.taken Values.made Values.cellAt Values.settled Values.valueOf Values.valuesFrom Listing.planned Listing.plan Listing.workAfter
     Listing.runTests Listing.runAfter Listing.row Listing.listTests Listing.pageTests Listing.listed Listing.goOn Listing.pageOf
-    Listing.pageValues Listing.pageAfter Stretch.judge Stretch.stay Stretch.stretchAt Stretch.glueTests Stretch.stretch Stretch.handedOut
+    Listing.pageValues Listing.pageAfter Stretch.judge Stretch.stay Stretch.stretchAt Stretch.glueTests Stretch.stretchIn Stretch.stretch
+    Stretch.handedOut
     Rests.digits Rests.decimal Rests.spaced Rests.printed Rests.rests Json.cellText Json.commas Json.layers Json.brackets Json.written
 opened = tt

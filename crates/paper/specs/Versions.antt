@@ -16,8 +16,9 @@ use Rattle.paper.specs.Axes.{lettersOf, Array}
 use Rattle.paper.specs.Cells.{encode, cellsBytes}
 use Rattle.paper.specs.Bundle.{readBundle, bundleBytes, pack}
 use Rattle.paper.specs.Reference.{reference}
-use Rattle.paper.specs.Listing.{run, page}
+use Rattle.paper.specs.Listing.{plan, run, page}
 use Rattle.paper.specs.Stretch.{Side, stretch}
+use Rattle.paper.specs.Rests.{rests}
 use Rattle.paper.specs.Written.{all, Given, axis, named, axesIn, array, ints, counted, stepFor, numbers, said, one, is, paged}
 use Rattle.paper.specs.Opened.{opened}
 
@@ -41,7 +42,9 @@ nine = line (axis "locations" (pos 1) (pos 2))
 
 -- five axes of one position each
 abbrev five : List Given
-five = axis "a" (pos 1) (pos 1) ∷ axis "b" (pos 1) (pos 1) ∷ axis "c" (pos 1) (pos 1) ∷ axis "d" (pos 1) (pos 1) ∷ axis "e" (pos 1) (pos 1) ∷ []
+five =
+    axis "a" (pos 1) (pos 1) ∷ axis "b" (pos 1) (pos 1) ∷ axis "c" (pos 1) (pos 1) ∷ axis "d" (pos 1) (pos 1)
+    ∷ axis "e" (pos 1) (pos 1) ∷ []
 
 abbrev bundle : Sizes → List Given → List ℕ
 bundle z G = bundleBytes z (array INT G (counted 1 2) ∷ [])
@@ -59,12 +62,19 @@ reads bs = said one (readBundle bs >>= (λ As. got (length As)))
 abbrev versioned : ℕ → ℕ → List ℕ → List ℕ
 versioned lo hi bs = take 3 bs ++ (lo ∷ hi ∷ drop 5 bs)
 
--- is-empty of array 1, which takes a step of one byte of detail; trim to pairs; rename
+-- is-empty of array 1, and so many steps of it; its axes renamed
 abbrev empties : Sizes → List ℕ
 empties z = stepFor z (12 ∷ 1 ∷ 0 ∷ 0 ∷ []) (4 ∷ [])
 
+abbrev steps : ℕ → List ℕ
+steps n = concat (replicate n (empties version2))
+
 abbrev renames : List Given → List ℕ
 renames G = stepFor version2 (5 ∷ 1 ∷ 0 ∷ 0 ∷ []) (concat (map (λ g. lettersOf (g .name)) G))
+
+-- T; and a run with room for four cells
+abbrev plans : List ℕ → List ℕ → List ℕ
+plans bs recipe = said (λ f. one (f .total)) (plan bs recipe)
 
 abbrev runs : List ℕ → List ℕ → List ℕ
 runs bs recipe = said one (run bs recipe (replicate 36 7) .answer)
@@ -81,8 +91,11 @@ abbrev stretches : ℕ → List Given → List Given → List ℕ
 stretches v G H = said (λ p. []) (stretch v (side G (counted 1 2)) (side H (counted 1 2)) 1 1)
 
 -- two of the cells are over 2: a listing of six axes, rows of 28 bytes
+abbrev overTwo : List ℕ
+overTwo = stepFor version2 (10 ∷ 1 ∷ 0 ∷ 0 ∷ []) (10 ∷ 0 ∷ 0 ∷ 0 ∷ leBytes 8 2)
+
 abbrev listing : List ℕ
-listing = page sixes (stepFor version2 (10 ∷ 1 ∷ 0 ∷ 0 ∷ []) (10 ∷ 0 ∷ 0 ∷ 0 ∷ leBytes 8 2)) (replicate 36 7) 1 (replicate 60 7) .rows
+listing = page sixes overTwo (replicate 36 7) 1 (replicate 60 7) .rows
 
 abbrev positions : List ℤ → List ℕ
 positions zs = concat (map (λ z. positionBytes (distance z)) zs)
@@ -107,8 +120,9 @@ table =
     ∷ same (runs (bundle version2 eight) (empties version2)) (0 ∷ 2 ∷ [])
     ∷ same (runs (bundle version1 eight) (empties version2)) (4 ∷ 0 ∷ 0 ∷ [])
     ∷ same (runs (bundle version2 eight) (empties version1)) (4 ∷ 0 ∷ 0 ∷ [])
-    -- sixteen steps of version 2 are 1,600 bytes; a byte of detail past the 32nd counts
-    ∷ same (runs (bundle version2 nine) (concat (replicate 2 (empties version2)))) (0 ∷ 4 ∷ [])
+    -- up to sixteen steps, 1,600 bytes; a byte of detail past the 32nd counts
+    ∷ same (plans (bundle version2 nine) (steps 16)) (0 ∷ 32 ∷ [])
+    ∷ same (plans (bundle version2 nine) (steps 17)) (4 ∷ 0 ∷ 0 ∷ [])
     ∷ same (runs (bundle version2 nine) (take 60 (empties version2) ++ (1 ∷ replicate 39 0))) (4 ∷ 1 ∷ 0 ∷ [])
     -- rename: six names of sixteen bytes; a slot past A's axes is zero, else 4
     ∷ same (runs sixes (renames six)) (0 ∷ 4 ∷ [])
@@ -130,10 +144,11 @@ table =
     ∷ same (stretches 1 nine eight) (2 ∷ 1 ∷ 0 ∷ [])
     ∷ same (stretches 1 eight nine) (2 ∷ 2 ∷ 0 ∷ [])
     ∷ same (stretches 3 nine nine) (1 ∷ 0 ∷ 0 ∷ [])
-    -- the rows of six axes: ordinalities 3 and 4
+    -- the rows of six axes: ordinalities 3 and 4, as bytes and as `rests` prints them
     ∷ same listing
     ((3 ∷ 0 ∷ 0 ∷ 0 ∷ positions (pos 1 ∷ pos 2 ∷ pos 0 ∷ pos 5 ∷ pos 7 ∷ pos 3 ∷ []))
     ++ ((4 ∷ 0 ∷ 0 ∷ 0 ∷ positions (pos 1 ∷ pos 2 ∷ pos 0 ∷ pos 5 ∷ pos 7 ∷ pos 4 ∷ [])) ++ replicate 4 7))
+    ∷ same (rests sixes overTwo) (text "found 2\n3 1 2 0 5 7 3\n4 1 2 0 5 7 4\n")
     ∷ []
 
 pub versions : all table ≡ true

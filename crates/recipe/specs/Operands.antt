@@ -101,7 +101,8 @@ module _ {A : Type 0} (xs ys : List A) (y : A) where
 
 -- nothing at 0, then the bundle's arrays, then the results; every number that can name none of these is kept at 0
 abbrev pub slotOf : ℕ → ℕ
-slotOf n = if leb n mostArrays then n else (if leb n stepsFrom then 0 else (if leb n (stepsFrom + mostSteps) then mostArrays + (n - stepsFrom) else 0))
+slotOf n = if leb n mostArrays then n else (if leb n stepsFrom then 0 else
+    (if leb n (stepsFrom + mostSteps) then mostArrays + (n - stepsFrom) else 0))
 
 -- the number that is kept there
 abbrev numberAt : ℕ → ℕ
@@ -139,7 +140,11 @@ slot-array n h = rw (le-leb n mostArrays h)
 
 slot-result : (j : ℕ) → 1 ≤ j → j ≤ mostSteps → slotOf (stepsFrom + j) ≡ mostArrays + j
 slot-result j h l =
-    rw (lt-leb (stepsFrom + j) mostArrays (omega arith), lt-leb (stepsFrom + j) stepsFrom (omega arith), le-leb (stepsFrom + j) (stepsFrom + mostSteps) (omega arith))
+    rw (
+      lt-leb (stepsFrom + j) mostArrays (omega arith),
+      lt-leb (stepsFrom + j) stepsFrom (omega arith),
+      le-leb (stepsFrom + j) (stepsFrom + mostSteps) (omega arith),
+    )
     (omega arith)
 
 -- what is kept for each number, over these arrays and results
@@ -186,7 +191,8 @@ module _ (arrays results : List Head) (l : List Operand) (v : Named arrays resul
           (getD-set-same l (slotOf k) (placed (sideOf k) h) (noOperand false) (omega (arith, v .long, slot-few k)) ∙ sym (ap (under k) e))
       by n false i =
           let j = eqb-false n k i in
-          getD-set-other l (slotOf k) (slotOf n) (placed (sideOf k) h) (noOperand false) (slot-apart n k b j) ∙ v .at n ∙ sym (ap (under n) (q n j))
+          getD-set-other l (slotOf k) (slotOf n) (placed (sideOf k) h) (noOperand false) (slot-apart n k b j) ∙ v .at n
+          ∙ sym (ap (under n) (q n j))
 
   pub array-more : (h : Head) → length arrays < mostArrays
       → Named (arrays ++ (h ∷ [])) results (set l (suc (length arrays)) (placed bundleSide h))
@@ -196,7 +202,8 @@ module _ (arrays results : List Head) (l : List Operand) (v : Named arrays resul
       let i = slot-array k (omega arith) in
       subst (λ (w : ℕ). Named (arrays ++ (h ∷ [])) results (set l k (placed w h))) e
       (subst (λ (j : ℕ). Named (arrays ++ (h ∷ [])) results (set l j (placed (sideOf k) h))) i
-      (set-named (arrays ++ (h ∷ [])) results k h (λ z. omega (arith, sym i ∙ z)) (array-last arrays results h (omega arith)) (array-others arrays results h)))
+      (set-named (arrays ++ (h ∷ [])) results k h (λ z. omega (arith, sym i ∙ z)) (array-last arrays results h (omega arith))
+      (array-others arrays results h)))
 
   pub result-more : (h : Head) → length results < mostSteps
       → Named arrays (results ++ (h ∷ [])) (set l (mostArrays + suc (length results)) (placed workSide h))
@@ -206,4 +213,5 @@ module _ (arrays results : List Head) (l : List Operand) (v : Named arrays resul
       let i = slot-result (suc (length results)) (omega arith) (omega arith) in
       subst (λ (w : ℕ). Named arrays (results ++ (h ∷ [])) (set l (mostArrays + suc (length results)) (placed w h))) e
       (subst (λ (j : ℕ). Named arrays (results ++ (h ∷ [])) (set l j (placed (sideOf k) h))) i
-      (set-named arrays (results ++ (h ∷ [])) k h (λ z. omega (arith, sym i ∙ z)) (result-last arrays results h) (result-others arrays results h)))
+      (set-named arrays (results ++ (h ∷ [])) k h (λ z. omega (arith, sym i ∙ z)) (result-last arrays results h)
+      (result-others arrays results h)))

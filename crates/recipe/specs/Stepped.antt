@@ -83,19 +83,24 @@ pub record Answered (v : Version) (bs : List ℕ) (at : ℕ) (r : Stepped) (m : 
   pub kept : r .refusal .number ≡ 0 → ResultLaid v bs at (r .step) (r .result)
 
 -- a refusal is one
-pub answer-refused : (v : Version) (bs : List ℕ) (at : ℕ) (r : Stepped) (m : Res Planned) (x : Refusal) → r ≡ stopped x → (x .number ≡ 0 → ⊥)
+pub answer-refused : (v : Version) (bs : List ℕ) (at : ℕ) (r : Stepped) (m : Res Planned) (x : Refusal) → r ≡ stopped x
+    → (x .number ≡ 0 → ⊥)
     → refused x ≡ m → Answered v bs at r m
 answer-refused v bs at r m x e h q =
-    subst (λ (r : Stepped). Answered v bs at r m) (sym e) (record { said = unless-refused x (plannedOf bs noStep noHead) h ∙ q; kept = λ z. absurd (h z) })
+    subst (λ (r : Stepped). Answered v bs at r m) (sym e)
+    (record { said = unless-refused x (plannedOf bs noStep noHead) h ∙ q; kept = λ z. absurd (h z) })
 
 -- ---- the result judged
 
 -- a result has no more axes than A
-result-few : (op : Operation) (s : Step) (E F : List Axis) → axisIn (uses op) (length E) (s .axis) ≡ true → length (resultAxes op s E F) ≤ length E
+result-few : (op : Operation) (s : Step) (E F : List Axis) → axisIn (uses op) (length E) (s .axis) ≡ true
+    → length (resultAxes op s E F) ≤ length E
 unfolding resultAxes uses glued
-result-few (Moves Trim) s E F h = le-of-eq (length-anew (λ (a : Axis) d. limited (positionAt 0 d) (positionAt limitBytes d)) pairBytes E (s .detail))
+result-few (Moves Trim) s E F h = le-of-eq (length-anew (λ (a : Axis) d. limited (positionAt 0 d) (positionAt limitBytes d)) pairBytes E
+    (s .detail))
 result-few (Moves Slice) s E F h = few-without (s .axis) E
-result-few (Moves Reshape) s E F h = le-of-eq (length-anew (λ (a : Axis) d. limited (positionAt 0 d) (positionAt limitBytes d)) pairBytes E (s .detail))
+result-few (Moves Reshape) s E F h = le-of-eq (length-anew (λ (a : Axis) d. limited (positionAt 0 d) (positionAt limitBytes d)) pairBytes
+    E (s .detail))
 result-few (Moves Shift) s E F h =
     le-of-eq (length-anew (λ (a : Axis) d. limited (moved (a .lo) (signedAt 0 d)) (moved (a .hi) (signedAt 0 d))) limitBytes E (s .detail))
 result-few (Moves Rename) s E F h = le-refl (length E)
@@ -104,7 +109,14 @@ result-few (Moves Put) s E F h = le-refl (length E)
 result-few (Moves Glue) s E F h =
     let k = s .axis in
     let q = between-true (length E) k h in
-    omega (arith, q .0, q .1, length-append (take (k - 1) E) (limited (axisAt k E .lo) (axisAt k E .hi + width (axisAt k F)) ∷ drop k E), length-take (k - 1) E, length-drop k E)
+    omega (
+      arith,
+      q .0,
+      q .1,
+      length-append (take (k - 1) E) (limited (axisAt k E .lo) (axisAt k E .hi + width (axisAt k F)) ∷ drop k E),
+      length-take (k - 1) E,
+      length-drop k E,
+    )
 result-few (Works o) s E F h = le-refl (length E)
 
 -- a step that passed its tests before 9
@@ -115,11 +127,13 @@ pub record Finishing (bs : List ℕ) (step : StepHead) (a b : Form) : Type 0 whe
   pub axis : axisIn (uses (step .operation)) (length (axesOf (a .extent))) (step .axis) ≡ true
 
 abbrev pub Finished : List ℕ → StepHead → Form → Form → ℕ → ℕ → Stepped → Type 0
-Finished bs step a b at k r = Answered (step .version) bs at r (stepResult (sizesOf (step .version)) k (stepIn bs step) (shapeOf a) (shapeOf b))
+Finished bs step a b at k r = Answered (step .version) bs at r
+    (stepResult (sizesOf (step .version)) k (stepIn bs step) (shapeOf a) (shapeOf b))
 
 -- the result's names and axes
 abbrev pub namesAfter : List ℕ → StepHead → Form → List Name
-namesAfter bs step a = resultNames (sizesOf (step .version) .name) (step .operation) (stepIn bs step) (namesFor (axesOf (a .extent)) (a .names))
+namesAfter bs step a = resultNames (sizesOf (step .version) .name) (step .operation) (stepIn bs step)
+    (namesFor (axesOf (a .extent)) (a .names))
 
 abbrev pub axesAfter : List ℕ → StepHead → Form → Form → List Axis
 axesAfter bs step a b = resultAxes (step .operation) (stepIn bs step) (axesOf (a .extent)) (axesOf (b .extent))
@@ -142,7 +156,8 @@ module _ (bs : List ℕ) (step : StepHead) (a b : Form) (at k : ℕ) (r : Steppe
   finish-none e h = finish-no e (rw h)
 
   pub finish-good : (x : Refusal) (h : Head) → r ≡ record { refusal = x; step = step; result = h } → x ≡ refusal 0 0 0 → h .at ≡ at
-      → Finishing bs step a b → shapeIn h ≡ resultOf (sizesOf (step .version) .name) (stepIn bs step) (shapeOf a) (shapeOf b) → h .cells ≡ goodCells names axes → (h .cells ≡ 0 → ⊥)
+      → Finishing bs step a b → shapeIn h ≡ resultOf (sizesOf (step .version) .name) (stepIn bs step) (shapeOf a) (shapeOf b)
+      → h .cells ≡ goodCells names axes → (h .cells ≡ 0 → ⊥)
       → (length axes ≡ 0 → ⊥) → Finished bs step a b at k r
   unfolding stepResult
   finish-good x h e z i d q c n w =
@@ -156,7 +171,9 @@ module _ (bs : List ℕ) (step : StepHead) (a b : Form) (at k : ℕ) (r : Steppe
         kept = λ o. record {
           version = refl;
           small = subst Small (sym f) (good-small names axes (g .0));
-          few = le-trans (le-of-eq (ap length f)) (le-trans (result-few (step .operation) (stepIn bs step) (axesOf (a .extent)) (axesOf (b .extent)) (d .axis)) (d .detail .few));
+          few = le-trans (le-of-eq (ap length f))
+              (le-trans (result-few (step .operation) (stepIn bs step) (axesOf (a .extent)) (axesOf (b .extent)) (d .axis))
+              (d .detail .few));
           count = c ∙ sym (g .1) ∙ ap cells (sym f);
           from = i;
           detail = d .detail .holds;
@@ -165,13 +182,16 @@ module _ (bs : List ℕ) (step : StepHead) (a b : Form) (at k : ℕ) (r : Steppe
 
 -- the names told are the result's
 pub names-after : (bs : List ℕ) (step : StepHead) (a b : Form) (new : List Name) (e : Extent)
-    → NamesTold (sizesOf (step .version) .name) (step .operation) (stepIn bs step) (a .names) (a .extent) new → axesOf e ≡ axesAfter bs step a b
+    → NamesTold (sizesOf (step .version) .name) (step .operation) (stepIn bs step) (a .names) (a .extent) new
+    → axesOf e ≡ axesAfter bs step a b
     → length (axesOf (a .extent)) ≤ length (a .names) → axisIn (uses (step .operation)) (length (axesOf (a .extent))) (step .axis) ≡ true
     → namesFor (axesOf e) new ≡ namesAfter bs step a
 names-after bs step a b new e t q l h =
     let E = axesOf (a .extent) in
     let N = namesFor E (a .names) in
-    let n : length (axesOf e) ≡ length (namesAfter bs step a) = ap length q ∙ sym (names-many (sizesOf (step .version) .name) (step .operation) (stepIn bs step) N E (axesOf (b .extent)) (length-take-le (length E) (a .names) l) h) in
+    let n : length (axesOf e) ≡ length (namesAfter bs step a) = ap length q
+    ∙ sym (names-many (sizesOf (step .version) .name) (step .operation) (stepIn bs step) N E (axesOf (b .extent))
+    (length-take-le (length E) (a .names) l) h) in
     ap (λ (k : ℕ). take k new) n ∙ t
 
 -- ---- the operands found
@@ -204,7 +224,12 @@ finishing bs step a b k x t h p q d =
     let A = shapeIn (a .head) in
     let B = shapeIn (secondOf step b .head) in
     let e : stepTests (sizesOf (step .version)) k (stepIn bs step) A B ≡ got tt = sym t ∙ unless-got {A = Unit {0}} x tt h in
-    record { first = p .small; second = second-small step b q; detail = record { holds = d; few = p .few }; axis = tests-passed {C = Unit {0}} (sizesOf (step .version)) k (stepIn bs step) A B (got tt) tt (rw e) .0 .axis }
+    record {
+      first = p .small;
+      second = second-small step b q;
+      detail = record { holds = d; few = p .few };
+      axis = tests-passed {C = Unit {0}} (sizesOf (step .version)) k (stepIn bs step) A B (got tt) tt (rw e) .0 .axis;
+    }
 
 module _ (bs : List ℕ) (step : StepHead) (a b : Operand) (at k : ℕ) (r : Stepped) where
   abbrev st : Step
@@ -220,12 +245,17 @@ module _ (bs : List ℕ) (step : StepHead) (a b : Operand) (at k : ℕ) (r : Ste
 
   pub no-a : r ≡ stopped (refusal unknown4 k 0) → a .found ≡ false → Judged bs step a b at k r
   unfolding stepOver
-  no-a e h = record { over = λ arrays earlier p q. answer-refused (step .version) bs at r _ (refusal unknown4 k 0) e (λ z. omega arith) (rw (p, h)) }
+  no-a e h = record {
+    over = λ arrays earlier p q. answer-refused (step .version) bs at r _ (refusal unknown4 k 0) e (λ z. omega arith) (rw (p, h));
+  }
 
   module _ (f : a .found ≡ true) where
     pub no-b : r ≡ stopped (refusal unknown4 k 0) → secondOf step b .found ≡ false → Judged bs step a b at k r
     unfolding stepOver
-    no-b e h = record { over = λ arrays earlier p q. answer-refused (step .version) bs at r _ (refusal unknown4 k 0) e (λ z. omega arith) (rw (p, f, second-found arrays earlier q, h)) }
+    no-b e h = record {
+      over = λ arrays earlier p q. answer-refused (step .version) bs at r _ (refusal unknown4 k 0) e (λ z. omega arith)
+          (rw (p, f, second-found arrays earlier q, h));
+    }
 
     module _ (g : secondOf step b .found ≡ true) (x : Refusal)
         (t : unless x tt ≡ stepTests (sizesOf (step .version)) k st (shapeIn (a .head)) (shapeIn (secondOf step b .head))) where
@@ -233,14 +263,16 @@ module _ (bs : List ℕ) (step : StepHead) (a b : Operand) (at k : ℕ) (r : Ste
       unfolding stepOver
       test-failed e h = record {
         over = λ arrays earlier p q.
-            answer-refused (step .version) bs at r _ x e h (rw (p, f, second-found arrays earlier q, g, ← t, unless-refused {A = Unit {0}} x tt h));
+            answer-refused (step .version) bs at r _ x e h
+            (rw (p, f, second-found arrays earlier q, g, ← t, unless-refused {A = Unit {0}} x tt h));
       }
 
       pub tests-held : Finished bs step (a .head .form) (secondOf step b .head .form) at k r → x .number ≡ 0 → Judged bs step a b at k r
       unfolding stepOver
       tests-held v h = record {
         over = λ arrays earlier p q.
-            let e : stepResult (sizesOf (step .version)) k st (shapeIn (a .head)) (shapeIn (secondOf step b .head)) ≡ stepOver (sizesOf (step .version)) k arrays earlier st
+            let e : stepResult (sizesOf (step .version)) k st (shapeIn (a .head)) (shapeIn (secondOf step b .head)) ≡ stepOver
+            (sizesOf (step .version)) k arrays earlier st
             = rw (p, f, second-found arrays earlier q, g, ← t, unless-got {A = Unit {0}} x tt h) in
             subst (Answered (step .version) bs at r) e v;
       }
@@ -261,11 +293,19 @@ module _ (s : List ℕ) (base : ℕ) (v : Version) where
   detail-there =
       let bs = part base (z .step) s in
       sym (part-part s base (z .step) headBytes (z .detail) (omega (arith, fits v .step)))
-      ∙ take-all (z .detail) (drop headBytes bs) (omega (arith, fits v .step, length-drop headBytes bs, length-take (z .step) (drop base s)))
+      ∙ take-all (z .detail) (drop headBytes bs)
+      (omega (arith, fits v .step, length-drop headBytes bs, length-take (z .step) (drop base s)))
 
   -- the step of operation op
   abbrev pub headAt : Operation → StepHead
-  headAt op = record { operation = op; a = getD s (base + 1) 0; b = getD s (base + 2) 0; axis = getD s (base + 3) 0; at = base + headBytes; version = v }
+  headAt op = record {
+    operation = op;
+    a = getD s (base + 1) 0;
+    b = getD s (base + 2) 0;
+    axis = getD s (base + 3) 0;
+    at = base + headBytes;
+    version = v;
+  }
 
   step-there : (op : Operation) → stepIn s (headAt op) ≡ stepOf op (part base (z .step) s)
   step-there op =

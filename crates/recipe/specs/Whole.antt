@@ -87,7 +87,8 @@ module _ (k i : ℕ) (l : List Operand) (n : ℕ) (x : Operand) where
       ap (map (λ (o : Operand). o .head))
       (ap (λ (j : ℕ). take i (drop k (set l j x))) (sym e) ∙ ap (take i) (drop-set-add k l (n - k) x) ∙ take-set-le i (drop k l) (n - k) x (omega arith))
 
-small-set : (u : Version) (l : List Operand) (k : ℕ) (x : Operand) → k < length l → AllSmall u l → Fitting u (axesOf (x .head .form .extent))
+small-set : (u : Version) (l : List Operand) (k : ℕ) (x : Operand) → k < length l → AllSmall u l
+    → Fitting u (axesOf (x .head .form .extent))
     → AllSmall u (set l k x)
 small-set u l k x h v w n = by (eqb n k) refl
   where
@@ -196,7 +197,8 @@ pub record Loop (u : Version) (s : List ℕ) (n : ℕ) (p : Plan) : Type 0 where
   pub none : p .refusal ≡ refusal 0 0 0
   pub named : Named (arraysOf p) (resultsOf p) (p .operands)
   pub small : AllSmall u (p .operands)
-  pub steps : inFrontOf (stepsOf s p) (planSteps (sizesOf u) (p .count + 1) (n - p .count) (map shapeIn (arraysOf p)) (map shapeIn (resultsOf p)) (drop (p .count * sizesOf u .step) s))
+  pub steps : inFrontOf (stepsOf s p) (planSteps (sizesOf u) (p .count + 1) (n - p .count) (map shapeIn (arraysOf p))
+      (map shapeIn (resultsOf p)) (drop (p .count * sizesOf u .step) s))
       ≡ planSteps (sizesOf u) 1 n (map shapeIn (arraysOf p)) [] s
   pub laid : LaidFrom u s 0 (headsOf p) (resultsOf p)
   pub sum : p .cells ≡ cellsIn (resultsOf p)
@@ -254,7 +256,8 @@ laid-more u bs n (g ∷ hs) (q ∷ rs) h r e v k =
     (v .0, laid-more u bs (n + q .cells) hs rs h r (omega arith) (v .1) (rw z at k))
 
 module _ (u : Version) (s : List ℕ) (n : ℕ) (p : Plan) (v : Loop u s n p) (h : p .count < n) (o : Stepped)
-    (w : Answered u s (p .cells * cellBytes) o (planStep (sizesOf u) (p .count + 1) (map shapeIn (arraysOf p)) (map shapeIn (resultsOf p)) (part (p .count * sizesOf u .step) (sizesOf u .step) s))) where
+    (w : Answered u s (p .cells * cellBytes) o (planStep (sizesOf u) (p .count + 1) (map shapeIn (arraysOf p))
+    (map shapeIn (resultsOf p)) (part (p .count * sizesOf u .step) (sizesOf u .step) s))) where
   abbrev z : Sizes
   z = sizesOf u
 
@@ -304,11 +307,14 @@ module _ (u : Version) (s : List ℕ) (n : ℕ) (p : Plan) (v : Loop u s n p) (h
         ∙ zipped-more (plannedOf s) (headsOf p) (resultsOf p) (o .step) (o .result) (heads-long ∙ sym results-many)
 
     moved : drop ((i + 1) * z .step) s ≡ drop (z .step) (drop (i * z .step) s)
-    moved = let f : i * z .step + z .step ≡ (i + 1) * z .step = omega arith in sym (drop-drop (z .step) (i * z .step) s ∙ ap (λ (j : ℕ). drop j s) f)
+    moved = let f : i * z .step + z .step ≡ (i + 1) * z .step = omega arith in sym
+        (drop-drop (z .step) (i * z .step) s ∙ ap (λ (j : ℕ). drop j s) f)
 
-    onward : inFrontOf (stepsOf s p) (planSteps z (i + 1) (n - i) (map shapeIn (arraysOf p)) (map shapeIn (resultsOf p)) (drop (i * z .step) s))
+    onward : inFrontOf (stepsOf s p) (planSteps z (i + 1) (n - i) (map shapeIn (arraysOf p)) (map shapeIn (resultsOf p))
+        (drop (i * z .step) s))
         ≡ inFrontOf (stepsOf s p ++ (planned ∷ []))
-        (planSteps z (i + 1 + 1) (n - (i + 1)) (map shapeIn (arraysOf p)) (map shapeIn (resultsOf p) ++ (shapeIn (o .result) ∷ [])) (drop (z .step) (drop (i * z .step) s)))
+        (planSteps z (i + 1 + 1) (n - (i + 1)) (map shapeIn (arraysOf p)) (map shapeIn (resultsOf p) ++ (shapeIn (o .result) ∷ []))
+        (drop (z .step) (drop (i * z .step) s)))
     unfolding planSteps
     onward = rw (left, ← w .said, unless-got (o .refusal) planned y) (front-more (stepsOf s p) planned _)
 
@@ -330,7 +336,11 @@ module _ (u : Version) (s : List ℕ) (n : ℕ) (p : Plan) (v : Loop u s n p) (h
           named = rw (arrays-same, results-more, ← f) (result-more (arraysOf p) (resultsOf p) (p .operands) (v .named) (o .result) (omega (arith, results-many, v .few)));
           small = small-set u (p .operands) at x here (v .small) (record { small = k .small; few = k .few });
           steps = rw (arrays-same, steps-more, results-more, moved, map-append shapeIn (resultsOf p) (o .result ∷ [])) (sym onward ∙ v .steps);
-          laid = rw (steps-first, results-more) (laid-more u s 0 (headsOf p) (resultsOf p) (o .step) (o .result) (heads-long ∙ sym results-many) (v .laid) (rw q at k));
+          laid = rw (
+            steps-first,
+            results-more,
+          ) (laid-more u s 0 (headsOf p) (resultsOf p) (o .step) (o .result) (heads-long ∙ sym results-many) (v .laid)
+              (rw q at k));
           sum = rw results-more (sym (ap total (map-append (λ (r : Head). r .cells) (resultsOf p) (o .result ∷ [])) ∙ total-more (map (λ (r : Head). r .cells) (resultsOf p)) (o .result .cells) ∙ ap (λ (a : ℕ). a + o .result .cells) (sym (v .sum))));
         }
 
@@ -348,7 +358,8 @@ pub record Laid (s : List ℕ) (p : Plan) : Type 0 where
   pub sum : p .cells ≡ cellsIn (resultsOf p)
 
 -- each step's result where it lies
-laid-at : (u : Version) (bs : List ℕ) (n : ℕ) (hs : List StepHead) (rs : List Head) → LaidFrom u bs n hs rs → length hs ≡ length rs → (j : ℕ)
+laid-at : (u : Version) (bs : List ℕ) (n : ℕ) (hs : List StepHead) (rs : List Head) → LaidFrom u bs n hs rs → length hs ≡ length rs
+    → (j : ℕ)
     → j < length hs
     → ResultLaid u bs ((n + cellsOfAll (take j (zipped (plannedOf bs) hs rs))) * cellBytes) (getD hs j noStep) (getD rs j noHead)
 unfolding total
@@ -389,7 +400,8 @@ module _ {bs : List ℕ} {p : Plan} (v : Laid bs p) where
         let e : suc mostArrays + j ≡ mostArrays + (j + 1) = omega arith in
         getD-mapped (λ (o : Operand). o .head) (take (p .count) (drop (suc mostArrays) (p .operands))) j (noOperand false) noHead
         (omega (arith, results-count, length-map (take (p .count) (drop (suc mostArrays) (p .operands))) (λ (o : Operand). o .head)))
-        ∙ ap (λ (o : Operand). o .head) (getD-take (p .count) (drop (suc mostArrays) (p .operands)) j (noOperand false) h ∙ getD-drop (suc mostArrays) (p .operands) j (noOperand false))
+        ∙ ap (λ (o : Operand). o .head) (getD-take (p .count) (drop (suc mostArrays) (p .operands)) j (noOperand false) h
+        ∙ getD-drop (suc mostArrays) (p .operands) j (noOperand false))
         ∙ ap (λ (i : ℕ). getD (p .operands) i (noOperand false) .head) e
 
     pub step-there : (d : Planned) → getD (stepsOf bs p) j d ≡ plannedOf bs (getD (p .steps) j noStep) (getD (resultsOf p) j noHead)
@@ -397,11 +409,13 @@ module _ {bs : List ℕ} {p : Plan} (v : Laid bs p) where
         getD-zipped (plannedOf bs) (headsOf p) (resultsOf p) j noStep noHead d (omega (arith, heads-count)) (heads-count ∙ sym results-count)
         ∙ ap (λ (g : StepHead). plannedOf bs g (getD (resultsOf p) j noHead)) (getD-take (p .count) (p .steps) j noStep h)
 
-    pub laid-there : ResultLaid (p .version) bs (cellsOfAll (take j (stepsOf bs p)) * cellBytes) (getD (p .steps) j noStep) (getD (resultsOf p) j noHead)
+    pub laid-there : ResultLaid (p .version) bs (cellsOfAll (take j (stepsOf bs p)) * cellBytes) (getD (p .steps) j noStep)
+        (getD (resultsOf p) j noHead)
     laid-there =
         let c = cellsOfAll (take j (stepsOf bs p)) in
         let z : 0 + c ≡ c = omega arith in
-        rw (z, getD-take (p .count) (p .steps) j noStep h) at (laid-at (p .version) bs 0 (headsOf p) (resultsOf p) (v .laid) (heads-count ∙ sym results-count) j (omega (arith, heads-count)))
+        rw (z, getD-take (p .count) (p .steps) j noStep h) at
+        (laid-at (p .version) bs 0 (headsOf p) (resultsOf p) (v .laid) (heads-count ∙ sym results-count) j (omega (arith, heads-count)))
 
 -- the recipe planned as the paper plans it, over the bundle's arrays
 pub record PlannedAll (R : Reading) (s : List ℕ) (p : Plan) : Type 0 where
@@ -419,7 +433,8 @@ module _ (R : Reading) (s : List ℕ) (p : Plan) where
   abbrev its : Sizes
   its = sizesOf (R .version)
 
-  all-refused : (x : Refusal) → p ≡ noPlan x → (x .number ≡ 0 → ⊥) → refused x ≡ planRecipe its (map shapeIn (arraysIn R)) s → PlannedAll R s p
+  all-refused : (x : Refusal) → p ≡ noPlan x → (x .number ≡ 0 → ⊥) → refused x ≡ planRecipe its (map shapeIn (arraysIn R)) s
+      → PlannedAll R s p
   all-refused x e h q = rw e (record { said = unless-refused x (stepsOf s (noPlan x)) h ∙ q; laid = λ z. absurd (h z) })
 
   pub length-bad : p ≡ noPlan (refusal unknown4 0 0) → goodLength its s ≡ false → PlannedAll R s p
@@ -435,7 +450,8 @@ module _ (R : Reading) (s : List ℕ) (p : Plan) where
         → refused x ≡ planSteps its 1 (length s / its .step) (map shapeIn (arraysIn R)) [] s → PlannedAll R s p
     step-refused x e h q = all-refused x e h (q ∙ length-good)
 
-    pub all-planned : Loop (R .version) s (length s / its .step) p → length s / its .step ≤ p .count → arraysOf p ≡ arraysIn R → PlannedAll R s p
+    pub all-planned : Loop (R .version) s (length s / its .step) p → length s / its .step ≤ p .count → arraysOf p ≡ arraysIn R
+        → PlannedAll R s p
     unfolding planSteps inFrontOf
     all-planned v h a =
         let e : length s / its .step - p .count ≡ 0 = omega (arith, v .turns) in

@@ -53,7 +53,8 @@ module _ {bs : List ℕ} {o : Reading} (v : ReadAll bs o) where
 -- ---- one of them
 
 -- the bytes of valid arrays are few
-arrays-short : (u : Version) (As : List Array) → EachValid (sizesOf u) As → length (concat (map (bytesOf (sizesOf u)) As)) ≤ length As * mostBytes
+arrays-short : (u : Version) (As : List Array) → EachValid (sizesOf u) As
+    → length (concat (map (bytesOf (sizesOf u)) As)) ≤ length As * mostBytes
 unfolding concat
 arrays-short u [] v = omega arith
 arrays-short u (A ∷ As) v =

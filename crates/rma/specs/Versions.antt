@@ -13,6 +13,7 @@ use Rattle.paper.specs.Limits.{sizesOf}
 use Rattle.paper.specs.Refusals.{got, refused, refusal, badBytes1}
 use Rattle.paper.specs.Bundle.{versionTold, putInto}
 use Rattle.paper.specs.Axes.{Shape}
+use Rattle.paper.specs.Stretch.{stretchIn}
 use Rattle.paper.specs.Answers.{numberSaid, stretchSaid}
 use Rattle.laws.specs.Sizes.{fits}
 use Rattle.laws.specs.Answers.{formOf}
@@ -35,7 +36,8 @@ module _ {w : ℕ} {heads cells out : List ℕ} where
       let s = heads-shapes (sizesOf v) (fits v) heads f h in
       record { said = rw (e, ← s) (p .said); wrote = rw (e, ← s) (p .wrote) }
 
-  pub pack-untold : versionTold w ≡ refused (refusal badBytes1 0 0) → HeadsPacked w heads cells out (Number.Refused (refusal badBytes1 0 0)) out
+  pub pack-untold : versionTold w ≡ refused (refusal badBytes1 0 0)
+      → HeadsPacked w heads cells out (Number.Refused (refusal badBytes1 0 0)) out
   unfolding putInto
   pack-untold e = record { said = rw e; wrote = rw e }
 
@@ -52,7 +54,7 @@ side-told v head cells f e =
 module _ {w l r k o : ℕ} {leftHead rightHead : List ℕ} where
   pub stretch-told : (v : Version) {f g : Form} {a : StretchAnswer} → versionTold w ≡ got (sizesOf v)
       → f ≡ formOf (sideShape (sizesOf v) leftHead) → g ≡ formOf (sideShape (sizesOf v) rightHead)
-      → StretchFound w (f .kind) (f .names) (f .extent) l (g .kind) (g .names) (g .extent) r k o a
+      → StretchFound (stretchIn (sizesOf v)) (f .kind) (f .names) (f .extent) l (g .kind) (g .names) (g .extent) r k o a
       → HeadsStretched w leftHead l rightHead r k o a
   stretch-told v {f} {g} e p q s = record {
     said = λ bs cs m n. rw (e, ← side-told v leftHead bs f p, ← side-told v rightHead cs g q) (s .said bs cs m n);

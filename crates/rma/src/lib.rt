@@ -42,7 +42,7 @@ use refusals::refuse;
 use run::page;
 use run::plan;
 use run::run;
-use stretch::plan_stretch;
+use stretch::plan_as;
 use versions::Told;
 use versions::version_told;
 
@@ -241,8 +241,8 @@ fn stretch_heads(
             let r = side_form(v, right_head);
             let left_names = l.names;
             let right_names = r.names;
-            return plan_stretch(
-                version,
+            return plan_as(
+                v,
                 l.kind,
                 left_names,
                 l.extent,
@@ -273,8 +273,8 @@ pub extern "C" fn rma_stretch(
     said: &mut [u8],
 ) -> u32
     ensures { λ r. ⌜ record { number = r; said = now (said .exit) }
-        ≡ spoken partBytes (stretchHeads version (now («left_head» .entry)) (now (left .entry)) (now («right_head» .entry)) (now (right .entry))
-        axis ordinality) (now (said .entry)) ⌝ }
+        ≡ spoken partBytes (stretchHeads version (now («left_head» .entry)) (now (left .entry)) (now («right_head» .entry))
+        (now (right .entry)) axis ordinality) (now (said .entry)) ⌝ }
 {
     let answer = stretch_heads(
         version,

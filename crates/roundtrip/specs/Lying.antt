@@ -53,16 +53,22 @@ arrays-lie z f bs (A ∷ As) i l v e =
     )
 
 -- of a bundle that reading accepts
-pub cells-lie : (bs : List ℕ) (As : List Array) → Bytes bs → readBundle bs ≡ got As → Lying bs (lyingFrom (sizesIn bs) (markBytes + 1) As) As
+pub cells-lie : (bs : List ℕ) (As : List Array) → Bytes bs → readBundle bs ≡ got As
+    → Lying bs (lyingFrom (sizesIn bs) (markBytes + 1) As) As
 unfolding bundleBytes leBytes
 cells-lie bs As h e =
     let r = bundle-read bs As h e in
-    arrays-lie (sizesIn bs) (fits (versionIn bs)) bs As (markBytes + 1) (omega (arith, ap length (r .bytes))) (r .valid .each) (ap (drop (markBytes + 1)) (sym (r .bytes)))
+    arrays-lie (sizesIn bs) (fits (versionIn bs)) bs As (markBytes + 1) (omega (arith, ap length (r .bytes))) (r .valid .each)
+    (ap (drop (markBytes + 1)) (sym (r .bytes)))
 
 -- so of what `reading` answers
 pub reading-lies : (bs : List ℕ) (ps : List (Shape × ℕ)) → Bytes bs → reading bs ≡ got ps
     → (As : List Array) × (readBundle bs ≡ got As) × Lying bs ps As
 unfolding reading
 reading-lies bs ps h e =
-    let a = bind-got (readBundle bs) _ ps e in
-    (a .0, a .1, subst (λ (x : List (Shape × ℕ)). Lying bs x (a .0)) (got-one (lyingFrom (sizesIn bs) (markBytes + 1) (a .0)) ps (a .2)) (cells-lie bs (a .0) h (a .1)))
+    let a = bind-got (readBundle bs) _ ps e in (
+      a .0,
+      a .1,
+      subst (λ (x : List (Shape × ℕ)). Lying bs x (a .0)) (got-one (lyingFrom (sizesIn bs) (markBytes + 1) (a .0)) ps (a .2))
+          (cells-lie bs (a .0) h (a .1)),
+    )

@@ -68,11 +68,13 @@ module _ (w : ℕ) (half : halfName ≤ w) (most : w ≤ 2 * halfName) where
   -- the first w of its sixteen bytes, and the others
   first-of : (n : Name) → take w (lettersOf n) ≡ leBytes halfName (n .first) ++ take (w - halfName) (leBytes halfName (n .last))
   unfolding leBytes
-  first-of n = ap (λ (k : ℕ). take k (lettersOf n)) past ∙ take-append-add (leBytes halfName (n .first)) (leBytes halfName (n .last)) (w - halfName)
+  first-of n = ap (λ (k : ℕ). take k (lettersOf n)) past
+      ∙ take-append-add (leBytes halfName (n .first)) (leBytes halfName (n .last)) (w - halfName)
 
   others-of : (n : Name) → drop w (lettersOf n) ≡ drop (w - halfName) (leBytes halfName (n .last))
   unfolding leBytes
-  others-of n = ap (λ (k : ℕ). drop k (lettersOf n)) past ∙ drop-append-add (leBytes halfName (n .first)) (leBytes halfName (n .last)) (w - halfName)
+  others-of n = ap (λ (k : ℕ). drop k (lettersOf n)) past
+      ∙ drop-append-add (leBytes halfName (n .first)) (leBytes halfName (n .last)) (w - halfName)
 
   pub letters-length : (n : Name) → length (take w (lettersOf n)) ≡ w
   unfolding leBytes
@@ -87,7 +89,8 @@ module _ (w : ℕ) (half : halfName ≤ w) (most : w ≤ 2 * halfName) where
       let j = w - halfName in
       let s : length (take j B) ≤ halfName = omega (arith, length-take j B) in
       let p : leOf (part 0 halfName (take w (lettersOf n))) ≡ n .first =
-      ap (λ (x : List ℕ). leOf (take halfName x)) (first-of n) ∙ ap leOf (take-at A (take j B) halfName refl) ∙ leOf-leBytes halfName (n .first) (f .0) in
+      ap (λ (x : List ℕ). leOf (take halfName x)) (first-of n) ∙ ap leOf (take-at A (take j B) halfName refl)
+      ∙ leOf-leBytes halfName (n .first) (f .0) in
       let q : leOf (part halfName halfName (take w (lettersOf n))) ≡ n .last =
       ap (λ (x : List ℕ). leOf (part halfName halfName x)) (first-of n) ∙ ap leOf (take-all halfName (take j B) s)
       ∙ zeros-less j B (sym (ap zeros (others-of n)) ∙ e) ∙ leOf-leBytes halfName (n .last) (f .1) in
@@ -113,7 +116,8 @@ module _ (w : ℕ) (half : halfName ≤ w) (most : w ≤ 2 * halfName) where
     pub name-written : take w (lettersOf (nameFrom bs)) ≡ bs
     name-written =
         let a : leBytes halfName (leOf (take halfName bs)) ≡ take halfName bs =
-        ap (λ (k : ℕ). leBytes k (leOf (take halfName bs))) (sym head-length) ∙ leBytes-leOf (take halfName bs) (bytes-take halfName bs h) in
+        ap (λ (k : ℕ). leBytes k (leOf (take halfName bs))) (sym head-length)
+        ∙ leBytes-leOf (take halfName bs) (bytes-take halfName bs h) in
         let b : take (w - halfName) (leBytes halfName (leOf tail)) ≡ tail =
         ap (λ (k : ℕ). take k (leBytes halfName (leOf tail))) (sym tail-length)
         ∙ bytes-first halfName tail tail-bytes (omega (arith, tail-length)) in
@@ -132,5 +136,6 @@ module _ (w : ℕ) (half : halfName ≤ w) (most : w ≤ 2 * halfName) where
     pub name-fits : NameFits (nameFrom bs)
     name-fits = (
       subst (λ (j : ℕ). leOf (take halfName bs) < 256 ^ j) head-length (leOf-lt (take halfName bs) (bytes-take halfName bs h)),
-      fewer (leOf tail) (256 ^ length tail) (pow-le-pow-right (omega arith) {i = length tail} {j = halfName} (omega (arith, tail-length))) (leOf-lt tail tail-bytes),
+      fewer (leOf tail) (256 ^ length tail) (pow-le-pow-right (omega arith) {i = length tail} {j = halfName}
+          (omega (arith, tail-length))) (leOf-lt tail tail-bytes),
     )

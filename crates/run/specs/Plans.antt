@@ -89,7 +89,12 @@ module _ {B bs : List ℕ} {P : Plan} (p : PlannedFor B bs P) where
             let q = p .setting z .0 .passed (P .count - 1) noPlanned j .shape in
             let zs : List ℕ = replicate (headLength z′) 0 in
             let l : length y ≡ length out
-            = rw c (omega (arith, length-append zs (drop (length zs) out), length-replicate {A = ℕ} (headLength z′) 0, length-drop (length zs) out)) in
+            = rw c (omega (
+              arith,
+              length-append zs (drop (length zs) out),
+              length-replicate {A = ℕ} (headLength z′) 0,
+              length-drop (length zs) out,
+            )) in
             record {
               alike = result-alike (shapeIn (lastIn P)) _ _ _ (sym (last-step laid (p .setting z .1)) ∙ q);
               room = omega (arith, l, h, mul-le-mul-right (z′ .axis) last-ranked);

@@ -65,7 +65,11 @@ kinds-each t (c ∷ cs) h (suc i) = kinds-each t cs (h .1) i
 
 valid-whole : (z : Sizes) (As : List Array) → EachValid z As → AllWhole As
 valid-whole z [] h i b = absurd (omega arith)
-valid-whole z (A ∷ As) h zero b = record { type = h .0 .type; full = h .0 .full; kept = kinds-each (A .shape .type) (A .cells) (h .0 .kinds) }
+valid-whole z (A ∷ As) h zero b = record {
+  type = h .0 .type;
+  full = h .0 .full;
+  kept = kinds-each (A .shape .type) (A .cells) (h .0 .kinds);
+}
 valid-whole z (A ∷ As) h (suc i) b = valid-whole z As (h .1) i (omega arith)
 
 module _ (B bs : List ℕ) (R : Reading) (P : Plan) (r : ReadAll B R) where
@@ -94,7 +98,8 @@ module _ (B bs : List ℕ) (R : Reading) (P : Plan) (r : ReadAll B R) where
         let v = p .laid y in
         let a : arraysOf P ≡ arraysIn R = v .1 in
         let e = plan-is ∙ unless-got (P .refusal) (stepsOf bs P) y in
-        let q = recipe-passed (sizesIn B) (map shapeIn (arraysOf P)) bs (stepsOf bs P) (rw (a, ← r .version z) (sym (p .said) ∙ unless-got (P .refusal) (stepsOf bs P) y)) in
+        let q = recipe-passed (sizesIn B) (map shapeIn (arraysOf P)) bs (stepsOf bs P)
+        (rw (a, ← r .version z) (sym (p .said) ∙ unless-got (P .refusal) (stepsOf bs P) y)) in
         record {
           said = unless-got (P .refusal) _ y ∙ rw (a, read-got, e);
           setting = λ z. (
@@ -103,7 +108,8 @@ module _ (B bs : List ℕ) (R : Reading) (P : Plan) (r : ReadAll B R) where
               fit = λ j h.
                   let l : j < R .count = omega (arith, ap length a, length-take (R .count) (R .heads)) in
                   rw (a, getD-take (R .count) (R .heads) j noHead l) (r .fit j l);
-              whole = rw a (valid-whole (sizesIn B) (map (arrayAt B) (arraysIn R)) (bundle-read B (map (arrayAt B) (arraysIn R)) hB read-got .valid .each));
+              whole = rw a (valid-whole (sizesIn B) (map (arrayAt B) (arraysIn R))
+                  (bundle-read B (map (arrayAt B) (arraysIn R)) hB read-got .valid .each));
               passed = q .1;
               bytes = hb;
             },
@@ -145,7 +151,8 @@ module _ {bs : List ℕ} {P : Plan} (v : Laid bs P) (some : 1 ≤ P .count) wher
   last-there =
       let e : mostArrays + (j + 1) ≡ mostArrays + P .count = omega arith in
       result-there v j before ∙ ap (λ (i : ℕ). getD (P .operands) i (noOperand false) .head) e
-      ∙ ap (λ (o : Operand). o .head) (getD-any (P .operands) (mostArrays + P .count) (noOperand false) past (omega (arith, v .few, v .named .long)))
+      ∙ ap (λ (o : Operand). o .head) (getD-any (P .operands) (mostArrays + P .count) (noOperand false) past
+      (omega (arith, v .few, v .named .long)))
 
   pub last-laid : ResultLaid (P .version) bs (cellsOfAll (take j (stepsOf bs P)) * cellBytes) (getD (P .steps) j noStep) (lastIn P)
   last-laid = rw last-there at (laid-there v j before)

@@ -1,6 +1,6 @@
 // A line of the script: words apart by blanks, each a number. `-5` and `12` are numbers, `=12` one of eight bytes, `#3ff0000000000000` the
-// bits of one, `_` an empty cell, `_9` nine of them, `TRUE` and `FALSE` truth values; any other word is a name of up to 16 letters, whose first eight
-// are its number.
+// bits of one, `_` an empty cell, `_9` nine of them, `TRUE` and `FALSE` truth values; any other word is a name of up to 16 letters, whose
+// first eight are its number.
 ghost use Prim.Native.Nat.{_<_, _≤_};
 ghost use lib.ListN.{length};
 use std::num::wrapping_add_u64;

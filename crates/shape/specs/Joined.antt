@@ -40,4 +40,5 @@ module _ (e : Extent) (F : List Axis) (k : ℕ) (one : 1 ≤ k) (last : k ≤ le
   -- by the two axes, and the second's width
   pub glued-told : (a b : Axis) (w : ℕ) → a ≡ axisAt k (axesOf e) → b ≡ axisAt k F → w ≡ width b
       → axesOf (withAt e (k - 1) (limited (a .lo) (a .hi + w))) ≡ glued k (axesOf e) F
-  glued-told a b w p q f = ap (λ (x : Axis). axesOf (withAt e (k - 1) x)) (ap (λ (n : ℕ). limited (a .lo) (a .hi + n)) f ∙ ap₂ gluedAxis p q) ∙ glued-at
+  glued-told a b w p q f = ap (λ (x : Axis). axesOf (withAt e (k - 1) x))
+      (ap (λ (n : ℕ). limited (a .lo) (a .hi + n)) f ∙ ap₂ gluedAxis p q) ∙ glued-at

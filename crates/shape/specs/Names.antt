@@ -70,14 +70,16 @@ module _ (k : ℕ) (N : List Name) (i j : ℕ) (new : List Name) (v : Kept k N i
         room = length-set new j (getD N i noName) ∙ v .room;
         same =
             take-before new j (getD N i noName) room ∙ v .same
-            ∙ sym (ap (without k) (take-more N i noName here) ∙ without-it k (take i N) (getD N i noName) (omega (arith, first, eqb-true (i + 1) k e)));
+            ∙ sym (ap (without k) (take-more N i noName here)
+            ∙ without-it k (take i N) (getD N i noName) (omega (arith, first, eqb-true (i + 1) k e)));
       }
       by false e = record {
         few = omega (arith, v .few);
         room = length-set new j (getD N i noName) ∙ v .room;
         same =
             take-with new j (getD N i noName) room ∙ ap (λ (l : List Name). l ++ (getD N i noName ∷ [])) (v .same)
-            ∙ sym (ap (without k) (take-more N i noName here) ∙ without-other k (take i N) (getD N i noName) (λ h. eqb-false (i + 1) k e (omega (arith, first, h))));
+            ∙ sym (ap (without k) (take-more N i noName here)
+            ∙ without-other k (take i N) (getD N i noName) (λ h. eqb-false (i + 1) k e (omega (arith, first, h))));
       }
 
 pub kept-all : (k : ℕ) (N : List Name) (i j : ℕ) (new : List Name) → Kept k N i j new → length N ≤ i → length N ≤ mostAxes → i ≤ mostAxes
@@ -112,7 +114,8 @@ long-name s at x y e f =
 abbrev pub Renamed : ℕ → ℕ → List ℕ → ℕ → ℕ → List Name → Type 0
 Renamed w rank s at i new = (length new ≡ mostAxes) × ((N : List Name) → length N ≡ rank → take i new ≡ take i (renamed w N (drop at s)))
 
-pub renamed-more : (w rank : ℕ) (s : List ℕ) (at i : ℕ) (new : List Name) (x : Name) → Renamed w rank s at i new → i < rank → rank ≤ mostAxes
+pub renamed-more : (w rank : ℕ) (s : List ℕ) (at i : ℕ) (new : List Name) (x : Name) → Renamed w rank s at i new → i < rank
+    → rank ≤ mostAxes
     → x ≡ nameFrom (part (at + i * w) w s) → Renamed w rank s at (i + 1) (set new i x)
 renamed-more w rank s at i new x v h f e = (
   length-set new i x ∙ v .0,

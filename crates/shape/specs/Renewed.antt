@@ -79,7 +79,8 @@ fresh-after Limits a s at d n h =
     ap₂ (λ (x y : List ℕ). limited (distance (toZ w32 (leOf x))) (distance (toZ w32 (leOf y))))
     (detail-after s at d n 0 limitBytes (omega arith)) (detail-after s at d n limitBytes limitBytes (omega arith))
 fresh-after Moved a s at d n h =
-    ap (λ (x : List ℕ). limited (moved (a .lo) (toZ w32 (leOf x))) (moved (a .hi) (toZ w32 (leOf x)))) (detail-after s at d n 0 limitBytes (omega arith))
+    ap (λ (x : List ℕ). limited (moved (a .lo) (toZ w32 (leOf x))) (moved (a .hi) (toZ w32 (leOf x))))
+    (detail-after s at d n 0 limitBytes (omega arith))
 
 anew-after : (how : Change) (E : List Axis) (s : List ℕ) (at d n : ℕ) → n + length E * bytesFor how ≤ d
     → eachAnew (fresh how) (bytesFor how) E (drop n (part at d s)) ≡ eachAnew (fresh how) (bytesFor how) E (drop n (drop at s))

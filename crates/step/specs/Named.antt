@@ -25,7 +25,16 @@ use Rattle.shape.specs.Names.{names-in-detail}
 -- as many without one of an index
 pub without-many : {X Y : Type 0} (k : ℕ) (l : List X) (m : List Y) → length l ≡ length m → length (without k l) ≡ length (without k m)
 without-many k l m e =
-    omega (arith, e, length-append (take (k - 1) l) (drop k l), length-take (k - 1) l, length-drop k l, length-append (take (k - 1) m) (drop k m), length-take (k - 1) m, length-drop k m)
+    omega (
+      arith,
+      e,
+      length-append (take (k - 1) l) (drop k l),
+      length-take (k - 1) l,
+      length-drop k l,
+      length-append (take (k - 1) m) (drop k m),
+      length-take (k - 1) m,
+      length-drop k m,
+    )
 
 -- what an operation makes of the names of A, whose extent is e, a name in the detail having w bytes
 abbrev pub NamesTold : ℕ → Operation → Step → List Name → Extent → List Name → Type 0
@@ -43,7 +52,8 @@ pub names-anew : (w : ℕ) (E : List Axis) (M new : List Name) (s : List ℕ) (a
 names-anew w E M new s at d r e h l f =
     let k : length (namesFor E M) ≡ length E = length-take-le (length E) M h in
     let n : length (namesFor E M) ≡ r = k ∙ sym e in
-    let m : length (renamed w (namesFor E M) (part at d s)) ≡ r = length-anew (λ (n : Name) d. nameFrom (take w d)) w (namesFor E M) (part at d s) ∙ n in
+    let m : length (renamed w (namesFor E M) (part at d s)) ≡ r = length-anew (λ (n : Name) d. nameFrom (take w d)) w (namesFor E M)
+    (part at d s) ∙ n in
     ap (λ (k : ℕ). take k new) m ∙ f (namesFor E M) n ∙ names-in-detail w (namesFor E M) s at d (rw k l)
 
 -- there are as many as axes
@@ -63,5 +73,13 @@ names-many w (Moves Put) s N E F e h = e
 names-many w (Moves Glue) s N E F e h =
     let k = s .axis in
     let q = between-true (length E) k h in
-    omega (arith, e, q .0, q .1, length-append (take (k - 1) E) (limited (axisAt k E .lo) (axisAt k E .hi + width (axisAt k F)) ∷ drop k E), length-take (k - 1) E, length-drop k E)
+    omega (
+      arith,
+      e,
+      q .0,
+      q .1,
+      length-append (take (k - 1) E) (limited (axisAt k E .lo) (axisAt k E .hi + width (axisAt k F)) ∷ drop k E),
+      length-take (k - 1) E,
+      length-drop k E,
+    )
 names-many w (Works o) s N E F e h = e

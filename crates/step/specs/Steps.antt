@@ -64,7 +64,8 @@ pub position-there : (s : List ℕ) (h : StepHead) → positionAt (h .at) s ≡ 
 position-there s h =
     let at = h .at in
     let z : at + 0 ≡ at = omega arith in
-    sym (ap (λ (l : List ℕ). distance (toZ w32 (leOf l))) (part-part s at (detailOf h) 0 limitBytes (omega (arith, fits (h .version) .scalar)) ∙ ap (λ (j : ℕ). part j limitBytes s) z))
+    sym (ap (λ (l : List ℕ). distance (toZ w32 (leOf l)))
+    (part-part s at (detailOf h) 0 limitBytes (omega (arith, fits (h .version) .scalar)) ∙ ap (λ (j : ℕ). part j limitBytes s) z))
 
 pub scalar-there : (s : List ℕ) (h : StepHead) → part (h .at + scalarAt) wordBytes s ≡ part scalarAt wordBytes (part (h .at) (detailOf h) s)
 scalar-there s h = sym (part-part s (h .at) (detailOf h) scalarAt wordBytes (fits (h .version) .scalar))

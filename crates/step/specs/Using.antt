@@ -66,7 +66,12 @@ column (Moves Trim) z n f = record { b = refl; axis = refl; unused = λ d. refl;
 column (Moves Slice) z n f = record { b = refl; axis = refl; unused = λ d. refl; few = λ h. omega (arith, f .scalar) }
 column (Moves Reshape) z n f = record { b = refl; axis = refl; unused = λ d. refl; few = λ h. pairs z f n h }
 column (Moves Shift) z n f = record { b = refl; axis = refl; unused = λ d. refl; few = λ h. omega (arith, pairs z f n h) }
-column (Moves Rename) z n f = record { b = refl; axis = refl; unused = λ d. refl; few = λ h. le-trans (le-of-eq (mul-comm (z .name) n)) (le-trans (mul-le-mul-right (z .name) h) (f .names)) }
+column (Moves Rename) z n f = record {
+  b = refl;
+  axis = refl;
+  unused = λ d. refl;
+  few = λ h. le-trans (le-of-eq (mul-comm (z .name) n)) (le-trans (mul-le-mul-right (z .name) h) (f .names));
+}
 column (Moves Update) z n f = record { b = refl; axis = refl; unused = λ d. refl; few = λ h. omega (arith, f .scalar) }
 column (Moves Put) z n f = record { b = refl; axis = refl; unused = λ d. refl; few = λ h. omega (arith, f .scalar) }
 column (Moves Glue) z n f = record { b = refl; axis = refl; unused = λ d. refl; few = λ h. omega (arith, f .scalar) }
@@ -135,7 +140,8 @@ module _ (u : Used) (s : List ℕ) (at detail : ℕ) (few : u .from ≤ detail) 
       let e : at + scalarAt - (at + 1) ≡ scalarAt - 1 = omega arith in
       ap (λ (k : ℕ). part (at + 1) k s) e ∙ sym (part-part s at detail 1 (scalarAt - 1) (omega arith))
 
-  parted : zeros (unusedOf u d) ≡ (zeros (if u .scalar then part 1 (scalarAt - 1) d else []) && zeros (part (at + u .from) (at + detail - (at + u .from)) s))
+  parted : zeros (unusedOf u d) ≡ (zeros (if u .scalar then part 1 (scalarAt - 1) d else []) && zeros
+      (part (at + u .from) (at + detail - (at + u .from)) s))
   parted = zeros-append (if u .scalar then part 1 (scalarAt - 1) d else []) (drop (u .from) d) ∙ rw rest-there
 
   pub rest-used : zeros (part (at + u .from) (at + detail - (at + u .from)) s) ≡ false → false ≡ zeros (unusedOf u d)

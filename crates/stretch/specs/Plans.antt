@@ -13,11 +13,11 @@ use Rattle.paper.specs.declared.Part.{Part}
 use Rattle.paper.specs.declared.StretchAnswer.{StretchAnswer}
 use Rattle.paper.specs.declared.StretchAnswer.the-variants.{Got, Refused}
 use Rattle.paper.specs.Limits.{mostCells, cellBytes}
-use Rattle.paper.specs.Refusals.{got, refused, refusal, between, badBytes1, outside6}
+use Rattle.paper.specs.Refusals.{Res, got, refused, refusal, between, badBytes1, outside6}
 use Rattle.paper.specs.Axes.{cells}
 use Rattle.paper.specs.Bundle.{versionTold}
 use Rattle.paper.specs.Recipe.{glued}
-use Rattle.paper.specs.Stretch.{glueTests, stretch}
+use Rattle.paper.specs.Stretch.{Side, glueTests, stretchIn, stretch}
 use Rattle.paper.specs.Answers.{axesOf, stretchSaid}
 use Rattle.laws.specs.Tests.{between-true}
 use Rattle.laws.specs.Glue.{Gluable, blockCells, cells-glued}
@@ -31,21 +31,29 @@ abbrev pub Buffered : ℕ → ℕ → StretchAnswer → Type 0
 Buffered l r (Got p) = InBuffer l r p
 Buffered l r (Refused x) = Unit {0}
 
--- of the version told w, a left side (type t, names M, extent e, l bytes), a right side (u, N, f, r bytes), axis k and ordinality o: the
--- answer is the paper's, whatever the buffers hold, and a part lies in its buffer
-pub record StretchFound (w : ℕ) (t : ℕ) (M : List Name) (e : Extent) (l : ℕ) (u : ℕ) (N : List Name) (f : Extent) (r : ℕ) (k o : ℕ)
-    (a : StretchAnswer) : Type 0 where
-  pub said : (bs cs : List ℕ) → length bs ≡ l → length cs ≡ r → stretchSaid a ≡ stretch w (sided t M e bs) (sided u N f cs) k o
+-- of a left side (type t, names M, extent e, l bytes), a right side (u, N, f, r bytes), axis k and ordinality o: the answer is the
+-- paper's, in a version or in the version told, whatever the buffers hold, and a part lies in its buffer
+pub record StretchFound (paper : Side → Side → ℕ → ℕ → Res Part) (t : ℕ) (M : List Name) (e : Extent) (l : ℕ) (u : ℕ) (N : List Name)
+    (f : Extent) (r : ℕ) (k o : ℕ) (a : StretchAnswer) : Type 0 where
+  pub said : (bs cs : List ℕ) → length bs ≡ l → length cs ≡ r → stretchSaid a ≡ paper (sided t M e bs) (sided u N f cs) k o
   pub within : Buffered l r a
 
--- a version that is none is refused before all else
-pub no-version : {w t l u r k o : ℕ} {M N : List Name} {e f : Extent} → versionTold w ≡ refused (refusal badBytes1 0 0)
-    → StretchFound w t M e l u N f r k o (Refused (refusal badBytes1 0 0))
-unfolding stretch
-no-version h = record { said = λ bs cs p q. rw h; within = tt }
+module _ (w : ℕ) {t l u r k o : ℕ} {M N : List Name} {e f : Extent} where
+  -- what is found in the version told
+  pub in-version : {z : Sizes} {a : StretchAnswer} → versionTold w ≡ got z → StretchFound (stretchIn z) t M e l u N f r k o a
+      → StretchFound (stretch w) t M e l u N f r k o a
+  unfolding stretch
+  in-version h s = record { said = λ bs cs p q. rw h (s .said bs cs p q); within = s .within }
+
+  -- a version that is none is refused before all else
+  pub no-version : versionTold w ≡ refused (refusal badBytes1 0 0)
+      → StretchFound (stretch w) t M e l u N f r k o (Refused (refusal badBytes1 0 0))
+  unfolding stretch
+  no-version h = record { said = λ bs cs p q. rw h; within = tt }
 
 -- every test passed but the last
-pub record SidesPassed (z : Sizes) (t : ℕ) (M : List Name) (e : Extent) (l : ℕ) (u : ℕ) (N : List Name) (f : Extent) (r : ℕ) (k : ℕ) : Type 0 where
+pub record SidesPassed (z : Sizes) (t : ℕ) (M : List Name) (e : Extent) (l : ℕ) (u : ℕ) (N : List Name) (f : Extent) (r : ℕ)
+    (k : ℕ) : Type 0 where
   pub left : SidePassed z t M e l 1
   pub right : SidePassed z u N f r 2
   pub glue : (bs cs : List ℕ) → glueTests (sided t M e bs) (sided u N f cs) k ≡ got tt
@@ -82,10 +90,10 @@ module _ {z : Sizes} {t l u r k : ℕ} {M N : List Name} {e f : Extent} (P : Sid
     counted : {b : Bool} → between 1 ((l + r) / cellBytes) o ≡ b → between 1 (cells (glued k E F)) o ≡ b
     counted q = let n : cells (glued k E F) ≡ (l + r) / cellBytes = omega (arith, bytes) in rw n q
 
-    pub outside : {w : ℕ} → versionTold w ≡ got z → between 1 ((l + r) / cellBytes) o ≡ false
-        → StretchFound w t M e l u N f r k o (Refused (refusal outside6 0 0))
-    unfolding stretch
-    outside h q = record { said = λ bs cs x y. rw (h, P .left .said bs x, P .right .said cs y, P .glue bs cs, counted q); within = tt }
+    pub outside : between 1 ((l + r) / cellBytes) o ≡ false
+        → StretchFound (stretchIn z) t M e l u N f r k o (Refused (refusal outside6 0 0))
+    unfolding stretchIn
+    outside q = record { said = λ bs cs x y. rw (P .left .said bs x, P .right .said cs y, P .glue bs cs, counted q); within = tt }
 
     module _ (q : between 1 ((l + r) / cellBytes) o ≡ true) where
       range : (1 ≤ o) × (o ≤ cells (glued k E F))
@@ -95,13 +103,13 @@ module _ {z : Sizes} {t l u r k : ℕ} {M N : List Name} {e f : Extent} (P : Sid
       in-few = omega (arith, range, glue .1 .few)
 
       -- m and n cells are a block of each side
-      pub part-found : {w m n : ℕ} {p : Part} → versionTold w ≡ got z → m ≡ blockCells k E → n ≡ blockCells k F → p ≡ turnPart m n (o - 1)
-          → StretchFound w t M e l u N f r k o (Got p)
-      unfolding stretch
-      part-found {w} {m} {n} {p} h mis nis s =
+      pub part-found : {m n : ℕ} {p : Part} → m ≡ blockCells k E → n ≡ blockCells k F → p ≡ turnPart m n (o - 1)
+          → StretchFound (stretchIn z) t M e l u N f r k o (Got p)
+      unfolding stretchIn
+      part-found {m} {n} {p} mis nis s =
           let T = turn-is k E F (glue .0) (right .0 .sound) o (range .0) (range .1) in
           let b : p ≡ turnPart (blockCells k E) (blockCells k F) (o - 1) = s ∙ ap₂ (λ (x y : ℕ). turnPart x y (o - 1)) mis nis in
           record {
-            said = λ bs cs x y. rw (h, P .left .said bs x, P .right .said cs y, P .glue bs cs, counted q) (ap got (b ∙ T .0));
+            said = λ bs cs x y. rw (P .left .said bs x, P .right .said cs y, P .glue bs cs, counted q) (ap got (b ∙ T .0));
             within = rw (b, left .1, right .1) (T .1);
           }

@@ -59,7 +59,8 @@ side-passed s h = record { said = λ bs p. passed _ (s .said bs p) h }
 
 -- ---- what is known where they hold
 
-pub judge-passed : (z : Sizes) (k : ℕ) (s : Side) → judge z k s ≡ got tt → Small (s .axes) × (length (s .bytes) ≡ cells (s .axes) * cellBytes)
+pub judge-passed : (z : Sizes) (k : ℕ) (s : Side) → judge z k s ≡ got tt → Small (s .axes)
+    × (length (s .bytes) ≡ cells (s .axes) * cellBytes)
 unfolding judge
 judge-passed z k s e =
     let a = ensure-got (isType (s .type) && between 1 (z .axes) (length (s .axes))) badBytes1 k _ tt e in

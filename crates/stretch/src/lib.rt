@@ -1,12 +1,11 @@
 // A glued array read without being built: the stretch from a cell up to where the other side begins is a part of the left or of the
 // right cell buffer. The version told is judged, then each side, then what gluing asks, then the ordinality; cells aren't.
-ghost use Prim.Native.Nat.{ℕ, _*_, _≤_};
+ghost use Prim.Native.Nat.{_*_, _≤_};
 ghost use mathlib.Core.Path.{_≡_};
 ghost use lib.ListN.{length};
 ghost use Rattle.paper.specs.Limits.{mostCells, cellBytes, sizesOf};
 ghost use Rattle.paper.specs.Refusals.{got};
-ghost use Rattle.paper.specs.Bundle.{versionTold};
-ghost use Rattle.paper.specs.Stretch.{Side, handedOut};
+ghost use Rattle.paper.specs.Stretch.{Side, stretchIn, stretch as paperStretch, handedOut};
 ghost use Rattle.paper.specs.Answers.{axesOf};
 ghost use Rattle.extent.specs.Judged.{Small};
 ghost use Rattle.origin.specs.Asks.{InTurns};
@@ -135,8 +134,8 @@ fn in_turn(m: usize, n: usize, j: usize) -> Part
     }
 }
 
-// Where the stretch lies, by the bytes of its side's cell buffer, or the first refusal: of sides in a version.
-fn plan_in(
+// Where the stretch of two sides lies in a version, by the bytes of its side's cell buffer; or the first refusal.
+pub fn plan_as(
     v: Version,
     left_kind: u8,
     left_names: [Name; AXES],
@@ -149,8 +148,8 @@ fn plan_in(
     axis: AxisIndex,
     o: Ordinality,
 ) -> StretchAnswer
-    ensures { λ r. ⌜ ((w : ℕ) → versionTold w ≡ got (sizesOf v)
-        → StretchFound w «left_kind» «left_names» left «left_bytes» «right_kind» «right_names» right «right_bytes» (axis .0) (o .0) r) ⌝ }
+    ensures { λ r. ⌜ StretchFound (stretchIn (sizesOf v)) «left_kind» «left_names» left «left_bytes»
+        «right_kind» «right_names» right «right_bytes» (axis .0) (o .0) r ⌝ }
 {
     let first = side_refusal(v, left_kind, left_names, left, left_bytes, 1);
     if first.number != 0 {
@@ -180,7 +179,7 @@ fn plan_in(
     StretchAnswer::Got(in_turn(m, n, o.0 as usize - 1))
 }
 
-// The same of the version told.
+// So in the version that a number tells of: another than 1 and 2 is refused before all else.
 pub fn plan_stretch(
     version: u32,
     left_kind: u8,
@@ -194,12 +193,13 @@ pub fn plan_stretch(
     axis: AxisIndex,
     o: Ordinality,
 ) -> StretchAnswer
-    ensures { λ r. ⌜ StretchFound version «left_kind» «left_names» left «left_bytes» «right_kind» «right_names» right «right_bytes» (axis .0) (o .0) r ⌝ }
+    ensures { λ r. ⌜ StretchFound (paperStretch version) «left_kind» «left_names» left «left_bytes»
+        «right_kind» «right_names» right «right_bytes» (axis .0) (o .0) r ⌝ }
 {
     let told = version_told(version);
     match told {
         Told::Is(v) => {
-            return plan_in(
+            return plan_as(
                 v,
                 left_kind,
                 left_names,

@@ -13,7 +13,7 @@ use Rattle.paper.specs.Axes.{Shape}
 use Rattle.paper.specs.Bundle.{versionTold, sizesIn, cellsOf, arrayOf, readArray, readArrays, readAs, readBundle}
 use Rattle.paper.specs.Recipe.{stepTests, stepResult, stepOver, planStep, planSteps, planRecipe}
 use Rattle.paper.specs.Listing.{planned, runTests, listTests, pageTests}
-use Rattle.paper.specs.Stretch.{Side, judge, glueTests, stretch}
+use Rattle.paper.specs.Stretch.{Side, judge, glueTests, stretchIn, stretch}
 use Rattle.laws.specs.Tests.{none-refused}
 
 -- a refusal's number is 1 to 11: so of one test, and of tests one after the other
@@ -86,5 +86,5 @@ told-early v =
     either-early (eqb v 1) _ _ (done version1) (either-early (eqb v 2) _ _ (done version2) (refused-early (refusal badBytes1 0 0) refl))
 
 pub stretch-early : (v : ℕ) (l r : Side) (k o : ℕ) → Early (stretch v l r k o)
-unfolding stretch judge glueTests
+unfolding stretch stretchIn judge glueTests
 stretch-early v l r k o = search (tests, told-early) depth 10

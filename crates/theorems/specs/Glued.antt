@@ -20,7 +20,7 @@ use Rattle.paper.specs.Cells.{encode, cellsBytes}
 use Rattle.paper.specs.Bundle.{versionTold}
 use Rattle.paper.specs.Recipe.{glued}
 use Rattle.paper.specs.Values.{inFirst, inSecond}
-use Rattle.paper.specs.Stretch.{Side, judge, stay, span, stretchAt, glueTests, stretch, handedOut}
+use Rattle.paper.specs.Stretch.{Side, judge, stay, span, stretchAt, glueTests, stretchIn, stretch, handedOut}
 use Rattle.laws.specs.Tests.{between-true, bind-got, ensure-got, got-one}
 use Rattle.laws.specs.Limits.{Sound}
 use Rattle.laws.specs.Glue.{Gluable, gluedCell}
@@ -113,8 +113,9 @@ module _ (A B : Array) (k o : ℕ) where
   -- where no refusal is told, the tests passed
   answered : (v : ℕ) (m : Res Part) → stretch v (sideOf A) (sideOf B) k o ≡ m → getD (figures m) 0 0 ≡ 0
       → Stretched (handedOut (sideOf A) (sideOf B) m)
-  unfolding stretch
-  answered v (refused x) e z = absurd (omega (arith, between-true badPage11 (x .number) (stretch-early v (sideOf A) (sideOf B) k o .early x e)))
+  unfolding stretch stretchIn
+  answered v (refused x) e z = absurd
+      (omega (arith, between-true badPage11 (x .number) (stretch-early v (sideOf A) (sideOf B) k o .early x e)))
   answered v (got q) e z =
       let t = bind-got (versionTold v) _ q e in
       let a = bind-got (judge (t .0) 1 (sideOf A)) _ q (t .2) in
@@ -129,7 +130,8 @@ module _ (A B : Array) (k o : ℕ) where
       (handed g (y .0 .sound) (omega (arith, x .1, cell-bytes (A .cells))) (omega (arith, y .1, cell-bytes (B .cells))) (r .0) (r .1))
 
   -- `stretch` called with two arrays lent as sides: where it tells no refusal, it hands out cells of the glued array
-  pub glued-cells : (v : ℕ) (c : StretchCall) → Stretches v (sideOf A) (sideOf B) k o c → getD (told c) 0 0 ≡ 0 → Stretched (now (c .answer))
+  pub glued-cells : (v : ℕ) (c : StretchCall) → Stretches v (sideOf A) (sideOf B) k o c → getD (told c) 0 0 ≡ 0
+      → Stretched (now (c .answer))
   glued-cells v c w z =
       let h = stretches c w in
       rw (h .bytes) (answered v (stretch v (sideOf A) (sideOf B) k o) refl (rw (h .refusal) at z))

@@ -84,7 +84,8 @@ pub record StretchCall : Type 0 where
 pub record Stretches (v : ℕ) (L R : Side) (k o : ℕ) (c : StretchCall) : Type 0 where
   pub version : c .passed .0 ≡ v
   pub left : sided (c .passed .1 .0) (c .passed .1 .1 .0) (c .passed .1 .1 .1 .0) (now (c .passed .1 .1 .1 .1 .0)) ≡ L
-  pub right : sided (c .passed .1 .1 .1 .1 .1 .0) (c .passed .1 .1 .1 .1 .1 .1 .0) (c .passed .1 .1 .1 .1 .1 .1 .1 .0) (now (c .passed .1 .1 .1 .1 .1 .1 .1 .1 .0)) ≡ R
+  pub right : sided (c .passed .1 .1 .1 .1 .1 .0) (c .passed .1 .1 .1 .1 .1 .1 .0) (c .passed .1 .1 .1 .1 .1 .1 .1 .0)
+      (now (c .passed .1 .1 .1 .1 .1 .1 .1 .1 .0)) ≡ R
   pub axis : c .passed .1 .1 .1 .1 .1 .1 .1 .1 .1 .0 .0 ≡ k
   pub from : c .passed .1 .1 .1 .1 .1 .1 .1 .1 .1 .1 .0 .0 ≡ o
 
@@ -94,7 +95,8 @@ told c = now (c .left .1 .1 .1 .1 .1 .1 .1 .1 .1 .1 .1 .0)
 
 pub stretches : (c : StretchCall) {v : ℕ} {L R : Side} {k o : ℕ} → Stretches v L R k o c → Handed v L R k o (now (c .answer)) (told c)
 stretches c w =
-    rw (w .version, w .left, w .right, w .axis, w .from) at (stretch-promised (c .lifetimes) (c .passed) (c .answer) (c .left) (c .promised))
+    rw (w .version, w .left, w .right, w .axis, w .from) at
+    (stretch-promised (c .lifetimes) (c .passed) (c .answer) (c .left) (c .promised))
 
 -- ---- `run::page`
 

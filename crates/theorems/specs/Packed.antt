@@ -30,13 +30,15 @@ unfolding versionTold sizesOf
 told-own One = refl
 told-own Two = refl
 
-by-two : (n : ℕ) (z : Sizes) (b : Bool) → (if b then got version2 else refused (refusal badBytes1 0 0)) ≡ got z → (v : Version) × (sizesOf v ≡ z)
+by-two : (n : ℕ) (z : Sizes) (b : Bool) → (if b then got version2 else refused (refusal badBytes1 0 0)) ≡ got z → (v : Version)
+    × (sizesOf v ≡ z)
 unfolding sizesOf
 by-two n z true e = (Two, got-one version2 z e)
 by-two n z false e = absurd (no-refusal _ z e)
 
 by-one : (n : ℕ) (z : Sizes) (b : Bool)
-    → (if b then got version1 else (if eqb n 2 then got version2 else refused (refusal badBytes1 0 0))) ≡ got z → (v : Version) × (sizesOf v ≡ z)
+    → (if b then got version1 else (if eqb n 2 then got version2 else refused (refusal badBytes1 0 0))) ≡ got z → (v : Version)
+    × (sizesOf v ≡ z)
 unfolding sizesOf
 by-one n z true e = (One, got-one version1 z e)
 by-one n z false e = by-two n z (eqb n 2) e
@@ -93,12 +95,14 @@ pub record AcceptedIn (n : ℕ) (ss : List Shape) (bs : List ℕ) (p : After) : 
   pub back : ReadIn version p arrays
 
 -- whatever types, extents, maxima and cells packing accepts are read back
-pub accepted-read : (version : ℕ) (ss : List Shape) (bs out : List ℕ) (n : ℕ) → Bytes bs → AllNamed ss → pack version ss bs out .answer ≡ got n
+pub accepted-read : (version : ℕ) (ss : List Shape) (bs out : List ℕ) (n : ℕ) → Bytes bs → AllNamed ss
+    → pack version ss bs out .answer ≡ got n
     → AcceptedIn version ss bs (pack version ss bs out)
 unfolding putInto
 accepted-read version ss bs out n h m e = first (versionTold version) refl e
   where
-    after : (v : Version) → versionTold version ≡ got (sizesOf v) → (r : Res (List ℕ)) → packed (sizesOf v) ss bs (length out) ≡ r → putInto out r .answer ≡ got n
+    after : (v : Version) → versionTold version ≡ got (sizesOf v) → (r : Res (List ℕ)) → packed (sizesOf v) ss bs (length out) ≡ r
+        → putInto out r .answer ≡ got n
         → AcceptedIn version ss bs (putInto out r)
     after v t (refused x) q d = absurd (no-refusal x n d)
     after v t (got b) q d =
@@ -109,7 +113,8 @@ accepted-read version ss bs out n h m e = first (versionTold version) refl e
           arrays = p .arrays;
           itsShapes = p .itsShapes;
           itsCells = p .itsCells;
-          back = gave-read v b out (p .arrays) (rw (p .bytes) at (version-back v (p .arrays))) (rw (p .bytes) at (bundle-back v (p .arrays) (p .valid)));
+          back = gave-read v b out (p .arrays) (rw (p .bytes) at (version-back v (p .arrays)))
+              (rw (p .bytes) at (bundle-back v (p .arrays) (p .valid)));
         }
 
     first : (r : Res Sizes) → versionTold version ≡ r → putInto out (r >>= (λ z. packed z ss bs (length out))) .answer ≡ got n
@@ -117,5 +122,6 @@ accepted-read version ss bs out n h m e = first (versionTold version) refl e
     first (refused x) q d = absurd (no-refusal x n d)
     first (got z) q d =
         let t = told-version version z q in
-        subst (λ (y : Sizes). putInto out (packed y ss bs (length out)) .answer ≡ got n → AcceptedIn version ss bs (putInto out (packed y ss bs (length out)))) (t .1)
+        subst (λ (y : Sizes). putInto out (packed y ss bs (length out)) .answer ≡ got n
+        → AcceptedIn version ss bs (putInto out (packed y ss bs (length out)))) (t .1)
         (after (t .0) (q ∙ ap got (sym (t .1))) (packed (sizesOf (t .0)) ss bs (length out)) refl) d

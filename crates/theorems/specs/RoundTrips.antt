@@ -65,7 +65,8 @@ its-forms : (v : Version) (As : List Array) → EachValid (sizesOf v) As → map
 its-forms w [] v = refl
 its-forms w (A ∷ As) v =
     let n = named-length (A .shape .names) (A .shape .axes) (v .0 .names) in
-    let h : length (A .shape .axes) ≤ mostAxes = omega (arith, between-true (sizesOf w .axes) (length (A .shape .axes)) (v .0 .rank) .1, fits w .axes) in
+    let h : length (A .shape .axes) ≤ mostAxes = omega
+    (arith, between-true (sizesOf w .axes) (length (A .shape .axes)) (v .0 .rank) .1, fits w .axes) in
     let k = within-alike (A .shape .axes) (A .shape .maximum) (v .0 .inMaximum) in
     ap₂ (λ (s : Shape) (l : List Shape). s ∷ l) (form-shape (A .shape) n h (omega arith)) (its-forms w As (v .1))
 
@@ -88,15 +89,18 @@ read-back v bs As r i h e =
     let q : reading bs ≡ got (lyingFrom (sizesIn bs) (markBytes + 1) As) = rw e in
     record {
       arrays = h .arrays ∙ e;
-      figures = h .tidy ∙ ap (readingOf (versionIn bs)) (h .said ∙ q) ∙ ap (λ (x : Version). readingOf x (got (lyingFrom (sizesOf x) (markBytes + 1) As))) i;
+      figures = h .tidy ∙ ap (readingOf (versionIn bs)) (h .said ∙ q)
+          ∙ ap (λ (x : Version). readingOf x (got (lyingFrom (sizesOf x) (markBytes + 1) As))) i;
     }
 
 -- `pack` called with a version, a valid list of arrays and room for them gives a bundle, and `read` called with its bytes gives that
 -- version and those arrays
-pub packed-then-read : (v : Version) (As : List Array) (out : List ℕ) → AllValid (sizesOf v) As → length (bundleBytes (sizesOf v) As) ≤ length out
+pub packed-then-read : (v : Version) (As : List Array) (out : List ℕ) → AllValid (sizesOf v) As
+    → length (bundleBytes (sizesOf v) As) ≤ length out
     → (p : PackCall) → Packs (sizesOf v .version) (length As) (formsOf As) (allCells As) out p
     → let y : List ℕ = take (length (bundleBytes (sizesOf v) As)) (packedOut p) in
-    Gave (bundleBytes (sizesOf v) As) out (p .answer) (packedOut p) × ((r : ReadCall) → now (r .passed .0) ≡ y → ReadBack v y As (r .answer))
+    Gave (bundleBytes (sizesOf v) As) out (p .answer) (packedOut p)
+    × ((r : ReadCall) → now (r .passed .0) ≡ y → ReadBack v y As (r .answer))
 packed-then-read v As out h l p w =
     let g = gave-by (sizesOf v .version) _ (allCells As) (bundleBytes (sizesOf v) As) out (p .answer) (packedOut p) (packs p w)
     (rw (forms-shapes v As (h .each)) (pack-valid v As out h l)) in
@@ -145,7 +149,8 @@ read-then-packed bs out h l c is z p k =
 
 -- whatever forms and cells `pack` accepts, with a name that fits its bytes for each axis, `read` gives back, in the version told
 pub accepted-then-read : (version count : ℕ) (forms : List Form) (cs out : List ℕ) → Bytes cs → AllNamed (shapesOf count forms)
-    → (n : ℕ) (p : PackCall) → Packs version count forms cs out p → p .answer ≡ Got n → (r : ReadCall) → now (r .passed .0) ≡ take n (packedOut p)
+    → (n : ℕ) (p : PackCall) → Packs version count forms cs out p → p .answer ≡ Got n → (r : ReadCall)
+    → now (r .passed .0) ≡ take n (packedOut p)
     → (v : Version) × (versionTold version ≡ got (sizesOf v)) × (As : List Array) × (shapes As ≡ shapesOf count forms) × (allCells As ≡ cs)
     × ReadBack v (take n (packedOut p)) As (r .answer)
 accepted-then-read version count forms cs out h m n p k a r is =

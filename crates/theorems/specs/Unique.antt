@@ -66,5 +66,6 @@ pub extent-one : (e f : Extent) → TidyExtent e → TidyExtent f → axesOf e �
 extent-one e f h k q = h ∙ ap extentOf q ∙ sym k
 
 -- so a reading with nothing past the last is fixed by its version and its figures
-pub reading-one : (v : Version) (r s : Reading) → r ≡ readingOf v (readSaid r) → s ≡ readingOf v (readSaid s) → readSaid r ≡ readSaid s → r ≡ s
+pub reading-one : (v : Version) (r s : Reading) → r ≡ readingOf v (readSaid r) → s ≡ readingOf v (readSaid s) → readSaid r ≡ readSaid s
+    → r ≡ s
 reading-one v r s h k q = h ∙ ap (readingOf v) q ∙ sym k

@@ -94,7 +94,15 @@ pub record Found (B : List ℕ) (As Rs : List Array) (n : ℕ) (o : Operand) (S 
 
 -- what an array of operands is read as past its end
 abbrev pub past : Operand
-past = record { found = false; which = 0; head = record { form = record { kind = 0; names = []; extent = record { rank = 0; axes = [] }; maximum = record { rank = 0; axes = [] } }; at = 0; cells = 0 } }
+past = record {
+  found = false;
+  which = 0;
+  head = record {
+    form = record { kind = 0; names = []; extent = record { rank = 0; axes = [] }; maximum = record { rank = 0; axes = [] } };
+    at = 0;
+    cells = 0;
+  };
+}
 
 -- step s as the code finds it in the plan
 abbrev pub turnIn : Plan → ℕ → Turn
@@ -263,7 +271,8 @@ module _ {B bs : List ℕ} {P : Plan} (v : Setting B bs P) {W : List ℕ} {s : �
     there i h = getD-any (P .operands) i past (noOperand false) (omega (arith, v .laid .named .long))
 
     result-is : getD (resultsOf P) s noHead ≡ t .result
-    result-is = result-there (v .laid) s turns ∙ ap (λ (o : Operand). o .head) (sym (there (mostArrays + (s + 1)) (omega (arith, turns, v .laid .few))))
+    result-is = result-there (v .laid) s turns
+        ∙ ap (λ (o : Operand). o .head) (sym (there (mostArrays + (s + 1)) (omega (arith, turns, v .laid .few))))
 
     kept-here : ResultLaid (P .version) bs (cellsOfAll (take s ps) * cellBytes) (t .step) (t .result)
     kept-here = rw result-is at (laid-there (v .laid) s turns)
@@ -275,8 +284,10 @@ module _ {B bs : List ℕ} {P : Plan} (v : Setting B bs P) {W : List ℕ} {s : �
     pub ready : Ready B bs (resultBytes Rs) A Z p t
     ready =
         let e : p ≡ plannedOf bs (t .step) (t .result) = step-there (v .laid) s turns noPlanned ∙ ap (plannedOf bs (t .step)) result-is in
-        let a : t .a ≡ its (p .step .a) = there (slotOf (t .step .a)) (slot-few (t .step .a)) ∙ ap (λ (x : Planned). its (x .step .a)) (sym e) in
-        let b : t .b ≡ its (p .step .b) = there (slotOf (t .step .b)) (slot-few (t .step .b)) ∙ ap (λ (x : Planned). its (x .step .b)) (sym e) in
+        let a : t .a ≡ its (p .step .a) = there (slotOf (t .step .a)) (slot-few (t .step .a))
+        ∙ ap (λ (x : Planned). its (x .step .a)) (sym e) in
+        let b : t .b ≡ its (p .step .b) = there (slotOf (t .step .b)) (slot-few (t .step .b))
+        ∙ ap (λ (x : Planned). its (x .step .b)) (sym e) in
         let i : A .shape ≡ passes .first = ap (λ (X : Array). X .shape) first-is ∙ first .shape in
         record {
           step = ap (λ (x : Planned). x .step) e;

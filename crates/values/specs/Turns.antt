@@ -254,7 +254,8 @@ module _ {B bs D : List ℕ} {A Z : Array} {p : Planned} {t : Turn} (y : Ready B
   unfolding cellAt made typesFit takesType agree uses
   computes (Pair o) e n k v h = rw e (
       let f = fits (Pair o) e 0 k h in
-      let g : (asMany (S .axes) (U .axes) && (alike sameName (S .names) (U .names) && alike sameLimits (S .axes) (U .axes))) ≡ true = rw e at (y .tested .agrees) in
+      let g : (asMany (S .axes) (U .axes) && (alike sameName (S .names) (U .names) && alike sameLimits (S .axes) (U .axes))) ≡ true = rw
+      e at (y .tested .agrees) in
       let l = and-right (asMany (S .axes) (U .axes)) _ g in
       pair-by (Pair o) e 0 k h o (and-right (eqb (S .type) (U .type)) _ f) (first-cell (Pair o) e 0 k h)
       (second-cell (Pair o) e 0 k h refl (and-left _ _ f) (and-right (alike sameName (S .names) (U .names)) _ l)))
@@ -295,7 +296,11 @@ module _ {B bs D : List ℕ} {A Z : Array} {p : Planned} {t : Turn} (y : Ready B
       second = y .small-second;
       result = y .small-result;
       axis = rw (← first-axes) (subst (λ (op : Operation). axisIn (uses op) (length (S .axes)) (p .step .axis) ≡ true) e (y .tested .axis));
-      agrees = rw (← first-axes, ← second-axes) (subst (λ (op : Operation). agree op (p .step .axis) (S .names) (S .axes) (U .names) (U .axes) ≡ true) e (y .tested .agrees));
+      agrees = rw (
+        ← first-axes,
+        ← second-axes,
+      ) (subst (λ (op : Operation). agree op (p .step .axis) (S .names) (S .axes) (U .names) (U .axes) ≡ true) e
+          (y .tested .agrees));
       left = S;
       right = U;
       left-axes = first-axes;

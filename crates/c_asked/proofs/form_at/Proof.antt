@@ -17,10 +17,19 @@ module _ (c : tie.After-head-count) where
   start = c .before .before .before .before
 
   few : c .head-count .result ≤ mostAxes
-  few = let v = start .args .v in omega (arith, c .head-count .ensures, head-few (sizesOf v) (getD (now (start .args .s)) (start .args .at + 1) 0), fits v .axes)
+  few = let v = start .args .v in omega (
+    arith,
+    c .head-count .ensures,
+    head-few (sizesOf v) (getD (now (start .args .s)) (start .args .at + 1) 0),
+    fits v .axes,
+  )
 
   small : c .head-count .result * sizesOf (start .args .v) .axis ≤ sizesOf (start .args .v) .axes * sizesOf (start .args .v) .axis
-  small = let z = sizesOf (start .args .v) in omega (arith, ap (λ n. n * z .axis) (c .head-count .ensures), head-room z (getD (now (start .args .s)) (start .args .at + 1) 0))
+  small = let z = sizesOf (start .args .v) in omega (
+    arith,
+    ap (λ n. n * z .axis) (c .head-count .ensures),
+    head-room z (getD (now (start .args .s)) (start .args .at + 1) 0),
+  )
 
 returns : tie.Need-returns
 returns c =

@@ -33,7 +33,8 @@ module _ (c : tie.In-loop Inv-loop μ-loop) where
   size = sized .whole-head .result
 
   inside : 0 + c .before .loop .i * size + size ≤ length heads
-  inside = let v = c .before .loop .inv in axis-room (c .before .loop .i) _ size 0 (length heads) (c .loop-test .taken) (omega (arith, v .room))
+  inside = let v = c .before .loop .inv in axis-room (c .before .loop .i) _ size 0 (length heads) (c .loop-test .taken)
+      (omega (arith, v .room))
 
 returns : tie.Need-returns Inv-loop μ-loop
 returns c =
@@ -54,7 +55,8 @@ forms-in-spec =
     tie.close
     (tie.spec
     Inv-loop μ-loop (λ c κs. tt) (λ c κs. let w = c .whole-head .ensures in (omega (arith, w .0), w .1, omega arith)) (λ c κs. tt)
-    (λ c. let w = c .before .before .before in filling-starts (omega (arith, w .whole-head .ensures .0)) (c .before .before .pieces-of .ensures) refl)
+    (λ c. let w = c .before .before .before in filling-starts (omega (arith, w .whole-head .ensures .0))
+    (c .before .before .pieces-of .ensures) refl)
     (λ c. omega (arith, inside c)) (λ c κs. omega (arith, inside c, sized c .whole-head .ensures .0))
     (λ c. let v = c .before .before .loop .inv in omega arith) (λ c. let v = c .before .before .loop .inv in omega arith)
     (λ c. let v = c .before .before .loop .inv in omega arith) (λ c. omega arith)

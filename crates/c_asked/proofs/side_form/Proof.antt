@@ -27,4 +27,5 @@ pub side-form-spec : {M : Type 1} → statement M
 side-form-spec =
     tie.close
     (tie.spec
-    (λ c κs. search needs) (λ c κs. search needs) returns (λ c κs. omega (arith, c .if1 .left, c .before .whole-head .ensures .0)) returns-2)
+    (λ c κs. search needs) (λ c κs. search needs) returns (λ c κs. omega (arith, c .if1 .left, c .before .whole-head .ensures .0))
+    returns-2)

@@ -15,10 +15,21 @@ told : (c : tie.After-all-meet) → within (axesOf (c .before .before .args .e))
 told c = sym (c .all-meet .ensures ∙ by-maximum _ _)
 
 returns : tie.Need-returns
-returns c = (not-within (namesFor (axesOf (c .before .before .before .args .e)) (c .before .before .before .args .names)) (axesOf (c .before .before .before .args .e)) (axesOf (c .before .before .before .args .maximum)) (told ((c .before)) ∙ not-true _ (c .if1 .taken)), omega arith)
+returns c = (
+  not-within (namesFor (axesOf (c .before .before .before .args .e)) (c .before .before .before .args .names))
+      (axesOf (c .before .before .before .args .e)) (axesOf (c .before .before .before .args .maximum))
+      (told ((c .before)) ∙ not-true _ (c .if1 .taken)),
+  omega arith,
+)
 
 returns-2 : tie.Need-returns-2
-returns-2 c = (c .before .before .good-extent .ensures .0 ∙ by-within (namesFor (axesOf (c .before .before .before .args .e)) (c .before .before .before .args .names)) (axesOf (c .before .before .before .args .e)) (axesOf (c .before .before .before .args .maximum)) (told ((c .before)) ∙ not-false _ (c .if1 .left)), c .before .before .good-extent .ensures .1)
+returns-2 c = (
+  c .before .before .good-extent .ensures .0
+      ∙ by-within (namesFor (axesOf (c .before .before .before .args .e)) (c .before .before .before .args .names))
+      (axesOf (c .before .before .before .args .e)) (axesOf (c .before .before .before .args .maximum))
+      (told ((c .before)) ∙ not-false _ (c .if1 .left)),
+  c .before .before .good-extent .ensures .1,
+)
 
 pub extent-cells-spec : {M : Type 1} → statement M
 extent-cells-spec = tie.close (tie.spec (λ c. search needs) (λ c. search needs) returns returns-2)

@@ -26,7 +26,8 @@ module _ (c : tie.After-good-names) where
 
   names-told : goodNames N ≡ c .good-names .result
   names-told =
-      ap (λ (r : ℕ). goodNames (take r (c .before .before .args .names))) (sym (c .before .rank-of .ensures .number)) ∙ sym (c .good-names .ensures)
+      ap (λ (r : ℕ). goodNames (take r (c .before .before .args .names))) (sym (c .before .rank-of .ensures .number))
+      ∙ sym (c .good-names .ensures)
 
 module _ (c : tie.After-good-limits) where
   limits-told : goodLimits (E (c .before .before)) ≡ c .good-limits .result
@@ -48,8 +49,11 @@ cells-of-requires c κs = limits-true (E (c .before .before .before)) (limits-to
 
 returns-3 : tie.Need-returns-3
 returns-3 c =
-    let l = c .before .before in
-    (c .cells-of .ensures .0 ∙ by-cells (N (l .before .before)) (E (l .before .before)) (names-good l) (limits-told l ∙ not-false _ (c .before .if2 .left)), c .cells-of .ensures .1)
+    let l = c .before .before in (
+      c .cells-of .ensures .0 ∙ by-cells (N (l .before .before)) (E (l .before .before)) (names-good l)
+          (limits-told l ∙ not-false _ (c .before .if2 .left)),
+      c .cells-of .ensures .1,
+    )
 
 good-names-requires : tie.Need-good-names-requires
 good-names-requires c κs = c .rank-of .ensures .few

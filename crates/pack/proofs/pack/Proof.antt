@@ -22,7 +22,8 @@ returns-2 c =
     let t = c .before .before .before in
     let a = t .before .before .before .args in
     rw (c .refuse .ensures)
-    (told-none (a .version) (shapesOf (a .count) (a .forms)) (now (a .cells)) (now (a .out)) (sym (ap toldSizes (c .before .enum-told .given .1)) ∙ t .version-told .ensures))
+    (told-none (a .version) (shapesOf (a .count) (a .forms)) (now (a .cells)) (now (a .out))
+    (sym (ap toldSizes (c .before .enum-told .given .1)) ∙ t .version-told .ensures))
 
 pub pack-spec : {M : Type 1} → statement M
 pack-spec =

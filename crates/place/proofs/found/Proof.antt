@@ -36,22 +36,28 @@ ordinality-of-requires c κs =
 returns : tie.Need-returns
 returns c t N =
     let a = c .before .before .before .args in
-    at-ordinality t N (axesOf (a .e)) (axesOf (a .maximum)) (positionsOf (axesOf (a .e)) (a .p)) (c .ordinality-of .result .0) (sym (c .before .before .is-inside .ensures) ∙ c .before .if1 .taken) (c .ordinality-of .ensures)
+    at-ordinality t N (axesOf (a .e)) (axesOf (a .maximum)) (positionsOf (axesOf (a .e)) (a .p)) (c .ordinality-of .result .0)
+    (sym (c .before .before .is-inside .ensures) ∙ c .before .if1 .taken) (c .ordinality-of .ensures)
 
 returns-2 : tie.Need-returns-2
 returns-2 c t N =
     let a = c .before .before .before .before .before .args in
-    beyond t N (axesOf (a .e)) (axesOf (a .maximum)) (positionsOf (axesOf (a .e)) (a .p)) (sym (c .before .before .before .before .is-inside .ensures) ∙ c .before .before .before .if1 .left) (no-room c)
+    beyond t N (axesOf (a .e)) (axesOf (a .maximum)) (positionsOf (axesOf (a .e)) (a .p))
+    (sym (c .before .before .before .before .is-inside .ensures) ∙ c .before .before .before .if1 .left) (no-room c)
 
 returns-3 : tie.Need-returns-3
 returns-3 c t N =
     let a = c .before .before .before .before .before .before .before .args in
-    in-maximum t N (axesOf (a .e)) (axesOf (a .maximum)) (positionsOf (axesOf (a .e)) (a .p)) (sym (c .before .before .before .before .before .before .is-inside .ensures) ∙ c .before .before .before .before .before .if1 .left) (same-room (c .before) ∙ c .if3 .taken)
+    in-maximum t N (axesOf (a .e)) (axesOf (a .maximum)) (positionsOf (axesOf (a .e)) (a .p))
+    (sym (c .before .before .before .before .before .before .is-inside .ensures) ∙ c .before .before .before .before .before .if1 .left)
+    (same-room (c .before) ∙ c .if3 .taken)
 
 returns-4 : tie.Need-returns-4
 returns-4 c t N =
     let a = c .before .before .before .before .before .before .before .args in
-    beyond t N (axesOf (a .e)) (axesOf (a .maximum)) (positionsOf (axesOf (a .e)) (a .p)) (sym (c .before .before .before .before .before .before .is-inside .ensures) ∙ c .before .before .before .before .before .if1 .left) (same-room (c .before) ∙ c .if3 .left)
+    beyond t N (axesOf (a .e)) (axesOf (a .maximum)) (positionsOf (axesOf (a .e)) (a .p))
+    (sym (c .before .before .before .before .before .before .is-inside .ensures) ∙ c .before .before .before .before .before .if1 .left)
+    (same-room (c .before) ∙ c .if3 .left)
 
 pub found-spec : {M : Type 1} → statement M
 found-spec =

@@ -12,4 +12,5 @@ returns-2 : tie.Need-returns-2
 returns-2 c = rw (eq-eqb _ 0 (c .before .if1 .left)) (c .in-range .ensures)
 
 pub good-length-spec : {M : Type 1} → statement M
-good-length-spec = tie.close (tie.spec (λ c. omega (arith, c .pre)) returns (λ c. omega (arith, c .before .pre)) (λ c κs. search needs) returns-2)
+good-length-spec = tie.close (tie.spec (λ c. omega (arith, c .pre)) returns (λ c. omega (arith, c .before .pre)) (λ c κs. search needs)
+    returns-2)

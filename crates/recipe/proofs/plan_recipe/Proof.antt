@@ -76,7 +76,8 @@ module _ (c : tie.After-over-arrays Inv-loop μ-loop) where
   begins =
       let n = length (bs of) / z of .step in
       subst (λ (w : ℕ). Loop (v of) (bs of) (length (bs of) / w) (c .over-arrays .result)) (sym (sized of))
-      (loop-start (R of) (bs of) n (c .over-arrays .result) (start of .pre) (c .over-arrays .ensures .0) (length-few (z of) (bs of) good) (omega (arith, div-add-mod' (length (bs of)) (z of .step))))
+      (loop-start (R of) (bs of) n (c .over-arrays .result) (start of .pre) (c .over-arrays .ensures .0) (length-few (z of) (bs of) good)
+      (omega (arith, div-add-mod' (length (bs of)) (z of .step))))
 
 -- the steps planned so far
 module _ (c : tie.At-loop Inv-loop μ-loop) where
@@ -127,11 +128,14 @@ module _ (c : tie.After-plan-step Inv-loop μ-loop) where
   below = c .before .before .before .before .before .before .before .loop-test .taken
 
   answered : Answered (v (by loop)) ss (p .cells * cellBytes) (c .plan-step .result)
-      (planStep (z (by loop)) (p .count + 1) (map shapeIn (arraysOf p)) (map shapeIn (resultsOf p)) (part (p .count * z (by loop) .step) (z (by loop) .step) ss))
+      (planStep (z (by loop)) (p .count + 1) (map shapeIn (arraysOf p)) (map shapeIn (resultsOf p))
+      (part (p .count * z (by loop) .step) (z (by loop) .step) ss))
   answered =
       let a = c .before .before .before .before .before .slot-of .ensures in
       let b = c .before .before .slot-of2 .ensures in
-      subst (λ (w : ℕ). Answered (v (by loop)) ss (p .cells * cellBytes) (c .plan-step .result) (planStep (z (by loop)) (p .count + 1) (map shapeIn (arraysOf p)) (map shapeIn (resultsOf p)) (part (p .count * w) (z (by loop) .step) ss))) (sized (by loop))
+      subst (λ (w : ℕ). Answered (v (by loop)) ss (p .cells * cellBytes) (c .plan-step .result)
+      (planStep (z (by loop)) (p .count + 1) (map shapeIn (arraysOf p)) (map shapeIn (resultsOf p))
+      (part (p .count * w) (z (by loop) .step) ss))) (sized (by loop))
       (c .plan-step .ensures .over _ _ (shape-found loop _ _ _ (a .0) (a .1)) (shape-found loop _ _ _ (b .0) (b .1)))
 
 -- it has no refusal
@@ -143,7 +147,8 @@ module _ (c : tie.Else2 Inv-loop μ-loop) where
   grown = withStep (p judged) (judged .plan-step .result)
 
   loop-grown : Loop (v (by (loop judged))) (ss judged) (length (ss judged) / long (by (loop judged))) grown
-  loop-grown = loop-more _ _ _ (p judged) (loop judged .loop .inv .0) (below judged) (judged .plan-step .result) (answered judged) (c .if2 .left)
+  loop-grown = loop-more _ _ _ (p judged) (loop judged .loop .inv .0) (below judged) (judged .plan-step .result) (answered judged)
+      (c .if2 .left)
 
   -- with its result as it was made
   abbrev grown-by : Operand → Plan
@@ -165,14 +170,16 @@ returns c =
     let t = c .before .before in
     let w = t .before .before in
     length-bad (R w) (bs w) _ (c .no-plan .ensures ∙ ap noPlan (c .before .refuse .ensures))
-    (ap (λ (w : ℕ). eqb (length (bs (t .before .before)) % w) 0 && between 1 mostSteps (length (bs (t .before .before)) / w)) (sym (sized w)) ∙ sym (t .before .good-length .ensures) ∙ not-true _ (t .if1 .taken))
+    (ap (λ (w : ℕ). eqb (length (bs (t .before .before)) % w) 0 && between 1 mostSteps (length (bs (t .before .before)) / w))
+    (sym (sized w)) ∙ sym (t .before .good-length .ensures) ∙ not-true _ (t .if1 .taken))
 
 loop-holds : tie.Need-loop-holds Inv-loop μ-loop
 loop-holds c = (begins c, refl)
 
 -- the first bytes of the step
 module _ (c : tie.In-loop Inv-loop μ-loop) where
-  bytes-there : (its (c .before) .count * long (by (c .before)) + 16 ≤ length (bs (by (c .before)))) × (length (bs (by (c .before))) < 9223372036854775808)
+  bytes-there : (its (c .before) .count * long (by (c .before)) + 16 ≤ length (bs (by (c .before))))
+      × (length (bs (by (c .before))) < 9223372036854775808)
   bytes-there =
       let w = c .before in
       (omega (arith, step-room w (c .loop-test .taken), longer w), omega (arith, by w .before .shared-slice-known .given 0))
@@ -212,13 +219,15 @@ loop-again c =
     let x = judged e in
     let l = loop x .loop .inv in
     let A = arraysOf (loop x .before .over-arrays .result) in
-    subst (λ (o : Operand). Loop (v (by (loop x))) (ss x) (length (ss x) / long (by (loop x))) (grown-by e o) × (arraysOf (grown-by e o) ≡ A)) (sym (c .before .in-work .ensures))
+    subst (λ (o : Operand). Loop (v (by (loop x))) (ss x) (length (ss x) / long (by (loop x))) (grown-by e o)
+    × (arraysOf (grown-by e o) ≡ A)) (sym (c .before .in-work .ensures))
     (loop-grown e, arrays-same _ _ _ (p x) (l .0) (below x) _ (answered x) (e .if2 .left) ∙ l .1)
 
 returns-3 : tie.Need-returns-3 Inv-loop μ-loop
 returns-3 c =
     let w = c .before in
-    all-planned (R (by w)) (bs (by w)) (its w) (good (w .before)) (subst (λ (n : ℕ). Loop (v (by w)) (bs (by w)) (length (bs (by w)) / n) (its w)) (sized (by w)) (w .loop .inv .0))
+    all-planned (R (by w)) (bs (by w)) (its w) (good (w .before))
+    (subst (λ (n : ℕ). Loop (v (by w)) (bs (by w)) (length (bs (by w)) / n) (its w)) (sized (by w)) (w .loop .inv .0))
     (subst (λ (n : ℕ). length (bs (by w)) / n ≤ its w .count) (sized (by w)) (c .loop-test .left)) (over w)
 
 pub plan-recipe-spec : {M : Type 1} → statement M
@@ -227,7 +236,8 @@ plan-recipe-spec =
     (tie.spec
     Inv-loop μ-loop (λ c κs. search needs) good-length-requires (λ c κs. search needs) (λ c κs. search needs) returns
     (λ c. some-bytes (c .before .before)) (λ c κs. search needs) loop-holds (λ c. search needs) (λ c. search needs)
-    (λ c. omega (arith, bytes-there c)) (λ c. omega (arith, bytes-there c)) (λ c. omega (arith, bytes-there (c .before))) (λ c κs. search needs)
+    (λ c. omega (arith, bytes-there c)) (λ c. omega (arith, bytes-there c)) (λ c. omega (arith, bytes-there (c .before)))
+    (λ c κs. search needs)
     (λ c. search needs) (λ c. search needs) (λ c. omega (arith, bytes-there (c .before .before .before)))
     (λ c. omega (arith, bytes-there (c .before .before .before .before))) (λ c κs. search needs)
     (λ c. search needs) (λ c. search needs) (λ c. search needs) (λ c. search needs) plan-step-requires (λ c κs. search needs) returns-2

@@ -12,7 +12,8 @@ returns c =
     let g = c .before .before in
     let p = g .before .before .before in
     let a = p .before .before .before .before .before .before .args in
-    speaks partBytes _ _ _ _ _ (g .before .of-stretch .ensures) (p .stretch-heads .ensures .said (now (a .left)) (now (a .right)) refl refl) (g .give .ensures)
+    speaks partBytes _ _ _ _ _ (g .before .of-stretch .ensures)
+    (p .stretch-heads .ensures .said (now (a .left)) (now (a .right)) refl refl) (g .give .ensures)
 
 pub rma-stretch-spec : {M : Type 1} → statement M
 rma-stretch-spec =

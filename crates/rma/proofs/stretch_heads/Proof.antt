@@ -12,7 +12,8 @@ returns c =
     let l = r .before in
     let k = l .before .before in
     let t = k .before .before in
-    stretch-told _ (sym (t .version-told .ensures) ∙ ap toldSizes (k .v .given .1)) (l .side-form .ensures) (r .side-form2 .ensures) (c .plan-stretch .ensures)
+    stretch-told _ (sym (t .version-told .ensures) ∙ ap toldSizes (k .v .given .1)) (l .side-form .ensures) (r .side-form2 .ensures)
+    (c .plan-as .ensures)
 
 returns-2 : tie.Need-returns-2
 returns-2 c =

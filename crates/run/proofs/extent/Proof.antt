@@ -40,14 +40,16 @@ returns-2 : tie.Need-returns-2
 returns-2 c =
     let w = c .before .before in
     let e = w .before in
-    extent-short (tested e .planned .ensures) (e .if1 .left) (now (start e .args .head)) (omega (arith, w .whole-head .ensures .0, c .before .if2 .taken)) _ (c .refuse .ensures)
+    extent-short (tested e .planned .ensures) (e .if1 .left) (now (start e .args .head))
+    (omega (arith, w .whole-head .ensures .0, c .before .if2 .taken)) _ (c .refuse .ensures)
 
 put-head-requires : tie.Need-put-head-requires
 put-head-requires c κs =
     let w = c .before .before .before in
     let f = w .before .before .before in
     let e = accepted f in
-    last-room (tested e .planned .ensures) (e .if1 .left) (now (start e .args .head)) (room f) (w .clear .ensures ∙ ap (λ (n : ℕ). over (replicate n 0) (now (start e .args .head))) (long-told f))
+    last-room (tested e .planned .ensures) (e .if1 .left) (now (start e .args .head)) (room f)
+    (w .clear .ensures ∙ ap (λ (n : ℕ). over (replicate n 0) (now (start e .args .head))) (long-told f))
 
 returns-3 : tie.Need-returns-3
 returns-3 c =
@@ -55,7 +57,8 @@ returns-3 c =
     let w = h .before .before .before .before in
     let f = w .before .before .before in
     let e = accepted f in
-    extent-told (tested e .planned .ensures) (e .if1 .left) (now (start e .args .head)) (room f) (w .clear .ensures ∙ ap (λ (n : ℕ). over (replicate n 0) (now (start e .args .head))) (long-told f)) _ _
+    extent-told (tested e .planned .ensures) (e .if1 .left) (now (start e .args .head)) (room f)
+    (w .clear .ensures ∙ ap (λ (n : ℕ). over (replicate n 0) (now (start e .args .head))) (long-told f)) _ _
     (h .put-head .ensures) _ (long-told f)
 
 pub extent-spec : {M : Type 1} → statement M

@@ -42,7 +42,9 @@ module _ (c : tie.In-loop Inv-loop μ-loop) where
   all : length W ≡ length E
   all = length-renewed (c .before .before .before .before .before .before .args .how) E (now (c .before .before .before .before .before .before .args .s)) (c .before .before .before .before .before .before .args .at)
 
-  room : c .before .loop .i * bytesFor (c .before .before .before .before .before .before .args .how) + bytesFor (c .before .before .before .before .before .before .args .how) ≤ length E * bytesFor (c .before .before .before .before .before .before .args .how)
+  room : c .before .loop .i * bytesFor (c .before .before .before .before .before .before .args .how) + bytesFor
+      (c .before .before .before .before .before .before .args .how) ≤ length E * bytesFor
+      (c .before .before .before .before .before .before .args .how)
   room = fits (c .before .before .before .before .before .before .args .how) (c .before .loop .i) (length E) here
 
   place : c .before .loop .i * c .before .before .before .before .bytes-for .result ≡ c .before .loop .i * bytesFor (c .before .before .before .before .before .before .args .how)
@@ -77,7 +79,8 @@ loop-again c =
     let at = t .before .before .before .before .before .before .args .at in
     let i = t .before .loop .i in
     let a = axis-first (t .before .before .before .before .before .before .args .t2) (t .before .before .before .rank-of .result) (t .before .before .before .rank-of .ensures) i (t .loop-test .taken) in
-    let v = c .before .axis-anew .ensures ∙ ap₂ (λ (x : Axis) (n : ℕ). fresh how x (drop (at + n) s)) a (place t) ∙ renewed-at how (E t) s at i (here t) in (
+    let v = c .before .axis-anew .ensures ∙ ap₂ (λ (x : Axis) (n : ℕ). fresh how x (drop (at + n) s)) a (place t)
+    ∙ renewed-at how (E t) s at i (here t) in (
       omega arith,
       c .with-axis .ensures
           ∙ first-more (W t) i (omega (arith, all t, here t)) (omega (arith, all t, t .before .before .before .rank-of .ensures .number, t .before .before .before .rank-of .ensures .few)) (t .before .loop .new) (c .before .axis-anew .result) (t .before .loop .inv .1) v,

@@ -18,7 +18,9 @@ use Rattle.shape.proofs.limits_at.Tie as tie
 returns : tie.Need-returns
 returns c =
     let s = now (c .before .before .before .args .s) in
-    ap₂ limited (c .before .position-at .ensures) (c .position-at2 .ensures ∙ ap (λ (l : List ℕ). distance (toZ w32 (leOf (take limitBytes l)))) (sym (drop-drop limitBytes (c .before .before .before .args .at) s)))
+    ap₂ limited (c .before .position-at .ensures) (c .position-at2 .ensures
+    ∙ ap (λ (l : List ℕ). distance (toZ w32 (leOf (take limitBytes l))))
+    (sym (drop-drop limitBytes (c .before .before .before .args .at) s)))
 
 pub limits-at-spec : {M : Type 1} → statement M
 limits-at-spec =

@@ -14,7 +14,8 @@ returns : tie.Need-returns
 returns c =
     let a = c .before .before .before .before .args .a in
     let e = c .before .before .half .ensures in
-    ap₂ limited (c .before .moved-by .ensures ∙ ap (λ (n : ℕ). moved (a .lo) (toZ w32 n)) e) (c .moved-by2 .ensures ∙ ap (λ (n : ℕ). moved (a .hi) (toZ w32 n)) e)
+    ap₂ limited (c .before .moved-by .ensures ∙ ap (λ (n : ℕ). moved (a .lo) (toZ w32 n)) e)
+    (c .moved-by2 .ensures ∙ ap (λ (n : ℕ). moved (a .hi) (toZ w32 n)) e)
 
 pub moved-at-spec : {M : Type 1} → statement M
 moved-at-spec = tie.close (tie.spec (λ c κs. search needs) (λ c κs. search needs) (λ c κs. search needs) returns)

@@ -4,7 +4,7 @@ use borrow.Author.Needs.{needs}
 use Rattle.paper.specs.Bundle.{versionTold}
 use Rattle.versions.specs.declared.Told.{Told}
 use Rattle.versions.specs.Told.{toldSizes}
-use Rattle.stretch.specs.Plans.{no-version}
+use Rattle.stretch.specs.Plans.{in-version, no-version}
 use Rattle.stretch.proofs.plan_stretch.Statement.{statement}
 use Rattle.stretch.proofs.plan_stretch.Tie as tie
 
@@ -15,12 +15,12 @@ told c e = sym (c .version-told .ensures) ∙ ap toldSizes e
 returns : tie.Need-returns
 returns c =
     let t = c .before .before in
-    c .plan-in .ensures _ (told (t .before .before) (t .told .given .1))
+    in-version _ (told (t .before .before) (t .told .given .1)) (c .plan-as .ensures)
 
 returns-2 : tie.Need-returns-2
 returns-2 c =
     let t = c .before in
-    rw (c .refuse .ensures) (no-version (told (t .before .before) (t .enum-told .given .1)))
+    rw (c .refuse .ensures) (no-version _ (told (t .before .before) (t .enum-told .given .1)))
 
 pub plan-stretch-spec : {M : Type 1} → statement M
 plan-stretch-spec =

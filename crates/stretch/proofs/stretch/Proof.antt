@@ -21,7 +21,8 @@ module _ (c : tie.After-plan-stretch) where
   abbrev R : Side
   R = sided (s .args .right-kind) (s .args .right-names) (s .args .right) (now (s .args .right-cells))
 
-  answer : {a : StretchAnswer} → c .plan-stretch .result ≡ a → stretchSaid a ≡ stretch (s .args .version) L R (s .args .axis .0) (s .args .o .0)
+  answer : {a : StretchAnswer} → c .plan-stretch .result ≡ a
+      → stretchSaid a ≡ stretch (s .args .version) L R (s .args .axis .0) (s .args .o .0)
   answer e = ap stretchSaid (sym e) ∙ c .plan-stretch .ensures .said (L .bytes) (R .bytes) refl refl
 
 part-of-requires : tie.Need-part-of-requires

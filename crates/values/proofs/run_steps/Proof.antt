@@ -208,8 +208,10 @@ add-write-cell c =
 
 refusal-of-requires : tie.Need-refusal-of-requires Inv-cells μ-cells Inv-steps μ-steps
 refusal-of-requires c κs =
-    let x = c .before .before .before in
-    (omega (arith, begins (step x) .before .steps .inv .1, begins (step x) .steps-test .taken), omega (arith, head (turn x) .cells .inv .2, turn x .cells-test .taken))
+    let x = c .before .before .before in (
+      omega (arith, begins (step x) .before .steps .inv .1, begins (step x) .steps-test .taken),
+      omega (arith, head (turn x) .cells .inv .2, turn x .cells-test .taken),
+    )
 
 -- the cell is stored
 module _ (c : tie.After-write-cell Inv-cells μ-cells Inv-steps μ-steps) where

@@ -13,4 +13,5 @@ unfolding sizesOf
 returns-2 c = rw (c .enum-told2 .given .1)
 
 pub sizes-spec : {M : Type 1} → statement M
-sizes-spec = tie.close (tie.spec (λ c. search needs) (λ c. search needs) (λ c. search needs) returns (λ c. search needs) (λ c. search needs) (λ c. search needs) returns-2)
+sizes-spec = tie.close (tie.spec (λ c. search needs) (λ c. search needs) (λ c. search needs) returns (λ c. search needs)
+    (λ c. search needs) (λ c. search needs) returns-2)

@@ -22,7 +22,8 @@ use Rattle.bundle.proofs.axes.bounds_at.Tie as tie
 
 abbrev Inv-loop : tie.InvT-loop
 Inv-loop v s at n z names₀ axes₀ maxima₀ i₀ names axes maxima i =
-    (i ≤ n) × Filled z noName (nameOf z) s at n i names × Filled z noAxis (axisOf z) s at n i axes × Filled z noAxis (maximumOf z) s at n i maxima
+    (i ≤ n) × Filled z noName (nameOf z) s at n i names × Filled z noAxis (axisOf z) s at n i axes
+    × Filled z noAxis (maximumOf z) s at n i maxima
 
 abbrev μ-loop : tie.MeasureT-loop
 μ-loop v s at n z names₀ axes₀ maxima₀ i₀ names axes maxima i = n - i
@@ -59,7 +60,11 @@ module _ (c : tie.In-loop Inv-loop μ-loop) where
   i = c .before .loop .i
 
   inside : at sized + i * z sized .axis + z sized .name + limitsBytes ≤ length (s sized)
-  inside = omega (arith, axis-room i (n sized) (z sized .axis) (at sized) (length (s sized)) (c .loop-test .taken) (room sized), its sized .axis)
+  inside = omega (
+    arith,
+    axis-room i (n sized) (z sized .axis) (at sized) (length (s sized)) (c .loop-test .taken) (room sized),
+    its sized .axis,
+  )
 
   abbrev here : ℕ
   here = at sized + i * z sized .axis
@@ -71,7 +76,8 @@ loop-holds : tie.Need-loop-holds Inv-loop μ-loop
 loop-holds c =
     let p = c .before in (
       omega arith,
-      subst (λ (l : List Name). Filled (z p) noName (nameOf (z p)) (s p) (at p) (n p) 0 l) (sym (c .no-names .ensures)) (filled-start (z p) noName (nameOf (z p)) (s p) (at p) (n p)),
+      subst (λ (l : List Name). Filled (z p) noName (nameOf (z p)) (s p) (at p) (n p) 0 l) (sym (c .no-names .ensures))
+          (filled-start (z p) noName (nameOf (z p)) (s p) (at p) (n p)),
       filled-start (z p) noAxis (axisOf (z p)) (s p) (at p) (n p),
       filled-start (z p) noAxis (maximumOf (z p)) (s p) (at p) (n p),
     )
@@ -81,7 +87,8 @@ module _ (c : tie.After-axis-at2 Inv-loop μ-loop) where
   abbrev again : tie.In-loop Inv-loop μ-loop
   again = c .before .before .before .before .before .before
 
-  long : (length (again .before .loop .names) ≡ mostAxes) × (length (again .before .loop .axes) ≡ mostAxes) × (length (again .before .loop .maxima) ≡ mostAxes)
+  long : (length (again .before .loop .names) ≡ mostAxes) × (length (again .before .loop .axes) ≡ mostAxes)
+      × (length (again .before .loop .maxima) ≡ mostAxes)
   long = let f = again .before .loop .inv in (f .1 .long, f .2 .long, f .3 .long)
 
   few : i again < n (sized again)
@@ -94,11 +101,15 @@ loop-again c =
     let l = q .before .loop in
     let f = its p in
     let h : i q < mostAxes = omega (arith, few c, p .before .before .pre .0) in
-    let e = c .before .before .before .before .name-at .ensures ∙ ap (λ (x : Sizes). nameFrom (part (here q) (x .name) (s p))) (sym (p .sizes .ensures)) in (
+    let e = c .before .before .before .before .name-at .ensures
+    ∙ ap (λ (x : Sizes). nameFrom (part (here q) (x .name) (s p))) (sym (p .sizes .ensures)) in (
       omega (arith, few c),
-      filled-more (z p) noName (nameOf (z p)) (s p) (at p) (n p) (i q) (l .names) _ (few c) h (name-told (z p) f (s p) (here q) _ e) (l .inv .1),
-      filled-more (z p) noAxis (axisOf (z p)) (s p) (at p) (n p) (i q) (l .axes) _ (few c) h (axis-told (z p) f (s p) (here q) _ (c .before .before .axis-at .ensures)) (l .inv .2),
-      filled-more (z p) noAxis (maximumOf (z p)) (s p) (at p) (n p) (i q) (l .maxima) _ (few c) h (maximum-told (z p) f (s p) (here q) _ (c .axis-at2 .ensures)) (l .inv .3),
+      filled-more (z p) noName (nameOf (z p)) (s p) (at p) (n p) (i q) (l .names) _ (few c) h (name-told (z p) f (s p) (here q) _ e)
+          (l .inv .1),
+      filled-more (z p) noAxis (axisOf (z p)) (s p) (at p) (n p) (i q) (l .axes) _ (few c) h
+          (axis-told (z p) f (s p) (here q) _ (c .before .before .axis-at .ensures)) (l .inv .2),
+      filled-more (z p) noAxis (maximumOf (z p)) (s p) (at p) (n p) (i q) (l .maxima) _ (few c) h
+          (maximum-told (z p) f (s p) (here q) _ (c .axis-at2 .ensures)) (l .inv .3),
     )
 
 returns : tie.Need-returns Inv-loop μ-loop
@@ -107,7 +118,8 @@ returns c =
     let p = c .before .before .before in
     subst (λ (x : Sizes). (l .names ≡ namesOf (eachAxis x (nameOf x) (n p) (drop (at p) (s p))))
     × (_≡_ {A = Extent} (record { rank = n p; axes = l .axes }) (extentOf (eachAxis x (axisOf x) (n p) (drop (at p) (s p)))))
-    × (_≡_ {A = Extent} (record { rank = n p; axes = l .maxima }) (extentOf (eachAxis x (maximumOf x) (n p) (drop (at p) (s p)))))) (p .sizes .ensures) (
+    × (_≡_ {A = Extent} (record { rank = n p; axes = l .maxima }) (extentOf (eachAxis x (maximumOf x) (n p) (drop (at p) (s p))))))
+    (p .sizes .ensures) (
       filled-names (z p) (s p) (at p) (n p) (l .i) (l .inv .0) (c .loop-test .left) (nameOf (z p)) (l .names) (l .inv .1),
       filled-extent (z p) (s p) (at p) (n p) (l .i) (l .inv .0) (c .loop-test .left) (axisOf (z p)) (l .axes) (l .inv .2),
       filled-extent (z p) (s p) (at p) (n p) (l .i) (l .inv .0) (c .loop-test .left) (maximumOf (z p)) (l .maxima) (l .inv .3),
@@ -123,4 +135,5 @@ bounds-at-spec =
     (λ c. omega (arith, inside (c .before .before .before .before .before)))
     (λ c κs. omega (arith, inside (c .before .before .before .before .before)))
     (λ c. omega (arith, few c)) (λ c. omega (arith, few c, long c)) (λ c. omega (arith, few c)) (λ c. omega (arith, few c, long c))
-    (λ c. omega (arith, few c)) (λ c. omega (arith, few c, long c)) (λ c. omega (arith, few c)) (λ c. omega (arith, few c)) loop-again returns)
+    (λ c. omega (arith, few c)) (λ c. omega (arith, few c, long c)) (λ c. omega (arith, few c)) (λ c. omega (arith, few c)) loop-again
+    returns)

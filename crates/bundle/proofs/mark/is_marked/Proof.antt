@@ -41,7 +41,12 @@ returns-4 c =
     let d = c .before .before .before in
     let b = d .before .before in
     let a = b .before .before in
-    sym (five (a .before .before) ∙ rw (eq-eqb _ _ (a .if1 .left), eq-eqb _ _ (b .if2 .left), eq-eqb _ _ (d .if3 .left), ne-eqb _ _ (c .if4 .taken)))
+    sym (five (a .before .before) ∙ rw (
+      eq-eqb _ _ (a .if1 .left),
+      eq-eqb _ _ (b .if2 .left),
+      eq-eqb _ _ (d .if3 .left),
+      ne-eqb _ _ (c .if4 .taken),
+    ))
 
 returns-5 : tie.Need-returns-5
 returns-5 c =
@@ -49,7 +54,12 @@ returns-5 c =
     let d = e .before .before .before in
     let b = d .before .before in
     let a = b .before .before in
-    sym (five (a .before .before) ∙ rw (eq-eqb _ _ (a .if1 .left), eq-eqb _ _ (b .if2 .left), eq-eqb _ _ (d .if3 .left), eq-eqb _ _ (e .if4 .left)) (and-true _))
+    sym (five (a .before .before) ∙ rw (
+      eq-eqb _ _ (a .if1 .left),
+      eq-eqb _ _ (b .if2 .left),
+      eq-eqb _ _ (d .if3 .left),
+      eq-eqb _ _ (e .if4 .left),
+    ) (and-true _))
 
 pub is-marked-spec : {M : Type 1} → statement M
 is-marked-spec =

@@ -13,12 +13,14 @@ returns c =
 returns-2 : tie.Need-returns-2
 returns-2 c =
     let b = c .before .before in
-    names-larger (now (b .before .before .before .args .s)) _ _ (b .before .byte-at .ensures) (b .byte-at2 .ensures) (c .before .if1 .left) (c .if2 .taken)
+    names-larger (now (b .before .before .before .args .s)) _ _ (b .before .byte-at .ensures) (b .byte-at2 .ensures)
+    (c .before .if1 .left) (c .if2 .taken)
 
 returns-3 : tie.Need-returns-3
 returns-3 c =
     let b = c .before .before in
-    names-two (now (b .before .before .before .args .s)) _ _ (b .before .byte-at .ensures) (b .byte-at2 .ensures) (c .before .if1 .left) (c .if2 .left)
+    names-two (now (b .before .before .before .args .s)) _ _ (b .before .byte-at .ensures) (b .byte-at2 .ensures) (c .before .if1 .left)
+    (c .if2 .left)
 
 pub version-in-spec : {M : Type 1} → statement M
 version-in-spec =

@@ -36,7 +36,8 @@ module _ (c : tie.Then1 Inv-loop μ-loop) where
   stops : (R : List ℕ) → (eqb left 0 && zeros R) ≡ nameRest (leBytes (halfName - s .args .i) (s .args .n) ++ R)
   stops R =
       let l = c .before .before .before .loop in
-      rest-stop R (l .at) left (c .before .before .loop-test .taken) (l .inv .0) (sym (c .before .in-name .ensures) ∙ not-true _ (c .if1 .taken)) ∙ l .inv .1 R
+      rest-stop R (l .at) left (c .before .before .loop-test .taken) (l .inv .0)
+      (sym (c .before .in-name .ensures) ∙ not-true _ (c .if1 .taken)) ∙ l .inv .1 R
 
 returns : tie.Need-returns Inv-loop μ-loop
 returns c R f b = ap (λ (x : Bool). x && zeros R) (sym (ne-eqb _ _ (c .if2 .taken))) ∙ stops (c .before) R
@@ -47,8 +48,10 @@ returns-2 c R f b = b ∙ ap (λ (x : Bool). x && zeros R) (sym (eq-eqb _ _ (c .
 loop-again : tie.Need-loop-again Inv-loop μ-loop
 loop-again c =
     let l = c .before .before .before .loop in
-    let t = c .before .before .loop-test .taken in
-    (left-less (l .at) (l .left) t (l .inv .0), λ R. rest-more R (l .at) (l .left) t (l .inv .0) (sym (c .before .in-name .ensures) ∙ not-false _ (c .if1 .left)) ∙ l .inv .1 R)
+    let t = c .before .before .loop-test .taken in (
+      left-less (l .at) (l .left) t (l .inv .0),
+      λ R. rest-more R (l .at) (l .left) t (l .inv .0) (sym (c .before .in-name .ensures) ∙ not-false _ (c .if1 .left)) ∙ l .inv .1 R,
+    )
 
 returns-3 : tie.Need-returns-3 Inv-loop μ-loop
 returns-3 c R f b = let l = c .before .loop in f ∙ rest-end R (l .at) (l .left) (c .loop-test .left) ∙ l .inv .1 R

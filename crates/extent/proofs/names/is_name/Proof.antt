@@ -33,7 +33,8 @@ returns-3 c =
     let e = c .before .before .before .before in
     let n = e .before .before .before .args .n in
     let l = c .before .before .before .goes-on .ensures [] refl refl in
-    c .goes-on2 .ensures (leBytes halfName (n .last)) (l ∙ last-half (n .last)) (last-zero (n .last) (bounds (e .before .before .before) .1))
+    c .goes-on2 .ensures (leBytes halfName (n .last)) (l ∙ last-half (n .last))
+    (last-zero (n .last) (bounds (e .before .before .before) .1))
     ∙ name-first n (e .before .if1 .left) (e .if2 .left)
 
 pub is-name-spec : {M : Type 1} → statement M

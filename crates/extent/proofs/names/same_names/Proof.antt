@@ -59,7 +59,8 @@ loop-again c = sym (turn (c .before .before .before .before) ∙ rw (sym (c .bef
 returns-2 : tie.Need-returns-2 Inv-loop μ-loop
 returns-2 c =
     let s = c .before .before in
-    same-end (s .args .t1) (s .args .t2) (s .args .rank) (first s) (second s) (c .before .loop .i) (c .loop-test .left) ∙ c .before .loop .inv
+    same-end (s .args .t1) (s .args .t2) (s .args .rank) (first s) (second s) (c .before .loop .i) (c .loop-test .left)
+    ∙ c .before .loop .inv
 
 pub same-names-spec : {M : Type 1} → statement M
 same-names-spec =

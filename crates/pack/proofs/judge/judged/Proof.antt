@@ -92,7 +92,8 @@ returns-3 c =
 returns-4 : tie.Need-returns-4 Inv-loop μ-loop
 returns-4 c =
     let w = c .before .before in
-    rw (c .none .ensures) (all-got (its (w .before .before)) (counted (w .before .before)) (w .before .loop .inv) (w .loop-test .left) (c .before .if3 .left))
+    rw (c .none .ensures) (all-got (its (w .before .before)) (counted (w .before .before)) (w .before .loop .inv) (w .loop-test .left)
+    (c .before .if3 .left))
 
 pub judged-spec : {M : Type 1} → statement M
 judged-spec =

@@ -45,5 +45,6 @@ put-array-spec =
     (λ c κs. ready-small (fits (c .before .before .args .v)) (c .before .before .pre .ready) .sound) (λ c. search needs)
     (λ c κs. let q = c .before in head-room (its q) (start q .pre) (q .cells-of .ensures .0)) copy-bytes-requires
     (λ c. search needs)
-    (λ c. let h = cells-room (its (counted (w c))) (start (counted (w c)) .pre) (counted (w c) .cells-of .ensures .0) (w c .put-head .ensures) in search needs)
+    (λ c. let h = cells-room (its (counted (w c))) (start (counted (w c)) .pre) (counted (w c) .cells-of .ensures .0)
+    (w c .put-head .ensures) in search needs)
     (λ c. array-kept (start (counted (w c)) .pre) (returns c)) returns)

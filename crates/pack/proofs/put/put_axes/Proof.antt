@@ -40,7 +40,8 @@ module _ (c : tie.After-rank-of Inv-loop μ-loop) where
   its = subst Fits (sym same) (fits (start .args .v))
 
   room : AxesRoom z (start .args .t5) (start .args .t6) (start .args .at) (now (start .args .d))
-  room = subst (λ (x : Sizes). AxesRoom x (start .args .t5) (start .args .t6) (start .args .at) (now (start .args .d))) (sym same) (start .pre)
+  room = subst (λ (x : Sizes). AxesRoom x (start .args .t5) (start .args .t6) (start .args .at) (now (start .args .d))) (sym same)
+      (start .pre)
 
   named : length (start .args .t4) ≡ mostAxes
   named = search (needs, length-mapped)
@@ -70,7 +71,8 @@ put-axis-requires c κs =
     let t = c .before .before .before .before .before in
     let h = inside t in
     let l = t .before .loop .inv .long in
-    subst (λ (x : Sizes). start (p t) .args .at + i t * z (p t) .axis + x .axis ≤ length (t .before .loop .d)) (same (p t)) (omega (arith, h, l))
+    subst (λ (x : Sizes). start (p t) .args .at + i t * z (p t) .axis + x .axis ≤ length (t .before .loop .d)) (same (p t))
+    (omega (arith, h, l))
 
 -- an axis is written
 module _ (c : tie.After-put-axis Inv-loop μ-loop) where
@@ -82,9 +84,11 @@ loop-again c =
     let w = c .before .before in
     let t = turn w in
     let q = p t in
-    axes-more (its q) (named q) (q .rank-of .ensures) (other q) (room q) (t .before .loop .inv) (t .loop-test .taken) (w .put-axis .last .1 .0)
+    axes-more (its q) (named q) (q .rank-of .ensures) (other q) (room q) (t .before .loop .inv) (t .loop-test .taken)
+    (w .put-axis .last .1 .0)
     (w .put-axis .ensures ∙ ap (λ (x : Sizes). put (t .before .loop .d) (start q .args .at + i t * z q .axis)
-    (axisPart x (getD (start q .args .t4) (i t) noName) (axisNo (start q .args .t5) (i t)) (axisNo (start q .args .t6) (i t)))) (sym (same q)))
+    (axisPart x (getD (start q .args .t4) (i t) noName) (axisNo (start q .args .t5) (i t)) (axisNo (start q .args .t6) (i t))))
+    (sym (same q)))
 
 returns : tie.Need-returns Inv-loop μ-loop
 returns c =

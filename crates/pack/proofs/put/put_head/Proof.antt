@@ -41,7 +41,8 @@ module _ (c : tie.After-rank-of) where
   named : Named (start .args .form)
   named =
       let full : length (start .args .form .names) ≡ mostAxes = search (needs, length-mapped) in
-      length-take-le (length (axesOf (start .args .form .extent))) (start .args .form .names) (omega (arith, full, axes-few (start .args .form .extent)))
+      length-take-le (length (axesOf (start .args .form .extent))) (start .args .form .names)
+      (omega (arith, full, axes-few (start .args .form .extent)))
 
 -- and written
 module _ (c : tie.After-struct-known) where
@@ -59,7 +60,8 @@ module _ (c : tie.After-struct-known) where
       let s = shapeOf (a .form) in
       let d = set (set (now (a .d)) (a .at) (a .form .kind)) (a .at + 1) (q .rank-of .result) in
       head-put (its q) (room q) (named q) (q .rank-of .ensures .number)
-      (wrote .put-axes .ensures ∙ ap (λ (x : Sizes). put d (a .at + typeBytes) (axesBytes x (s .names) (s .axes) (s .maximum))) (sym (same q)))
+      (wrote .put-axes .ensures ∙ ap (λ (x : Sizes). put d (a .at + typeBytes) (axesBytes x (s .names) (s .axes) (s .maximum)))
+      (sym (same q)))
 
 returns : tie.Need-returns
 returns c =
@@ -74,6 +76,7 @@ put-head-spec =
     (λ c κs. search needs) (λ c κs. search needs) (λ c. omega (arith, long c)) (λ c. omega (arith, c .rank-of .ensures .few))
     (λ c. omega (arith, long c))
     (λ c. simp length-set (omega (arith, long c))) (λ c. omega (arith, long (c .before .before)))
-    (λ c κs. let q = c .before .before in head-axes (fits (start q .args .v)) (start q .pre) (q .rank-of .ensures .number)) (λ c. omega (arith, long (c .before .before .before .before .before)))
+    (λ c κs. let q = c .before .before in head-axes (fits (start q .args .v)) (start q .pre) (q .rank-of .ensures .number))
+    (λ c. omega (arith, long (c .before .before .before .before .before)))
     (λ c. omega (arith, long (counted c))) (λ c. omega (arith, long (counted c)))
     (λ c. head-kept (its (counted c)) (room (counted c)) (its-put c)) returns)

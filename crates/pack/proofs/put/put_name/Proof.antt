@@ -32,7 +32,8 @@ returns c =
     let w = c .before .before in
     let t = w .before .before in
     let s = t .before .before .before in
-    short-put (now (s .args .d)) (w .put-half .last .0) (s .args .at) (s .args .n) (w .put-half .ensures) ∙ told s One (t .enum-told .given .1)
+    short-put (now (s .args .d)) (w .put-half .last .0) (s .args .at) (s .args .n) (w .put-half .ensures)
+    ∙ told s One (t .enum-told .given .1)
 
 put-both-requires : tie.Need-put-both-requires
 unfolding sizesOf

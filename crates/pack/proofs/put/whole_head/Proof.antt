@@ -10,7 +10,8 @@ use Rattle.pack.proofs.put.whole_head.Statement.{statement}
 use Rattle.pack.proofs.put.whole_head.Tie as tie
 
 small : (c : tie.After-sizes) → c .sizes .result .axes * c .sizes .result .axis ≤ 192
-small c = axes-small (c .sizes .result) (subst Fits (sym (c .sizes .ensures)) (fits (c .before .args .v))) (c .sizes .result .axes) (omega arith)
+small c = axes-small (c .sizes .result) (subst Fits (sym (c .sizes .ensures)) (fits (c .before .args .v))) (c .sizes .result .axes)
+    (omega arith)
 
 returns : tie.Need-returns
 returns c = (ap headLength (c .before .sizes .ensures), omega (arith, small (c .before)))

@@ -18,14 +18,22 @@ returns-2 c =
 returns-3 : tie.Need-returns-3
 returns-3 c =
     let n = c .before .before .before .args .n in (
-      rw (lt-leb n mostArrays (c .before .before .if1 .left), lt-leb n stepsFrom (c .before .if2 .left), le-leb n (stepsFrom + mostSteps) (c .if3 .taken)),
+      rw (
+        lt-leb n mostArrays (c .before .before .if1 .left),
+        lt-leb n stepsFrom (c .before .if2 .left),
+        le-leb n (stepsFrom + mostSteps) (c .if3 .taken),
+      ),
       omega arith,
     )
 
 returns-4 : tie.Need-returns-4
 returns-4 c =
     let n = c .before .before .before .args .n in (
-      rw (lt-leb n mostArrays (c .before .before .if1 .left), lt-leb n stepsFrom (c .before .if2 .left), lt-leb n (stepsFrom + mostSteps) (c .if3 .left)),
+      rw (
+        lt-leb n mostArrays (c .before .before .if1 .left),
+        lt-leb n stepsFrom (c .before .if2 .left),
+        lt-leb n (stepsFrom + mostSteps) (c .if3 .left),
+      ),
       omega arith,
     )
 

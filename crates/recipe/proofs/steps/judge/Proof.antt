@@ -65,11 +65,13 @@ module _ (c : tie.After-step-refusal) where
   both = its (c .before)
 
   tested : unless (c .step-refusal .result) tt
-      ≡ stepTests (z both) (start both .args .k .0) (stepIn (now (start both .args .s)) (start both .args .step)) (shapeIn (start both .args .a .head))
+      ≡ stepTests (z both) (start both .args .k .0) (stepIn (now (start both .args .s)) (start both .args .step))
+      (shapeIn (start both .args .a .head))
       (shapeIn (secondOf (start both .args .step) (start both .args .b) .head))
   tested =
       c .step-refusal .ensures
-      ∙ ap (λ (o : Operand). stepTests (z both) (start both .args .k .0) (stepIn (now (start both .args .s)) (start both .args .step)) (shapeIn (start both .args .a .head)) (shapeIn (o .head))) (second both)
+      ∙ ap (λ (o : Operand). stepTests (z both) (start both .args .k .0) (stepIn (now (start both .args .s)) (start both .args .step))
+      (shapeIn (start both .args .a .head)) (shapeIn (o .head))) (second both)
 
 returns-2 : tie.Need-returns-2
 returns-2 c =

@@ -32,14 +32,16 @@ module _ (c : tie.Start) where
   z = sizesOf (c .args .step .version)
 
   uses-by : Column (st .operation) z (length (A .axes)) (c .args .used)
-  uses-by = subst (Column (st .operation) z (length (A .axes))) (sym (c .pre .1 .1)) (column (st .operation) z (length (A .axes)) (fits (c .args .step .version)))
+  uses-by = subst (Column (st .operation) z (length (A .axes))) (sym (c .pre .1 .1))
+      (column (st .operation) z (length (A .axes)) (fits (c .args .step .version)))
 
 -- 4
 module _ (c : tie.After-unused-zero) where
   abbrev start : tie.Start
   start = c .before .before
 
-  unused-told : (b : Bool) → c .unused-zero .result ≡ b → unusedZero (uses (st start .operation)) (z start .name) (length (A start .axes)) (st start) ≡ b
+  unused-told : (b : Bool) → c .unused-zero .result ≡ b
+      → unusedZero (uses (st start .operation)) (z start .name) (length (A start .axes)) (st start) ≡ b
   unused-told b e = sym (unused-by _ _ _ _ (uses-by start) (st start)) ∙ sym (c .unused-zero .ensures) ∙ e
 
 module _ (c : tie.Else1) where
@@ -83,7 +85,9 @@ module _ (c : tie.After-agrees) where
   abbrev in7 : tie.After-types-fit
   in7 = past7 .before
 
-  agrees-told : (b : Bool) → c .agrees .result ≡ b → agree (st (in5 (past5 in7)) .operation) (st (in5 (past5 in7)) .axis) (A (in5 (past5 in7)) .names) (A (in5 (past5 in7)) .axes) (B (in5 (past5 in7)) .names) (B (in5 (past5 in7)) .axes) ≡ b
+  agrees-told : (b : Bool) → c .agrees .result ≡ b
+      → agree (st (in5 (past5 in7)) .operation) (st (in5 (past5 in7)) .axis) (A (in5 (past5 in7)) .names) (A (in5 (past5 in7)) .axes)
+      (B (in5 (past5 in7)) .names) (B (in5 (past5 in7)) .axes) ≡ b
   agrees-told b e = sym (c .agrees .ensures) ∙ e
 
 -- 6, where the tests before it held

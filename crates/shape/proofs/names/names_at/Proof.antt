@@ -55,14 +55,18 @@ loop-again : tie.Need-loop-again Inv-loop μ-loop
 loop-again c =
     let t = c .before in
     let l = t .before .loop in
-    let e = c .name-at .ensures ∙ ap (λ (n : ℕ). nameFrom (part (s t .args .at + n) (w t) (now (s t .args .s)))) (width t) in
-    (omega arith, renamed-more (w t) (s t .args .rank) (now (s t .args .s)) (s t .args .at) (l .i) (l .new) (c .name-at .result) (l .inv .1) (t .loop-test .taken) (s t .pre .0) e)
+    let e = c .name-at .ensures ∙ ap (λ (n : ℕ). nameFrom (part (s t .args .at + n) (w t) (now (s t .args .s)))) (width t) in (
+      omega arith,
+      renamed-more (w t) (s t .args .rank) (now (s t .args .s)) (s t .args .at) (l .i) (l .new) (c .name-at .result)
+          (l .inv .1) (t .loop-test .taken) (s t .pre .0) e,
+    )
 
 returns : tie.Need-returns Inv-loop μ-loop
 returns c =
     let s = c .before .before .before .before .before in
     let l = c .before .loop in
-    renamed-all (sizesOf (s .args .v) .name) (s .args .rank) (now (s .args .s)) (s .args .at) (l .i) (l .new) (l .inv .1) (c .loop-test .left) (l .inv .0)
+    renamed-all (sizesOf (s .args .v) .name) (s .args .rank) (now (s .args .s)) (s .args .at) (l .i) (l .new) (l .inv .1)
+    (c .loop-test .left) (l .inv .0)
 
 pub names-at-spec : {M : Type 1} → statement M
 names-at-spec =

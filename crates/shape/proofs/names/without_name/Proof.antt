@@ -55,7 +55,8 @@ returns : tie.Need-returns Inv-loop μ-loop
 returns c =
     let s = c .before .before .before in
     let l = c .before .loop in
-    kept-all (s .args .k .0) (N s) (l .i) (l .j) (l .new) (l .inv .1) (omega (arith, many s, c .loop-test .left)) (omega (arith, many s, s .pre)) (omega (arith, l .inv .0, s .pre))
+    kept-all (s .args .k .0) (N s) (l .i) (l .j) (l .new) (l .inv .1) (omega (arith, many s, c .loop-test .left))
+    (omega (arith, many s, s .pre)) (omega (arith, l .inv .0, s .pre))
 
 pub without-name-spec : {M : Type 1} → statement M
 without-name-spec =

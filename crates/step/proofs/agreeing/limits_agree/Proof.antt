@@ -28,7 +28,8 @@ returns c =
 returns-2 : tie.Need-returns-2
 returns-2 c =
     let s = c .before .before .before in
-    c .all-meet .ensures ∙ limits-yes (many s) (names s) (limits s) (sym (c .before .before .names-agree .ensures) ∙ not-false _ (c .before .if1 .left))
+    c .all-meet .ensures ∙ limits-yes (many s) (names s) (limits s)
+    (sym (c .before .before .names-agree .ensures) ∙ not-false _ (c .before .if1 .left))
 
 pub limits-agree-spec : {M : Type 1} → statement M
 limits-agree-spec = tie.close (tie.spec (λ c κs. search needs) returns (λ c κs. search needs) returns-2)

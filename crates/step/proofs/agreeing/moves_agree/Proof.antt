@@ -18,7 +18,8 @@ returns-8 : tie.Need-returns-8
 unfolding agree
 returns-8 c =
     let s = c .before .before .before in
-    rw (c .before .enum-told8 .given .1) (c .limits-agree .ensures ∙ glue-told (s .args .k) (axesOf (s .args .e)) (axesOf (s .args .f)) (sameNames (s .args .m) (s .args .e) (s .args .n) (s .args .f)))
+    rw (c .before .enum-told8 .given .1) (c .limits-agree .ensures
+    ∙ glue-told (s .args .k) (axesOf (s .args .e)) (axesOf (s .args .f)) (sameNames (s .args .m) (s .args .e) (s .args .n) (s .args .f)))
 
 pub moves-agree-spec : {M : Type 1} → statement M
 unfolding agree

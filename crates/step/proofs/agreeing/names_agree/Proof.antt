@@ -10,7 +10,8 @@ use Rattle.step.proofs.agreeing.names_agree.Tie as tie
 returns : tie.Need-returns
 returns c =
     let s = c .before .before .before in
-    names-differ (axesOf (s .args .e)) (axesOf (s .args .f)) (sameNames (s .args .m) (s .args .e) (s .args .n) (s .args .f)) (λ h. c .if1 .taken (c .before .rank-of2 .ensures .number ∙ h ∙ sym (c .before .before .rank-of .ensures .number)))
+    names-differ (axesOf (s .args .e)) (axesOf (s .args .f)) (sameNames (s .args .m) (s .args .e) (s .args .n) (s .args .f))
+    (λ h. c .if1 .taken (c .before .rank-of2 .ensures .number ∙ h ∙ sym (c .before .before .rank-of .ensures .number)))
 
 same-names-requires : tie.Need-same-names-requires
 same-names-requires c κs = c .before .before .rank-of .ensures .few

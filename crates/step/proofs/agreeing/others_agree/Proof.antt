@@ -28,7 +28,8 @@ returns c =
     let N = namesFor (axesOf (s .args .f)) (s .args .n) in
     let r = c .before .before .before .rank-of .ensures in
     let told =
-    others-told k (s .args .m) (c .before .before .without-name .result) (axesOf (s .args .e)) (c .before .before .before .rank-of .result) (r .number)
+    others-told k (s .args .m) (c .before .before .without-name .result) (axesOf (s .args .e))
+    (c .before .before .before .rank-of .result) (r .number)
     (omega (arith, full s, r .few)) (c .before .before .without-name .ensures) in
     let gone = c .before .removed .ensures in
     c .names-agree .ensures

@@ -15,7 +15,8 @@ returns c =
     let s = c .before .before .before in
     let E = axesOf (s .args .e) in
     let F = axesOf (s .args .f) in
-    rw (c .before .enum-told .given .1) (c .limits-agree .ensures ∙ ap (λ (m : Bool). asMany E F && (sameNames (s .args .m) (s .args .e) (s .args .n) (s .args .f) && m)) (by-all E F))
+    rw (c .before .enum-told .given .1) (c .limits-agree .ensures
+    ∙ ap (λ (m : Bool). asMany E F && (sameNames (s .args .m) (s .args .e) (s .args .n) (s .args .f) && m)) (by-all E F))
 
 pub works-agree-spec : {M : Type 1} → statement M
 unfolding agree

@@ -46,7 +46,8 @@ unfolding fitsIn
 returns c =
     let s = c .before .before .before .before in
     rw (c .before .enum-told .given .1)
-    (c .trim-fits .ensures ∙ ap (λ (F : List Axis). covers (E s) F) (in-detail Limits (E s) (bs s) (h s .at) (detailOf (h s)) (pairs-there (s .pre .1))))
+    (c .trim-fits .ensures ∙ ap (λ (F : List Axis). covers (E s) F)
+    (in-detail Limits (E s) (bs s) (h s .at) (detailOf (h s)) (pairs-there (s .pre .1))))
 
 slice-fits-requires : tie.Need-slice-fits-requires
 slice-fits-requires c κs = position (c .before .before .before .before)
@@ -66,7 +67,8 @@ unfolding fitsIn
 returns-7 c =
     let s = c .before .before .before .before .before in
     rw (c .before .before .enum-told7 .given .1)
-    (c .put-fits .ensures ∙ ap (λ (x : ℕ). onAxis (axisAt (h s .axis) (E s)) x && covers (without (h s .axis) (E s)) (axesOf (s .args .b .extent))) (position-there (bs s) (h s)))
+    (c .put-fits .ensures ∙ ap (λ (x : ℕ). onAxis (axisAt (h s .axis) (E s)) x && covers (without (h s .axis) (E s))
+    (axesOf (s .args .b .extent))) (position-there (bs s) (h s)))
 
 pub move-fits-spec : {M : Type 1} → statement M
 unfolding fitsIn

@@ -32,7 +32,8 @@ module _ (c : tie.Start) where
   room = omega (arith, full, axes-few (c .args .e))
 
   abbrev told : Move → List Name → Type 0
-  told mv new = NamesTold (sizesOf (c .args .step .version) .name) (Moves mv) (stepIn (now (c .args .s)) (c .args .step)) (c .args .m) (c .args .e) new
+  told mv new = NamesTold (sizesOf (c .args .step .version) .name) (Moves mv) (stepIn (now (c .args .s)) (c .args .step)) (c .args .m)
+      (c .args .e) new
 
   arm : (mv : Move) (new : List Name) → c .args .mv ≡ mv → told mv new → told (c .args .mv) new
   arm mv new e t = subst (λ (x : Move). told x new) (sym e) t
@@ -72,7 +73,8 @@ unfolding resultNames
 returns-2 c =
     let s = c .before .before .before .before .before .before in
     let r = c .before .before .rank-of .ensures in
-    let e : take (c .before .before .rank-of .result) (s .args .m) ≡ namesFor (E s) (s .args .m) = ap (λ (n : ℕ). take n (s .args .m)) (r .number) in
+    let e : take (c .before .before .rank-of .result) (s .args .m) ≡ namesFor (E s) (s .args .m) = ap (λ (n : ℕ). take n (s .args .m))
+    (r .number) in
     arm s Slice _ (c .before .before .before .enum-told2 .given .1) (rw (← e) (c .without-name .ensures))
 
 names-at-requires : tie.Need-names-at-requires
@@ -80,8 +82,10 @@ names-at-requires c κs =
     let s = c .before .before .before .before in
     let h = s .args .step in
     let w = sizesOf (h .version) .name in
-    let e : length (E s) * w ≡ c .rank-of2 .result * w = ap (λ (n : ℕ). n * w) (sym (c .rank-of2 .ensures .number)) in
-    (c .rank-of2 .ensures .few, fewer (h .at) (c .rank-of2 .result * w) (detailOf h) (now (s .args .s)) (rw e at (names-there (s .pre))) (s .pre .holds))
+    let e : length (E s) * w ≡ c .rank-of2 .result * w = ap (λ (n : ℕ). n * w) (sym (c .rank-of2 .ensures .number)) in (
+      c .rank-of2 .ensures .few,
+      fewer (h .at) (c .rank-of2 .result * w) (detailOf h) (now (s .args .s)) (rw e at (names-there (s .pre))) (s .pre .holds),
+    )
 
 returns-5 : tie.Need-returns-5
 unfolding resultNames
@@ -90,7 +94,8 @@ returns-5 c =
     let r = c .before .rank-of2 .ensures in
     let h = s .args .step in
     arm s Rename _ (c .before .before .enum-told5 .given .1)
-    (names-anew (sizesOf (h .version) .name) (E s) (s .args .m) (c .names-at .result) (now (s .args .s)) (h .at) (detailOf h) (c .before .rank-of2 .result) (r .number) (room s) (names-there (s .pre)) (c .names-at .ensures))
+    (names-anew (sizesOf (h .version) .name) (E s) (s .args .m) (c .names-at .result) (now (s .args .s)) (h .at) (detailOf h)
+    (c .before .rank-of2 .result) (r .number) (room s) (names-there (s .pre)) (c .names-at .ensures))
 
 pub moved-names-spec : {M : Type 1} → statement M
 moved-names-spec =

@@ -20,7 +20,8 @@ use Rattle.step.proofs.tests.result_names.Tie as tie
 
 module _ (c : tie.Start) where
   abbrev told : Operation → List Name → Type 0
-  told op new = NamesTold (sizesOf (c .args .step .version) .name) op (stepIn (now (c .args .s)) (c .args .step)) (c .args .m) (c .args .e) new
+  told op new = NamesTold (sizesOf (c .args .step .version) .name) op (stepIn (now (c .args .s)) (c .args .step)) (c .args .m)
+      (c .args .e) new
 
   arm : (op : Operation) (new : List Name) → c .args .step .operation ≡ op → told op new → told (c .args .step .operation) new
   arm op new e t = subst (λ (x : Operation). told x new) (sym e) t
@@ -36,7 +37,8 @@ returns c = arm (c .before .before .before .before .before) _ _ (c .before .befo
 
 returns-2 : tie.Need-returns-2
 unfolding resultNames
-returns-2 c = let s = c .before .before .before in arm s _ _ (c .enum-told .given .1) (names-kept (axesOf (s .args .e)) (s .args .m) (room s))
+returns-2 c = let s = c .before .before .before in arm s _ _ (c .enum-told .given .1)
+    (names-kept (axesOf (s .args .e)) (s .args .m) (room s))
 
 pub result-names-spec : {M : Type 1} → statement M
 result-names-spec = tie.close (tie.spec (λ c. search needs) (λ c κs. search needs) returns (λ c. search needs) returns-2)

@@ -12,7 +12,8 @@ use Rattle.step.proofs.tests.takes_type.Tie as tie
 scalar-fits-requires : tie.Need-scalar-fits-requires
 scalar-fits-requires c κs =
     let s = c .before .before .before .before in
-    fewer (s .args .step .at) (scalarAt + wordBytes) (detailOf (s .args .step)) (now (s .args .s)) (fits (s .args .step .version) .scalar) (s .pre)
+    fewer (s .args .step .at) (scalarAt + wordBytes) (detailOf (s .args .step)) (now (s .args .s))
+    (fits (s .args .step .version) .scalar) (s .pre)
 
 returns-2 : tie.Need-returns-2
 unfolding takesType

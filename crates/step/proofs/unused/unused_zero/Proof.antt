@@ -26,7 +26,8 @@ returns-3 c =
     let second = c .before .before in
     let first = second .before .before in
     let a = first .before .before .before in
-    let e = ap (λ (z : Sizes). zeros (unusedOf (a .args .used) (part (a .args .step .at) (z .detail) (now (a .args .s))))) (c .before .sizes .ensures) in
+    let e = ap (λ (z : Sizes). zeros (unusedOf (a .args .used) (part (a .args .step .at) (z .detail) (now (a .args .s)))))
+    (c .before .sizes .ensures) in
     c .detail-zero .ensures ∙ e ∙ and-yes _ _ (sym (second .before .used-or-zero2 .ensures) ∙ not-false _ (second .if2 .left))
     ∙ and-yes _ _ (sym (first .before .used-or-zero .ensures) ∙ not-false _ (first .if1 .left))
 

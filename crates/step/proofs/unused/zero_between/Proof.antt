@@ -56,14 +56,16 @@ returns-2 c =
     let h = c .before .before in
     let l = h .before .before .before in
     let a = l .before .before in
-    sym (zeros-up (now (a .args .s)) (a .args .to) (h .before .loop2 .i) (h .loop2-test .taken) (a .pre .1) ∙ rw (ne-eqb _ 0 (c .if2 .taken)))
+    sym (zeros-up (now (a .args .s)) (a .args .to) (h .before .loop2 .i) (h .loop2-test .taken) (a .pre .1)
+    ∙ rw (ne-eqb _ 0 (c .if2 .taken)))
     ∙ h .before .loop2 .inv ∙ l .loop .inv .1
 
 loop2-again : tie.Need-loop2-again Inv-loop μ-loop Inv-loop2 μ-loop2
 loop2-again c =
     let h = c .before .before in
     let a = h .before .before .before .before .before in
-    sym (zeros-up (now (a .args .s)) (a .args .to) (h .before .loop2 .i) (h .loop2-test .taken) (a .pre .1) ∙ rw (eq-eqb _ 0 (c .if2 .left)))
+    sym (zeros-up (now (a .args .s)) (a .args .to) (h .before .loop2 .i) (h .loop2-test .taken) (a .pre .1)
+    ∙ rw (eq-eqb _ 0 (c .if2 .left)))
     ∙ h .before .loop2 .inv
 
 returns-3 : tie.Need-returns-3 Inv-loop μ-loop Inv-loop2 μ-loop2

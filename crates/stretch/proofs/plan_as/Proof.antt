@@ -1,4 +1,4 @@
--- `stretch::plan_in` meets its contract: each way out by the paper's tests up to it.
+-- `stretch::plan_as` meets its contract: each way out by the paper's tests up to it.
 use Prim.Native.Nat.{_+_, _/_, _≤_}
 use native.Mathlib.Omega.{arith}
 use mathlib.Core.Path.{_≡_, sym, _∙_}
@@ -7,47 +7,49 @@ use borrow.Author.Needs.{needs}
 use borrow.Author.Tests.{not-true, not-false}
 use Rattle.paper.specs.Limits.{mostCells, cellBytes, sizesOf}
 use Rattle.paper.specs.Refusals.{between}
-use Rattle.paper.specs.Stretch.{stretch}
+use Rattle.paper.specs.Stretch.{stretchIn}
 use Rattle.stretch.specs.Sides.{passed, failed, SidePassed, side-passed, side-clean}
 use Rattle.stretch.specs.Plans.{SidesPassed, axials, few-bytes, outside, in-few, part-found}
-use Rattle.stretch.proofs.plan_in.Statement.{statement}
-use Rattle.stretch.proofs.plan_in.Tie as tie
+use Rattle.stretch.proofs.plan_as.Statement.{statement}
+use Rattle.stretch.proofs.plan_as.Tie as tie
 
 returns : tie.Need-returns
-unfolding stretch
-returns c w h =
+unfolding stretchIn
+returns c =
     let x = c .before .before .side-refusal .ensures in
-    record { said = λ bs cs p q. rw (h, failed _ (x .said bs p) (c .if1 .taken)); within = tt }
+    record { said = λ bs cs p q. rw (failed _ (x .said bs p) (c .if1 .taken)); within = tt }
 
 -- the left has no refusal
-left : (c : tie.Else1) → let a = c .before .before .before .args in SidePassed (sizesOf (a .v)) (a .left-kind) (a .left-names) (a .left) (a .left-bytes) 1
+left : (c : tie.Else1) → let a = c .before .before .before .args in SidePassed (sizesOf (a .v)) (a .left-kind) (a .left-names) (a .left)
+    (a .left-bytes) 1
 left c = side-passed (c .before .before .side-refusal .ensures) (c .if1 .left)
 
 returns-2 : tie.Need-returns-2
-unfolding stretch
-returns-2 c w h =
+unfolding stretchIn
+returns-2 c =
     let d = c .before .before in
     let y = d .side-refusal2 .ensures in
-    record { said = λ bs cs p q. rw (h, left (d .before) .said bs p, failed _ (y .said cs q) (c .if2 .taken)); within = tt }
+    record { said = λ bs cs p q. rw (left (d .before) .said bs p, failed _ (y .said cs q) (c .if2 .taken)); within = tt }
 
 -- nor has the right
 module _ (c : tie.Else2) where
   abbrev first : tie.Else1
   first = c .before .before .before
 
-  right : let a = first .before .before .before .args in SidePassed (sizesOf (a .v)) (a .right-kind) (a .right-names) (a .right) (a .right-bytes) 2
+  right : let a = first .before .before .before .args in SidePassed (sizesOf (a .v)) (a .right-kind) (a .right-names) (a .right)
+      (a .right-bytes) 2
   right = side-passed (c .before .before .side-refusal2 .ensures) (c .if2 .left)
 
 glue-refusal-requires : tie.Need-glue-refusal-requires
 glue-refusal-requires c κs = (side-clean (left (first c)) .0, side-clean (right c) .0)
 
 returns-3 : tie.Need-returns-3
-unfolding stretch
-returns-3 c w h =
+unfolding stretchIn
+returns-3 c =
     let z = c .before .before .glue-refusal .ensures in
     let d = c .before .before .before in
     record {
-      said = λ bs cs p q. rw (h, left (first d) .said bs p, right d .said cs q, failed _ (z .said bs cs) (c .if3 .taken));
+      said = λ bs cs p q. rw (left (first d) .said bs p, right d .said cs q, failed _ (z .said bs cs) (c .if3 .taken));
       within = tt;
     }
 
@@ -59,7 +61,8 @@ module _ (c : tie.Else3) where
   abbrev s : tie.Start
   s = first second .before .before .before
 
-  all : let a = s .args in SidesPassed (sizesOf (a .v)) (a .left-kind) (a .left-names) (a .left) (a .left-bytes) (a .right-kind) (a .right-names) (a .right) (a .right-bytes) (a .axis .0)
+  all : let a = s .args in SidesPassed (sizesOf (a .v)) (a .left-kind) (a .left-names) (a .left) (a .left-bytes) (a .right-kind)
+      (a .right-names) (a .right) (a .right-bytes) (a .axis .0)
   all = record {
     left = left (first second);
     right = right second;
@@ -67,9 +70,9 @@ module _ (c : tie.Else3) where
   }
 
 returns-4 : tie.Need-returns-4
-returns-4 c w h =
+returns-4 c =
     let i = c .before .before in
-    rw (c .refuse .ensures) (outside (all (i .before .before)) _ h (sym (i .in-range .ensures) ∙ not-true _ (c .before .if4 .taken)))
+    rw (c .refuse .ensures) (outside (all (i .before .before)) _ (sym (i .in-range .ensures) ∙ not-true _ (c .before .if4 .taken)))
 
 -- and neither has that
 module _ (c : tie.Else4) where
@@ -99,13 +102,13 @@ in-turn-requires c κs =
     (record { some = m .1; first = m .2; second = n .2; few = omega (arith, few (b .before)) }, n .1)
 
 returns-5 : tie.Need-returns-5
-returns-5 c w h =
+returns-5 c =
     let b = c .before .before .before in
     let d = b .before in
-    part-found (all (here d)) _ (counted d) h (b .block-of .ensures .0) (c .before .before .block-of2 .ensures .0) (c .in-turn .ensures)
+    part-found (all (here d)) _ (counted d) (b .block-of .ensures .0) (c .before .before .block-of2 .ensures .0) (c .in-turn .ensures)
 
-pub plan-in-spec : {M : Type 1} → statement M
-plan-in-spec =
+pub plan-as-spec : {M : Type 1} → statement M
+plan-as-spec =
     tie.close
     (tie.spec
     (λ c κs. search needs) returns (λ c κs. search needs) returns-2 glue-refusal-requires returns-3 (λ c. search needs)
