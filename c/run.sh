@@ -1,5 +1,5 @@
 #!/bin/sh
-# Builds c/example.c against the engine's library, runs it and compares what it prints with what it must print: on the two examples,
+# Builds c/example.c against the engine's library, runs it and compares what it prints with what it must print: on the three examples,
 # what the program `rests` prints of them. Then the same under valgrind, where that is installed. RMA_LIB names an archive to link;
 # without it the library is proved and built first. Everything that is built goes to target/. Exits with 0 when nothing differs.
 set -eu
@@ -32,16 +32,17 @@ prints() {
     echo "ok: $*"
 }
 
-# three BEFORE..: the three runs, each after the words BEFORE: none, or valgrind's.
-three() {
+# four BEFORE..: the four runs, each after the words BEFORE: none, or valgrind's.
+four() {
     prints crates/rests/stdout "$@" "$built/example" example
     prints example/no-shift/stdout "$@" "$built/example" example/no-shift
+    prints crates/rests/stdout "$@" "$built/example" example/version-2
     prints "$built/asked" "$@" "$built/example"
 }
 
-three
+four
 if command -v valgrind >/dev/null; then
-    three valgrind --error-exitcode=1 --leak-check=full --errors-for-leak-kinds=all -q
+    four valgrind --error-exitcode=1 --leak-check=full --errors-for-leak-kinds=all -q
 else
     echo "valgrind is not installed: not run under it"
 fi
