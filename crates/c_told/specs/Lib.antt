@@ -2,3 +2,4 @@
 pub mod Said
 pub mod Given
 pub mod Replies
+pub mod Capped

@@ -1,10 +1,11 @@
 -- What a call says: a number, and bytes in a buffer that is lent, as many as there is room for.
 use Prim.Native.Nat.{ℕ}
 use mathlib.Core.List.{List, [], _∷_, _++_}
+use lib.Dec.{leb}
 use lib.ListN.{take, length}
 use Rattle.paper.specs.declared.Refusal.{Refusal}
 use Rattle.paper.specs.Limits.{limitBytes}
-use Rattle.paper.specs.Refusals.{Res, got, refused}
+use Rattle.paper.specs.Refusals.{Res, got, refused, if_then_else_}
 use Rattle.paper.specs.Numbers.{leBytes, over}
 
 -- numbers one after the other, four bytes each
@@ -36,3 +37,21 @@ answered bytes (refused r) = refusing r
 -- and these in the buffer
 unfoldable pub spoken : {A : Type 0} → (A → List ℕ) → Res A → List ℕ → Spoken
 spoken bytes m said = record { number = answered bytes m .number; said = told (answered bytes m .said) said }
+
+-- ---- a byte place
+
+-- the largest number that four bytes hold
+abbrev pub largest : ℕ
+largest = 4294967295
+
+-- a byte of a text, by its place: one that four bytes have no room for is told as the largest number; it never wraps
+abbrev pub capped : ℕ → ℕ
+capped i = if leb i largest then i else largest
+
+abbrev pub cappedRefusal : Refusal → Refusal
+cappedRefusal r = record { number = r .number; place = r .place; ordinality = capped (r .ordinality) }
+
+-- an answer, its refusal's ordinality so told
+abbrev pub cappedIn : {A : Type 0} → Res A → Res A
+cappedIn (got a) = got a
+cappedIn (refused r) = refused (cappedRefusal r)

@@ -3,10 +3,10 @@
 ghost use mathlib.Core.Path.{_≡_};
 ghost use Prim.Native.Nat.{_≤_};
 ghost use lib.ListN.{length};
-ghost use Rattle.paper.specs.Refusals.{got};
+ghost use Rattle.paper.specs.Refusals.{got, refusal};
 ghost use Rattle.paper.specs.Cells.{encode};
-ghost use Rattle.paper.specs.Answers.{numberSaid, planSaid, referenceSaid, seenSaid, totalSaid, pageSaid, stretchSaid};
-ghost use Rattle.c_told.specs.Said.{answered, refusing};
+ghost use Rattle.paper.specs.Answers.{numberSaid, jsonSaid, planSaid, referenceSaid, seenSaid, totalSaid, pageSaid, stretchSaid};
+ghost use Rattle.c_told.specs.Said.{answered, refusing, capped, cappedIn};
 ghost use Rattle.c_told.specs.Given.{numberBytes, foreseenBytes, seenBytes, totalBytes, listedBytes, partBytes};
 ghost use Rattle.c_told.specs.Replies.{Tells, given, four};
 use cell::bytes::copy_bytes;
@@ -14,6 +14,7 @@ use cell::bytes::put4;
 use cell::bytes::write_cell;
 use paper::CELL_BYTES;
 use paper::Cell;
+use paper::JsonAnswer;
 use paper::LIMIT_BYTES;
 use paper::NumberAnswer;
 use paper::PageAnswer;
@@ -97,6 +98,43 @@ pub fn of_counted(answer: NumberAnswer) -> Reply
     match answer {
         NumberAnswer::Got(n) => of_number(n),
         NumberAnswer::Refused(refusal) => refused(refusal),
+    }
+}
+
+// The largest number that four bytes hold.
+const LARGEST: usize = 4_294_967_295;
+
+// A byte of a text by its place, which never wraps: one over the largest number is told as it.
+fn place_told(place: usize) -> u32
+    ensures { λ r. ⌜ r ≡ capped place ⌝ }
+{
+    if place <= LARGEST {
+        return place as u32;
+    }
+    LARGEST as u32
+}
+
+// A refusal of a text, at a byte of it.
+fn text_refused(number: u8, place: usize) -> Reply
+    ensures { λ r. ⌜ Tells (refusing (refusal number 0 (capped place))) r ⌝ }
+{
+    let ordinality = place_told(place);
+    refused(Refusal {
+        number,
+        place: 0,
+        ordinality,
+    })
+}
+
+// Of reading JSON: the number of cells; 15 and 16 with the place of a byte.
+pub fn of_json(answer: JsonAnswer) -> Reply
+    ensures { λ r. ⌜ Tells (answered numberBytes (cappedIn (jsonSaid answer))) r ⌝ }
+{
+    match answer {
+        JsonAnswer::Got(n) => of_number(n),
+        JsonAnswer::NotJson(place) => text_refused(15, place),
+        JsonAnswer::Misfit(place) => text_refused(16, place),
+        JsonAnswer::Refused(refusal) => refused(refusal),
     }
 }
 

@@ -15,7 +15,7 @@ use script::line::read_line;
 use script::parts::first;
 
 // Room for the script.
-const SCRIPT: usize = 16384;
+const SCRIPT: usize = 24576;
 
 // Each line of the script in turn.
 fn follow(script: &[u8]) {

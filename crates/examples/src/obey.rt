@@ -1,7 +1,7 @@
 // A command of the script, told by its first letter: it puts something on the desk, or calls the engine and prints what it gives.
 //
 //     new                              nothing on the desk, and version 1 told
-//     declare VERSION                  the version told from here on: of steps, of a bundle made, of glued arrays
+//     declare VERSION                  the version told from here on: of steps, of a bundle made, of glued arrays, of JSON read
 //     array TYPE NAME LOWER UPPER MAXIMUM-LOWER MAXIMUM-UPPER ..
 //     cells CELL ..                    the cells of the arrays, in turn
 //     bundle [BYTES]                   the arrays packed; into so many bytes, and the answer
@@ -15,6 +15,8 @@
 //     walk ARRAY STEPS
 //     total ARRAY NUMBER
 //     json ARRAY BYTES
+//     hear BYTES TEXT                  the rest of the line read as JSON into so many bytes, for the first array: its cells
+//     keep ARRAY BYTES                 that array written as JSON and read back
 //     values                           the recipe run, and its last result
 //     use BYTES                        the recipe run in a work area of so many bytes
 //     page BYTES START                 its listing
@@ -29,6 +31,8 @@ use script::make::make;
 use script::parts::first;
 use script::parts::first_lent;
 use script::say::say;
+use script::sent::hear;
+use script::sent::keep;
 
 // The bytes of a work area at most.
 const WORK: usize = 900;
@@ -43,6 +47,14 @@ fn say_text(rest: &[u8], line: usize) {
             say(&rest[1..end]);
         }
     }
+}
+
+// A line but for its end.
+fn line_of(rest: &[u8], line: usize) -> &[u8] {
+    if 1 <= line {
+        return first(rest, line - 1);
+    }
+    rest
 }
 
 // Of the recipe.
@@ -69,6 +81,9 @@ fn question(
     let arrays = first(bundle, desk.bundle);
     ask_array(command, desk.version, arrays, n, args, kinds);
     ask_recipe(command, arrays, first(steps, desk.steps), args);
+    if command == b'k' {
+        keep(desk.version, arrays, args);
+    }
 }
 
 // ---- a line
@@ -92,6 +107,10 @@ pub fn obey(
     let command = rest[0];
     if command == b'"' {
         say_text(rest, line);
+        return desk;
+    }
+    if command == b'h' {
+        hear(desk.version, heads, line_of(rest, line), args);
         return desk;
     }
     question(command, desk, n, args, kinds, steps, bundle);

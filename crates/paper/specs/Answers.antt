@@ -14,6 +14,8 @@ use Rattle.paper.specs.declared.Refusal.{Refusal}
 use Rattle.paper.specs.declared.Reading.{Reading}
 use Rattle.paper.specs.declared.NumberAnswer.{NumberAnswer}
 use Rattle.paper.specs.declared.NumberAnswer.the-variants as Number
+use Rattle.paper.specs.declared.JsonAnswer.{JsonAnswer}
+use Rattle.paper.specs.declared.JsonAnswer.the-variants as Json
 use Rattle.paper.specs.declared.Foreseen.{Foreseen}
 use Rattle.paper.specs.declared.PlanAnswer.{PlanAnswer}
 use Rattle.paper.specs.declared.PlanAnswer.the-variants as Plan
@@ -33,7 +35,7 @@ use Rattle.paper.specs.declared.Part.{Part}
 use Rattle.paper.specs.declared.StretchAnswer.{StretchAnswer}
 use Rattle.paper.specs.declared.StretchAnswer.the-variants as Stretch
 use Rattle.paper.specs.Limits.{mostAxes, typeBytes, cellBytes}
-use Rattle.paper.specs.Refusals.{Res, got, refused, _>>=_, if_then_else_}
+use Rattle.paper.specs.Refusals.{Res, got, refused, _>>=_, if_then_else_, refusal, notJson15, misfit16}
 use Rattle.paper.specs.Axes.{noName, cells, noAxis, Shape, Array, shaped}
 use Rattle.paper.specs.Bundle.{markBytes, sizesIn, readBundle}
 use Rattle.paper.specs.Reference.{Walked}
@@ -93,6 +95,12 @@ readSaid r = unless (r .refusal) (map (λ h. (shapeOf (h .form), h .at)) (take (
 abbrev pub numberSaid : NumberAnswer → Res ℕ
 numberSaid (Number.Got n) = got n
 numberSaid (Number.Refused r) = refused r
+
+abbrev pub jsonSaid : JsonAnswer → Res ℕ
+jsonSaid (Json.Got n) = got n
+jsonSaid (Json.NotJson i) = refused (refusal notJson15 0 i)
+jsonSaid (Json.Misfit i) = refused (refusal misfit16 0 i)
+jsonSaid (Json.Refused r) = refused r
 
 abbrev pub planSaid : PlanAnswer → Res Foreseen
 planSaid (Plan.Got f) = got f

@@ -13,6 +13,9 @@ use Rattle.paper.specs.Listing as Listing
 use Rattle.paper.specs.Stretch as Stretch
 use Rattle.paper.specs.Rests as Rests
 use Rattle.paper.specs.Json as Json
+use Rattle.paper.specs.Grammar as Grammar
+use Rattle.paper.specs.Machine as Machine
+use Rattle.paper.specs.JsonRead as JsonRead
 
 unfoldable pub opened : Unit {0}
 unfolding Limits.sizesOf Numbers.leBytes Numbers.position Numbers.distance Numbers.lastOf Numbers.from Numbers.concat Numbers.total Numbers.alike
@@ -32,4 +35,7 @@ unfolding Limits.sizesOf Numbers.leBytes Numbers.position Numbers.distance Numbe
     Listing.pageValues Listing.pageAfter Stretch.judge Stretch.stay Stretch.stretchAt Stretch.glueTests Stretch.stretchIn Stretch.stretch
     Stretch.handedOut
     Rests.digits Rests.decimal Rests.spaced Rests.printed Rests.rests Json.cellText Json.commas Json.layers Json.brackets Json.written
+    Grammar.among Grammar.ends Grammar.optional Grammar.rules Machine.chosen Machine.settled Machine.move Machine.faultFrom
+    JsonRead.outer JsonRead.tokenOf JsonRead.tokensFrom JsonRead.spells JsonRead.dataIn JsonRead.dataOf JsonRead.digitsOf JsonRead.numberOf
+    JsonRead.natural JsonRead.cellIn JsonRead.due JsonRead.fits JsonRead.fitted JsonRead.cellsAs JsonRead.cellsIn JsonRead.fillWith
 opened = tt

@@ -1,20 +1,25 @@
--- Packing and a stretch by heads, in the version told: the forms of the heads are the shapes that the version's sizes say.
+-- Packing, a stretch and reading JSON by heads, in the version told: the forms of the heads are the shapes that the version's sizes say.
 use Prim.Native.Nat.{ℕ}
 use mathlib.Core.Path.{_≡_, refl, sym, ap, _∙_}
 use mathlib.Core.List.{List}
 use lib.ListN.{length}
 use Rattle.paper.specs.declared.Version.{Version}
+use Rattle.paper.specs.declared.Sizes.{Sizes}
+use Rattle.paper.specs.declared.Cell.{Cell}
 use Rattle.paper.specs.declared.Form.{Form}
 use Rattle.paper.specs.declared.NumberAnswer.{NumberAnswer}
 use Rattle.paper.specs.declared.NumberAnswer.the-variants as Number
+use Rattle.paper.specs.declared.JsonAnswer.{JsonAnswer}
+use Rattle.paper.specs.declared.JsonAnswer.the-variants as Json
 use Rattle.paper.specs.declared.StretchAnswer.{StretchAnswer}
 use Rattle.paper.specs.declared.StretchAnswer.the-variants as Stretch
 use Rattle.paper.specs.Limits.{sizesOf}
-use Rattle.paper.specs.Refusals.{got, refused, refusal, badBytes1}
-use Rattle.paper.specs.Bundle.{versionTold, putInto}
+use Rattle.paper.specs.Refusals.{Res, got, refused, _>>=_, refusal, badBytes1}
+use Rattle.paper.specs.Bundle.{versionTold, After, putInto}
 use Rattle.paper.specs.Axes.{Shape}
 use Rattle.paper.specs.Stretch.{stretchIn}
-use Rattle.paper.specs.Answers.{numberSaid, stretchSaid}
+use Rattle.paper.specs.JsonRead.{cellsAs, fillWith}
+use Rattle.paper.specs.Answers.{shapeOf, numberSaid, jsonSaid, stretchSaid}
 use Rattle.laws.specs.Sizes.{fits}
 use Rattle.laws.specs.Answers.{formOf}
 use Rattle.pack.specs.Laid.{shapesOf}
@@ -63,3 +68,35 @@ module _ {w l r k o : ℕ} {leftHead rightHead : List ℕ} where
   pub stretch-untold : versionTold w ≡ refused (refusal badBytes1 0 0)
       → HeadsStretched w leftHead l rightHead r k o (Stretch.Refused (refusal badBytes1 0 0))
   stretch-untold e = record { said = λ bs cs m n. rw e }
+
+-- ---- reading JSON
+
+-- the cells of an array of this shape that a text has, in a version
+abbrev pub cellsOf : Sizes → Shape → List ℕ → ℕ → Res (List Cell)
+cellsOf z s bs room = cellsAs z (s .type) (s .names) (s .axes) bs room
+
+-- a text into the cells of the array that a head describes, in the version told; the head's maximum is not looked at
+abbrev pub jsonByHead : ℕ → List ℕ → List ℕ → List ℕ → After
+jsonByHead v head bs cells =
+    fillWith cells (versionTold v >>= (λ z. cellsOf z (sideShape z head) bs (length cells)))
+
+pub record HeadRead (w : ℕ) (head bs cells : List ℕ) (r : JsonAnswer) (y : List ℕ) : Type 0 where
+  pub said : jsonSaid r ≡ jsonByHead w head bs cells .answer
+  pub wrote : y ≡ jsonByHead w head bs cells .buffer
+
+module _ {w : ℕ} {head bs cells : List ℕ} where
+  pub json-told : (v : Version) {f : Form} {r : JsonAnswer} {y : List ℕ} → versionTold w ≡ got (sizesOf v)
+      → f ≡ formOf (sideShape (sizesOf v) head)
+      → jsonSaid r ≡ fillWith cells (cellsOf (sizesOf v) (shapeOf f) bs (length cells)) .answer
+      → y ≡ fillWith cells (cellsOf (sizesOf v) (shapeOf f) bs (length cells)) .buffer → HeadRead w head bs cells r y
+  json-told v {f} e p a b =
+      let s : shapeOf f ≡ sideShape (sizesOf v) head = ap shapeOf p ∙ side-shape (sizesOf v) head (fits v) in
+      record {
+        said = rw e (a ∙ ap (λ (t : Shape). fillWith cells (cellsOf (sizesOf v) t bs (length cells)) .answer) s);
+        wrote = rw e (b ∙ ap (λ (t : Shape). fillWith cells (cellsOf (sizesOf v) t bs (length cells)) .buffer) s);
+      }
+
+  pub json-untold : versionTold w ≡ refused (refusal badBytes1 0 0)
+      → HeadRead w head bs cells (Json.Refused (refusal badBytes1 0 0)) cells
+  unfolding fillWith
+  json-untold e = record { said = rw e; wrote = rw e }

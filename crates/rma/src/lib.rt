@@ -5,13 +5,13 @@ ghost use Rattle.paper.specs.Cells.{encode};
 ghost use Rattle.paper.specs.Json.{writeJson};
 ghost use Rattle.paper.specs.Listing.{plan as paperPlan, run as paperRun, page as paperPage};
 ghost use Rattle.paper.specs.Reference.{reference, walk as paperWalk};
-ghost use Rattle.c_told.specs.Said.{answered, spoken};
+ghost use Rattle.c_told.specs.Said.{answered, cappedIn, spoken};
 ghost use Rattle.refer.specs.Chosen.{arrayTold};
 ghost use Rattle.run.specs.Plans.{extent as lastExtent};
 ghost use Rattle.c_asked.specs.Asked.{countOf, packHeads, stretchHeads, coordinateIn, placeIn, placeAfter, totalAsked};
 ghost use Rattle.c_told.specs.Given.{numberBytes, arrayBytes, foreseenBytes, seenBytes, totalBytes, listedBytes, partBytes};
 ghost use Rattle.c_told.specs.Replies.{Tells};
-ghost use Rattle.rma.specs.Versions.{HeadsPacked, HeadsStretched};
+ghost use Rattle.rma.specs.Versions.{HeadsPacked, HeadsStretched, HeadRead, jsonByHead};
 use bundle::read;
 use c_asked::forms_in;
 use c_asked::refer_bytes;
@@ -21,6 +21,7 @@ use c_asked::walk_bytes;
 use c_told::Reply;
 use c_told::give;
 use c_told::of_counted;
+use c_told::of_json;
 use c_told::of_number;
 use c_told::of_numbers;
 use c_told::of_page;
@@ -31,9 +32,11 @@ use c_told::of_total;
 use c_told::of_walk;
 use c_told::refused;
 use extent::rank_of;
+use json_read::read_as;
 use json_write::write;
 use pack::pack_as;
 use paper::AxisIndex;
+use paper::JsonAnswer;
 use paper::NumberAnswer;
 use paper::Ordinality;
 use paper::StretchAnswer;
@@ -162,6 +165,37 @@ pub extern "C" fn rma_write_json(bundle: &[u8], array: u32, out: &mut [u8], said
         × (now (out .exit) ≡ writeJson (now (bundle .entry)) array (now (out .entry)) .buffer) ⌝ }
 {
     give(said, of_counted(write(bundle, array, out)))
+}
+
+// A text read into the cells of the array that `head` describes, in the version told; another than 1 and 2 is refused before all else.
+fn json_by_head(version: u32, head: &[u8], text: &[u8], cells: &mut [u8]) -> JsonAnswer
+    ensures { λ r. ⌜ HeadRead version (now (head .entry)) (now (text .entry)) (now (cells .entry)) r (now (cells .exit)) ⌝ }
+{
+    match version_told(version) {
+        Told::Is(v) => {
+            let form = side_form(v, head);
+            let names = form.names;
+            return read_as(v, form.kind, names, form.extent, text, cells);
+        }
+        Told::Unknown => return JsonAnswer::Refused(refuse(1, 0)),
+    }
+}
+
+// JSON read into `cells`, of the type and extent that `head` names: the number of cells. A byte place that is refused never wraps.
+#[no_mangle]
+pub extern "C" fn rma_read_json(
+    version: u32,
+    head: &[u8],
+    text: &[u8],
+    cells: &mut [u8],
+    said: &mut [u8],
+) -> u32
+    ensures { λ r. ⌜ (record { number = r; said = now (said .exit) }
+        ≡ spoken numberBytes (cappedIn (jsonByHead version (now (head .entry)) (now (text .entry)) (now (cells .entry)) .answer))
+        (now (said .entry)))
+        × (now (cells .exit) ≡ jsonByHead version (now (head .entry)) (now (text .entry)) (now (cells .entry)) .buffer) ⌝ }
+{
+    give(said, of_json(json_by_head(version, head, text, cells)))
 }
 
 // ---- a recipe
