@@ -1,6 +1,6 @@
 /* Calls the engine from C. `example FOLDER` lists roster.rma and recipe.bin of the folder page by page, and prints what the program
- * `rests` prints. `example` alone packs the two arrays of that roster from numbers, reads them back and asks about them; then it packs
- * an array of six axes with longer names as a bundle of version 2, and lists it. */
+ * `rests` prints. `example` alone packs the two arrays of that roster from numbers, reads them back and asks about them, writes one as
+ * JSON and reads the text; then it packs an array of six axes with longer names as a bundle of version 2, and lists it. */
 #include <stdio.h>
 #include <stdlib.h>
 #include <string.h>
@@ -11,7 +11,7 @@
 struct bytes { uint8_t *at; size_t len; };
 
 /* Each on the heap and of its exact length, so that valgrind guards its ends. */
-static struct bytes roster, recipe, work, row, text, extent;
+static struct bytes roster, recipe, work, row, text, starts, extent;
 static uint8_t said[RMA_SAID];
 
 /* Gives a buffer another length. One of length 0 has a pointer too: the engine takes no NULL. */
@@ -112,9 +112,38 @@ static void ask(void)
         printf(" %u", rma_u32(said + 2));
     rma_total(roster.at, roster.len, 2, 4, said, sizeof said);
     printf("\nlast end: %u\n", rma_u32(said + 1));
+}
+
+/* Writes the starts as JSON: a buffer of RMA_JSON bytes holds every text. */
+static void write_starts(void)
+{
     resize(&text, RMA_JSON);
-    if (rma_write_json(roster.at, roster.len, 1, text.at, text.len, said, sizeof said) == 0)
-        printf("starts: %.*s\n", (int)rma_u32(said), (const char *)text.at);
+    uint32_t refused = rma_write_json(roster.at, roster.len, 1, text.at, text.len, said, sizeof said);
+    resize(&text, refused ? 0 : rma_u32(said));
+    printf("starts: %.*s\n", (int)text.len, (const char *)text.at);
+}
+
+/* Reads a text into the cells of an array like that of the starts, and prints the last of them. Refused, the ordinality is a byte of
+ * the text, from 1. */
+static void read_starts(void)
+{
+    static const uint8_t head[RMA_HEAD_1] = {1, 2, WHO, TURN};
+    resize(&starts, 6 * 9);
+    uint32_t refused = rma_read_json(1, head, sizeof head, text.at, text.len, starts.at, starts.len, said, sizeof said);
+    if (refused)
+        printf("refused %u at byte %u\n", refused, rma_u32(said + 4));
+    else
+        printf("read: %u cells, the last %u\n", rma_u32(said), rma_u32(starts.at + 5 * 9 + 1));
+}
+
+/* Reads back what was written, and then a text that has a turn too few. */
+static void read_texts(void)
+{
+    static const char shorter[] = "{\"data\":[[1320,2760],[360,1200,3240]]}";
+    read_starts();
+    resize(&text, strlen(shorter));
+    memcpy(text.at, shorter, text.len);
+    read_starts();
 }
 
 /* Puts an axis in a head of version 2: a name of up to 16 letters, limits from 1 on, the widest maximum. */
@@ -169,6 +198,8 @@ int main(int argc, char **argv)
     if (argc < 2) {
         pack_roster();
         ask();
+        write_starts();
+        read_texts();
         pack_rests();
         list_rests();
     } else {
@@ -179,6 +210,7 @@ int main(int argc, char **argv)
     free(work.at);
     free(row.at);
     free(text.at);
+    free(starts.at);
     free(extent.at);
     return 0;
 }

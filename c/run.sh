@@ -17,6 +17,8 @@ start of person 2, turn 1: 360
 walked: 1320 2760 4200 360 1200 3240
 last end: 4680
 starts: {"data":[[1320,2760,4200],[360,1200,3240]]}
+read: 6 cells, the last 3240
+refused 16 at byte 20
 packed in version 2: 236 bytes
 found 1
 3 1 1 1 2 1 1

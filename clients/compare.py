@@ -6,6 +6,8 @@ import sys
 from collections import Counter
 from decimal import Decimal
 
+from engine import blocks
+
 STORIES = {
     "exact": lambda number: number,
     "nearest double": lambda number: int(float(number)),
@@ -18,17 +20,6 @@ def value(cell):
     if re.fullmatch(r"0|-?[1-9]\d*|-?[1-9](\.\d+)?e\+\d+", cell) and Decimal(cell) == int(Decimal(cell)):
         return int(Decimal(cell))
     return cell
-
-
-def blocks(lines):
-    """The lines of each text by its name."""
-    found, block = {}, []
-    for line in lines:
-        if line.startswith("== "):
-            found[line[3:]] = block = []
-        else:
-            block.append(line)
-    return found
 
 
 def judge(wanted, found, told):

@@ -1,7 +1,8 @@
 #!/bin/sh
-# Has jq, Python, Node and PostgreSQL read what the engine writes as JSON, and compares what they find with the cells. Installs what is
-# missing from Debian's packages, as root. RMA_LIB_DIR names a folder with librma.a; without it the library is proved and built first.
-# All goes to target/clients, the database to a temporary folder that is removed. Exits with 0 when nothing is wrong.
+# Has jq, Python, Node and PostgreSQL read what the engine writes as JSON, and compares what they find with the cells; then has them write
+# it back, and the engine read that. Installs what is missing from Debian's packages, as root. RMA_LIB_DIR names a folder with librma.a;
+# without it the library is proved and built first. All goes to target/clients, the database to a temporary folder that is removed. Exits
+# with 0 when nothing is wrong.
 set -eu
 cd "$(dirname "$0")/.."
 built=target/clients
@@ -23,13 +24,19 @@ install_missing() {
     apt-get install -y --no-install-recommends $missing
 }
 
+# compiled PROGRAM: from its C file, with the library.
+compiled() {
+    "${CC:-cc}" -std=c99 -Wall -Wextra -Wpedantic -Werror -O2 -I include "clients/$1.c" "$RMA_LIB_DIR/librma.a" -o "$built/$1"
+}
+
 # Makes the texts. The status is the number of checks that failed.
 write_texts() {
     if [ -z "${RMA_LIB_DIR:-}" ]; then
         rt staticlib rma >"$built/staticlib.log" 2>&1 || { tail -5 "$built/staticlib.log"; exit 1; }
         RMA_LIB_DIR=target/staticlib
     fi
-    "${CC:-cc}" -std=c99 -Wall -Wextra -Wpedantic -Werror -O2 -I include clients/write.c "$RMA_LIB_DIR/librma.a" -o "$built/write"
+    compiled write
+    compiled read
     failed=0
     "$built/write" "$built" || failed=$?
 }
@@ -83,18 +90,89 @@ read_by_postgresql() {
     done | asked 2>"$built/psql.log"
 }
 
+# has_source: whether Node hands a reviver the source text of a number, with the flag that tells it to.
+has_source() {
+    node ${flag:+"$flag"} -e 'process.exit(JSON.parse("1", (key, value, context) => context && context.source) === "1" ? 0 : 1)'
+}
+
+# The engine's texts, read by all.
+read_by_all() {
+    readers=0
+    by jq "$jq" double read_by_jq
+    by Python "$python" exact python3 clients/read.py "$built"/texts/*.json
+    by Node "$node" double node clients/read.js number "$built"/texts/*.json
+    if has_source; then
+        by "Node, reviver with source text" "$node" exact node ${flag:+"$flag"} clients/read.js source "$built"/texts/*.json
+    fi
+    by "PostgreSQL, jsonb" "$postgresql" exact read_by_postgresql
+}
+
+# back NAME VERSION KIND COMMAND..: what this writer sends back goes to a file of its own, after its name, version and kind: `exact`,
+# `small` if numbers from 2^53 on become null, `double` if they may be doubles, `odd` if they are odd numbers.
+back() {
+    writers=$((writers + 1))
+    sent=$built/sent-$(printf %02d "$writers")
+    printf '%s\t%s\t%s\n' "$1" "$2" "$3" >"$sent"
+    shift 3
+    "$@" >>"$sent" || echo "failed: $1"
+}
+
+# back_by_jq STYLE OPTION..: all texts go to jq at once, each after a byte 1E.
+back_by_jq() {
+    style=$1
+    shift
+    for text in "$built"/texts/*.json; do
+        printf '\036'
+        cat "$text"
+        echo
+    done | jq --seq "$@" --arg style "$style" -f clients/back.jq
+}
+
+# The style is a function of back.sql.
+back_by_postgresql() {
+    for text in "$built"/texts/*.json; do
+        # shellcheck disable=SC2016 # psql's backticks
+        printf '\\set text `cat %s`\nselect chr(30) || %s(:'\''text'\'');\n' "$text" "$1"
+    done | asked 2>>"$built/psql.log"
+}
+
+# What the engine wrote, written back by all.
+back_by_all() {
+    writers=0
+    back "jq, -c" "$jq" double back_by_jq plain -c
+    back "jq, ." "$jq" small back_by_jq small
+    back "jq, --tab -a" "$jq" small back_by_jq small --tab -a
+    back "jq, escaped name" "$jq" small back_by_jq escaped -r
+    back jq "$jq" odd jq --seq -n -c --arg style odd -f clients/back.jq
+    for style in plain indent raw escaped; do
+        back "Python, $style" "$python" exact python3 clients/back.py $style "$built"/texts/*.json
+    done
+    back Python "$python" odd python3 clients/back.py odd
+    back "Node, plain" "$node" double node clients/back.js plain "$built"/texts/*.json
+    for style in small tabs; do
+        back "Node, $style" "$node" small node clients/back.js $style "$built"/texts/*.json
+    done
+    ! has_source || back "Node, rawJSON" "$node" exact node ${flag:+"$flag"} clients/back.js source "$built"/texts/*.json
+    back Node "$node" odd node clients/back.js odd
+    asked -f clients/back.sql 2>>"$built/psql.log"
+    for style in plain pretty of_row built kept; do
+        back "PostgreSQL, $style" "$postgresql" exact back_by_postgresql $style
+    done
+    back PostgreSQL "$postgresql" odd asked -c 'select chr(30) || odd from odd()'
+}
+
 install_missing
 write_texts
 start_cluster
-readers=0
+jq=$(jq --version | sed 's/^jq-//')
+python=$(python3 --version | sed 's/^Python //')
 node=$(node --version)
 flag=$(node --v8-options | sed -n 's/^ *\(--harmony-json-parse-with-source\) .*/\1/p')
-by jq "$(jq --version | sed 's/^jq-//')" double read_by_jq
-by Python "$(python3 --version | sed 's/^Python //')" exact python3 clients/read.py "$built"/texts/*.json
-by Node "$node" double node clients/read.js number "$built"/texts/*.json
-if node ${flag:+"$flag"} -e 'process.exit(JSON.parse("1", (key, value, context) => context && context.source) === "1" ? 0 : 1)'; then
-    by "Node, reviver with source text" "$node" exact node ${flag:+"$flag"} clients/read.js source "$built"/texts/*.json
-fi
-by "PostgreSQL, jsonb" "$(asked -c 'show server_version' | sed 's/ .*//')" exact read_by_postgresql
+postgresql=$(asked -c 'show server_version' | sed 's/ .*//')
+read_by_all
+back_by_all
 head -3 "$built/psql.log"
-python3 clients/compare.py "$failed" "$built/want" "$built"/found-*
+wrong=0
+python3 -B clients/compare.py "$failed" "$built/want" "$built"/found-* || wrong=1
+python3 -B clients/compare_back.py "$built/read" "$built" "$built"/sent-* || wrong=1
+exit $wrong

@@ -1,7 +1,8 @@
 /* Makes the texts that the readers read: packs arrays of INT and BOOLEAN, and has the engine write each as JSON. `write FOLDER` puts the
  * texts in FOLDER/texts, and in FOLDER/want what a reader must find, printed from the cells: for each text its name, the widths, and a
- * line a cell. Bundles are of version 1, and of version 2 where an array has over four axes. It also checks refusals and what stays of
- * the buffer; its status is the number of checks that failed, 100 at most. */
+ * line a cell. FOLDER/types has a line a text: its name, and its type as read.c takes it. Bundles are of version 1, and of version 2 where
+ * an array has over four axes. It also checks refusals and what stays of the buffer; its status is the number of checks that failed, 100
+ * at most. */
 #include <inttypes.h>
 #include <stdio.h>
 #include <stdlib.h>
@@ -26,7 +27,7 @@ static int64_t edges[128];
 static int edge_count;
 static uint64_t state = 88172645463325252u;
 static const char *folder;
-static FILE *want;
+static FILE *want, *types;
 
 static uint64_t next(void)
 {
@@ -159,10 +160,11 @@ static void must_refuse(uint32_t k, size_t lent, uint32_t number, uint32_t place
     must(kept(room, 0, sizeof room) && kept(said, 8, sizeof said), "a refusal leaves the buffer as it was");
 }
 
-/* Prints what a reader must find: name, widths, cells. */
+/* Prints what a reader must find: name, widths, cells; and the type. */
 static void print_wanted(const struct array *a)
 {
     fprintf(want, "== %03d\n", texts);
+    fprintf(types, "%03d %d\n", texts, a->type);
     for (int i = 0; i < a->rank; i++)
         fprintf(want, "%d%c", a->width[i], i + 1 < a->rank ? ' ' : '\n');
     for (int i = 0; i < a->count; i++) {
@@ -320,12 +322,14 @@ int main(int argc, char **argv)
         return 100;
     folder = argv[1];
     want = opened("want");
+    types = opened("types");
     find_edges();
     small_ones();
     long_ones();
     ends();
     refusals();
     fclose(want);
+    fclose(types);
     printf("written: %d texts; of refusals and of what stays %d checks failed\n", texts, failed);
     return failed < 100 ? failed : 100;
 }

@@ -1,10 +1,11 @@
-/* The C face of Rovgrint, a proved engine for small multi-dimensional arrays: twelve functions of librma.a (x86-64 Linux).
+/* The C face of Rovgrint, a proved engine for small multi-dimensional arrays: thirteen functions of librma.a (x86-64 Linux).
  * `rt staticlib rma` at the repository's root proves and writes target/staticlib/librma.a. An example is c/example.c. docs/FORMAT.md
  * has bundles, recipes, rows, heads and answers byte by byte.
  *
  * Rules of every call:
  * - A byte slice is two arguments, a pointer and its length. The pointer is never NULL, also for length 0.
- * - A buffer that a call writes to (out, work, rows, place, extent, said) overlaps no other argument. Nothing else is written to.
+ * - A buffer that a call writes to (out, work, rows, place, extent, said, and cells where it is not const) overlaps no other
+ *   argument. Nothing else is written to.
  * - Numbers in bytes are little-endian. Arrays, axis indexes, steps and ordinalities are counted from 1.
  * - No call keeps a pointer, allocates or prints. None has a condition to meet: bytes of any length and content get an answer.
  * - A call returns the number of its refusal, 0 for none. Refused, `said` begins with the place and the ordinality (two u32);
@@ -26,8 +27,8 @@
  *     a coordinate, and a row with it    to 16 and 20 bytes   to 24 and 28 bytes
  *
  * What takes a bundle finds its version in its bytes; a recipe is one of the bundle's version, and steps of the other version are 4.
- * rma_pack and rma_stretch are told the version by their first argument, which is judged in all its 32 bits: other than 1 and 2 is
- * refused with 1, place 0, before all else.
+ * rma_pack, rma_stretch and rma_read_json are told the version by their first argument, which is judged in all its 32 bits: other than
+ * 1 and 2 is refused with 1, place 0, before all else.
  *
  * A head tells an array without its cells: type (1 INT, 2 FLOAT, 3 BOOLEAN), axis count, then a slot for each axis that the version has:
  * name, lower, upper, maximum lower, maximum upper (i32 each). Slots past the last axis are not looked at. An axis count over 4 in
@@ -38,7 +39,8 @@
  * 3 not a cell. 4 recipe length, operation, operand, operator, unused byte, or no such array. 5 no such axis, or wrong number of
  * coordinates. 6 outside. 7 types unfit. 8 axis count, names or limits differ. 9 the result's extent is bad. 10 work area under 9T
  * bytes. 11 no room for a row, or start outside. 12 a value doesn't fit. 13 division by zero. 14 no room for the bundle,
- * the text or the head. rma_words has them as sentences. */
+ * the text, the head or the cells. 15 the text is not one JSON object with one `data`. 16 a value or bracket in `data` does not fit the
+ * type and extent. rma_words has them as sentences. */
 #ifndef RMA_H
 #define RMA_H
 
@@ -97,6 +99,23 @@ uint32_t rma_total(const uint8_t *bundle, size_t bundle_len, uint32_t array, uin
 uint32_t rma_write_json(const uint8_t *bundle, size_t bundle_len, uint32_t array, uint8_t *out, size_t out_len, uint8_t *said,
                         size_t said_len);
 
+/* Reads JSON into an array whose type and extent `head` names: a head of `version`, 1 or 2, as rma_stretch takes it; its maximum is not
+ * looked at. `text`: one object in UTF-8, nested to 16 levels, the object being the first; blanks (space, tab, LF, CR) may stand wherever
+ * JSON has them, before and after the object too. The value of its member `data` counts, names compared with escapes undone: brackets
+ * and values as rma_write_json writes them, with INT as whole numbers without fraction or exponent (-0 is 0). Other members, of any kind
+ * and under any names, are skipped. `said`: the number of cells (u32). `cells`: the cells in row-major order, nine bytes each, then what
+ * was there; untouched by a refusal.
+ * Refused, with place 0, in this order: 1 (another version; a head of other than RMA_HEAD_1 bytes in version 1, RMA_HEAD_2 in version 2;
+ * type or axis count), 2 (extent), 7 (FLOAT), all three before the text is looked at; then 15, 16, 14 (`cells` is shorter than nine bytes
+ * a cell). The ordinality of 15 and 16 is a byte place in `text`, from 1:
+ * - 15: the first byte with which the text no longer begins one such object, whether it has `data` or not; or the quote that opens the
+ *   name of a second `data`, where that is lower; one past the end where the text ends early, or where its whole object lacks `data`.
+ * - 16: the first byte of the first value or bracket of `data` that does not fit: a closing bracket where more is due, the first byte of
+ *   what is too much, of a number out of INT range or not whole, of a value where a bracket is due, or of any other kind of value.
+ * A byte place over 4,294,967,295 does not wrap: the ordinality is then 4,294,967,295. */
+uint32_t rma_read_json(uint32_t version, const uint8_t *head, size_t head_len, const uint8_t *text, size_t text_len, uint8_t *cells,
+                       size_t cells_len, uint8_t *said, size_t said_len);
+
 /* Plans a recipe over a bundle: nothing is lent, and nothing is run. `said`: T, the number of cells of all results together, then of the
  * last result the type, the axis count and the number of cells (four u32). So a work area of 9T bytes is enough, and a row has 4 and 4
  * times the axis count. Refused as rma_read, 4 with place 0 (recipe length: not 1 to 16 steps of the bundle's version), with the step as
@@ -135,7 +154,8 @@ uint32_t rma_stretch(uint32_t version, const uint8_t *left_head, size_t left_hea
                      size_t left_cells_len, const uint8_t *right_head, size_t right_head_len, const uint8_t *right_cells,
                      size_t right_cells_len, uint32_t axis, uint32_t ordinality, uint8_t *said, size_t said_len);
 
-/* A refusal's number in words, for a person; "done" for 0. Place and ordinality say where: an array, a step or a side, and a cell. */
+/* A refusal's number in words, for a person; "done" for 0. Place and ordinality say where: an array, a step or a side, and a cell; with
+ * 15 and 16 the ordinality is a byte of the text. */
 static inline const char *rma_words(uint32_t number)
 {
     static const char *const words[] = {
@@ -154,6 +174,8 @@ static inline const char *rma_words(uint32_t number)
         "the value does not fit",
         "division by zero",
         "the output buffer is too short",
+        "the text is not one JSON object, nested to 16 levels at most, with one member data",
+        "a value or bracket of the text's data does not fit the array's type and extent",
     };
     return number < sizeof words / sizeof *words ? words[number] : "no such refusal";
 }

@@ -193,7 +193,8 @@ impl<'a> Array<'a> {
     }
 
     /// The array as JSON: an object with one member `data`, a bracket deeper for each axis, the first axis outermost, with no space and
-    /// no newline. INT in shortest decimal, BOOLEAN as `true` and `false`, an empty cell as `null`. Refused 7 for FLOAT.
+    /// no newline. INT in shortest decimal, BOOLEAN as `true` and `false`, an empty cell as `null`. [`read_json`](crate::read_json())
+    /// reads it back. Refused 7 for FLOAT.
     ///
     /// ```
     /// use rovgrint::{pack, Axis, Bundle, Cell, Head, Kind, Version};

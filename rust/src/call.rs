@@ -1,4 +1,4 @@
-//! The twelve functions over slices: all of the crate's unsafe code. A slice's pointer is never null and points to its length's bytes; a
+//! The thirteen functions over slices: all of the crate's unsafe code. A slice's pointer is never null and points to its length's bytes; a
 //! `&mut` slice overlaps no other argument, by the borrow rules; the engine keeps none. That is all that the functions ask for.
 
 use crate::raw;
@@ -99,6 +99,25 @@ pub(crate) fn write_json(bundle: &[u8], array: u32, out: &mut [u8]) -> Answer {
         let (at, len) = (out.as_mut_ptr(), out.len());
         // SAFETY: each pointer and length are one slice's; `out` and `said`, which are written to, are borrowed alone.
         unsafe { raw::rma_write_json(bundle.as_ptr(), bundle.len(), array, at, len, said.as_mut_ptr(), said.len()) }
+    })
+}
+
+pub(crate) fn read_json(version: Version, head: &[u8], text: &[u8], cells: &mut [u8]) -> Answer {
+    answer(Counts::Nothing, |said| {
+        // SAFETY: each pointer and length are one slice's; `cells` and `said`, which are written to, are borrowed alone.
+        unsafe {
+            raw::rma_read_json(
+                version as u32,
+                head.as_ptr(),
+                head.len(),
+                text.as_ptr(),
+                text.len(),
+                cells.as_mut_ptr(),
+                cells.len(),
+                said.as_mut_ptr(),
+                said.len(),
+            )
+        }
     })
 }
 

@@ -6,7 +6,7 @@
 //!
 //! The engine is the static library `librma.a`, proved in Rattle. This crate adds types and iterators, and judges nothing itself: what
 //! a type here can say and the engine's bytes can't (a name that is too long, a FLOAT among INTs, a pair too many) is handed on as bytes
-//! that the engine refuses, at the place where it stands. [`raw`] has the twelve functions as they are; the repository's `docs/FORMAT.md`
+//! that the engine refuses, at the place where it stands. [`raw`] has the thirteen functions as they are; the repository's `docs/FORMAT.md`
 //! has every byte that they take and give.
 //!
 //! # Eleven hours
@@ -81,6 +81,7 @@ mod bundle;
 mod call;
 mod cell;
 mod extent;
+mod json;
 mod listing;
 mod pack;
 pub mod raw;
@@ -92,6 +93,7 @@ mod version;
 pub use bundle::{Array, Bundle, Total, Walk};
 pub use cell::{Cell, Kind, CELL};
 pub use extent::{Axis, Head, STAR};
+pub use json::read_json;
 pub use listing::{Page, Plan, Row, Rows, MOST_WORK};
 pub use pack::pack;
 pub use recipe::{step, Operator, Recipe, Single};

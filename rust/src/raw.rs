@@ -1,16 +1,16 @@
-//! The engine's twelve functions as the static library has them. `include/rma.h` tells the same in C.
+//! The engine's thirteen functions as the static library has them. `include/rma.h` tells the same in C.
 //!
 //! Each byte slice is two arguments, a pointer and its length. Pointers are never null, also for length 0, and point to as many bytes.
-//! A buffer that a call writes to (`out`, `work`, `rows`, `place`, `extent`, `said`) overlaps no other argument. Numbers in bytes are
-//! little-endian. No call keeps a pointer, allocates or prints, and none has another condition to meet: bytes of any length and
+//! A buffer that a call writes to (`out`, `work`, `rows`, `place`, `extent`, `said`, `cells` of [`rma_read_json`]) overlaps no other
+//! argument. Numbers in bytes are little-endian. No call keeps a pointer, allocates or prints, and none has another condition to meet: bytes of any length and
 //! content get an answer.
 //!
 //! A call returns the number of its refusal, 0 for none. Refused, `said` begins with the place and the ordinality (two u32); else with
 //! the bytes that the function names. Bytes of `said` after these stay; an answer longer than `said` is cut there. [`SAID`] bytes are
 //! room for every answer.
 //!
-//! A bundle is of version 1 or 2; what takes a bundle finds its version in its bytes, and [`rma_pack`] and [`rma_stretch`] are told it as
-//! their first argument. A told version other than 1 and 2, in all its 32 bits, is refused with 1, place 0, before all else.
+//! A bundle is of version 1 or 2; what takes a bundle finds its version in its bytes, and [`rma_pack`], [`rma_stretch`] and
+//! [`rma_read_json`] are told it as their first argument. A told version other than 1 and 2, in all its 32 bits, is refused with 1, place 0, before all else.
 //!
 //! A head is type, axis count, then slots as in a bundle, an axis each: in version 1 [`HEAD_1`] bytes with four slots of 24, in version 2
 //! [`HEAD_2`] bytes with six slots of 32. Slots past the last axis are not looked at, and an axis count over 4, in version 2 over 6, is
@@ -87,6 +87,21 @@ extern "C" {
         array: u32,
         out: *mut u8,
         out_len: usize,
+        said: *mut u8,
+        said_len: usize,
+    ) -> u32;
+
+    /// Reads JSON into the array that a head of that version names. `said`: the number of cells. `cells`: the cells in row-major order, then
+    /// what was there; untouched by a refusal. Refused, with place 0, 1 for the version, the head's length, type or axis count, 2, 7 (FLOAT),
+    /// then 15 and 16 with the byte of the text, from 1 (4,294,967,295 where it is over that), then 14 (`cells` is under nine bytes a cell).
+    pub fn rma_read_json(
+        version: u32,
+        head: *const u8,
+        head_len: usize,
+        text: *const u8,
+        text_len: usize,
+        cells: *mut u8,
+        cells_len: usize,
         said: *mut u8,
         said_len: usize,
     ) -> u32;

@@ -22,15 +22,18 @@ use std::hash::{Hash, Hasher};
 /// | 12 | an INT result doesn't fit or a FLOAT result isn't finite, 13 aside |
 /// | 13 | a filled cell or a scalar is divided by zero (either sign), or MOD zero |
 /// | 14 | the output buffer is shorter than the bundle packed, the JSON text or the head |
+/// | 15 | the text is not one JSON object nested to 16 levels with one member `data`; the byte where that is seen |
+/// | 16 | a value or bracket of `data` doesn't fit the type and extent; its first byte |
 ///
 /// Two refusals are equal if these three figures are.
 #[derive(Clone, Copy, Debug)]
 pub struct Refusal {
-    /// 1 to 14, as in the table above.
+    /// 1 to 16, as in the table above.
     pub number: u32,
     /// The array, the step or the side, counted from 1; 0 for what belongs to none.
     pub place: u32,
-    /// The cell, with 3, 12 and 13; else 0.
+    /// The cell, with 3, 12 and 13; with 15 and 16 the byte of the text, counted from 1, or [`u32::MAX`] where it lies there or after it;
+    /// else 0.
     pub ordinality: u32,
     /// What the place counts.
     pub counts: Counts,
@@ -45,6 +48,8 @@ pub enum Counts {
     Steps,
     /// The sides of a stretch: 1 is the left one, 2 the right one.
     Sides,
+    /// Nothing: JSON is read into one array, and the place is 0.
+    Nothing,
 }
 
 impl Refusal {
@@ -53,7 +58,7 @@ impl Refusal {
         [self.number, self.place, self.ordinality]
     }
 
-    /// The refusal as one plain sentence, with its place and its cell.
+    /// The refusal as one plain sentence, with its place and its cell, or its byte of a text. [`words_in`](Refusal::words_in) shows that text too.
     ///
     /// ```
     /// use rovgrint::{Counts, Refusal};
@@ -64,14 +69,19 @@ impl Refusal {
     /// ```
     pub fn words(&self) -> String {
         let place = match (self.counts, self.place) {
-            (_, 0) => String::new(),
+            (_, 0) | (Counts::Nothing, _) => String::new(),
             (Counts::Arrays, k) => format!("array {k}"),
             (Counts::Steps, k) => format!("step {k}"),
             (Counts::Sides, 1) => "the left side".to_string(),
             (Counts::Sides, _) => "the right side".to_string(),
         };
-        let cell = if self.ordinality == 0 { String::new() } else { format!("cell {}", self.ordinality) };
-        let places: Vec<String> = [place, cell].into_iter().filter(|text| !text.is_empty()).collect();
+        let counted = match (self.number, self.ordinality) {
+            (_, 0) => String::new(),
+            (15 | 16, u32::MAX) => format!("byte {} or after it", u32::MAX),
+            (15 | 16, byte) => format!("byte {byte}"),
+            (_, cell) => format!("cell {cell}"),
+        };
+        let places: Vec<String> = [place, counted].into_iter().filter(|text| !text.is_empty()).collect();
         let reason = self.reason();
         if places.is_empty() {
             reason.to_string()
@@ -84,7 +94,9 @@ impl Refusal {
     fn reason(&self) -> &'static str {
         match (self.number, self.counts, self.place) {
             (1, Counts::Arrays, 0) => "the bundle's mark, version, number of arrays or length is bad",
+            (1, Counts::Nothing, _) => "the array's type or axis count is bad",
             (1, _, _) => "its type, axis count or number of bytes is bad",
+            (2, Counts::Nothing, _) => "the array's extent is bad: a name, a limit, or over 4,096 cells",
             (2, _, _) => "its extent is bad: a name, a limit, the declared maximum, or over 4,096 cells",
             (3, _, _) => "this is no cell of the array's type",
             (4, Counts::Arrays, _) => "there is no such array",
@@ -94,10 +106,11 @@ impl Refusal {
             (5, _, _) => "there is no such axis",
             (6, Counts::Arrays, _) => "the coordinate lies beyond the declared maximum, or the walking place outside the array",
             (6, Counts::Steps, _) => "the limits, the position or the patch lie outside the array",
-            (6, Counts::Sides, _) => "the ordinality lies outside the glued array",
+            (6, _, _) => "the ordinality lies outside the glued array",
             (7, Counts::Arrays, _) => "this cannot be asked of an array of that type",
             (7, Counts::Steps, _) => "the types do not fit, or a listing's last result is not BOOLEAN",
             (7, Counts::Sides, _) => "the two arrays have different types",
+            (7, Counts::Nothing, _) => "JSON is not read into a FLOAT array",
             (8, _, _) => "the two arrays do not agree in axes, names or limits",
             (9, _, _) => "the result's extent is bad: no axis, a name, a limit, or over 4,096 cells",
             (10, _, _) => "the work area is under nine bytes for each cell of all results",
@@ -106,6 +119,8 @@ impl Refusal {
             (12, _, _) => "the value does not fit",
             (13, _, _) => "division by zero",
             (14, _, _) => "the output buffer is too short",
+            (15, _, _) => "the text is not one JSON object, nested to 16 levels at most, with one member data",
+            (16, _, _) => "a value or bracket of the text's data does not fit the array's type and extent",
             _ => "no such refusal",
         }
     }

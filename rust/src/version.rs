@@ -3,8 +3,8 @@
 /// A version of the bundle. The versions differ in their names and in the number of axes, and in nothing else: types, limits, cells,
 /// operations, listings and refusals are the same.
 ///
-/// A bundle that is read knows its version ([`Bundle::version`](crate::Bundle::version)); [`pack`](crate::pack()) and
-/// [`stretch`](crate::stretch()) are told it; a [`Recipe`](crate::Recipe) is built for it. What one version can't say is refused,
+/// A bundle that is read knows its version ([`Bundle::version`](crate::Bundle::version)); [`pack`](crate::pack()),
+/// [`stretch`](crate::stretch()) and [`read_json`](crate::read_json()) are told it; a [`Recipe`](crate::Recipe) is built for it. What one version can't say is refused,
 /// never cut:
 ///
 /// ```

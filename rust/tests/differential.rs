@@ -1,8 +1,8 @@
-//! The library held against the paper: the same cases are put to both, and every answer and every byte that was lent must be
-//! equal. `RMA_SEED` gives the seed (else the clock), `RMA_CASES` the number of cases (else 240,000). From that many cases on, each
-//! thing that `cases::met`, `cases::met_json`, `cases::met_moves` and `cases::met_versions` count must have been met in a hundred of them.
-//! Each case of version 1 that can be said in version 2 is rewritten so, and the library must answer both alike (`cases::same`).
-//! What is reported goes straight to standard output, so that it is seen whether the test passes or not.
+//! The library held against the paper: the same cases are put to both, and every answer and every byte that was lent must be equal.
+//! `RMA_SEED` gives the seed (else the clock), `RMA_CASES` the number of cases (else 240,000). From that many cases on, each thing that
+//! `cases::met`, `cases::met_json`, `cases::met_reads`, `cases::met_moves` and `cases::met_versions` count must have been met in a
+//! hundred of them. Each case of version 1 that can be said in version 2 is rewritten so, and the library must answer both alike
+//! (`cases::same`). What is reported goes straight to standard output, so that it is seen whether the test passes or not.
 
 mod cases;
 mod paper;
@@ -12,9 +12,10 @@ use cases::dice::Dice;
 use cases::met::Met;
 use cases::met_json::MetJson;
 use cases::met_moves::MetMoves;
+use cases::met_reads::MetReads;
 use cases::met_versions::MetVersions;
 use cases::printed::Ask;
-use cases::{printed, same, Answer, Case, Function, FUNCTIONS};
+use cases::{printed, readings, same, Answer, Case, Function, FUNCTIONS};
 use paper::version::VERSIONS;
 use std::io::Write;
 use std::time::{Instant, SystemTime, UNIX_EPOCH};
@@ -27,7 +28,7 @@ const LEAST_MET: u64 = 100;
 #[derive(Clone, Copy, Default)]
 struct Tally {
     cases: u64,
-    ended: [u64; 15],
+    ended: [u64; 17],
 }
 
 /// The cases so far: their tallies, what they met, and how many differ; how many of version 1 were rewritten, and how many of these are
@@ -38,6 +39,7 @@ struct Report {
     rewritten: [u64; FUNCTIONS.len()],
     met: Met,
     met_json: MetJson,
+    met_reads: MetReads,
     met_moves: MetMoves,
     met_versions: MetVersions,
     cases: u64,
@@ -64,9 +66,10 @@ fn hex(bytes: &[u8]) -> String {
 
 impl Report {
     fn new(seed: u64) -> Report {
-        let (met, met_json, met_moves, met_versions) = (Met::new(), MetJson::new(), MetMoves::new(), MetVersions::new());
+        let (met, met_json, met_reads) = (Met::new(), MetJson::new(), MetReads::new());
+        let (met_moves, met_versions) = (MetMoves::new(), MetVersions::new());
         let (tallies, rewritten) = ([Tally::default(); FUNCTIONS.len()], [0; FUNCTIONS.len()]);
-        Report { seed, tallies, rewritten, met, met_json, met_moves, met_versions, cases: 0, differ: 0, apart: 0 }
+        Report { seed, tallies, rewritten, met, met_json, met_reads, met_moves, met_versions, cases: 0, differ: 0, apart: 0 }
     }
 
     /// The function that is furthest behind its share of the cases.
@@ -85,6 +88,7 @@ impl Report {
         tally.ended[paper.number as usize] += 1;
         self.met.count(case, paper.number);
         self.met_json.count(case, paper.number);
+        self.met_reads.count(case, paper.number);
         self.met_moves.count(case, paper.number);
         self.met_versions.count(case, paper.number);
         let library = library_answers(case);
@@ -128,12 +132,12 @@ impl Report {
 
     fn print_tallies(&self) {
         for ((_, name, _), tally) in FUNCTIONS.iter().zip(&self.tallies) {
-            let refused = (1..15).filter(|&number| tally.ended[number] > 0);
+            let refused = (1..17).filter(|&number| tally.ended[number] > 0);
             let counts: Vec<String> = refused.map(|number| format!("{number}: {}", tally.ended[number])).collect();
             print(&format!("{name} {} cases: {} done, refused {}", tally.cases, tally.ended[0], counts.join(", ")));
         }
-        let lines = [self.met.lines(), self.met_json.lines(), self.met_moves.lines(), self.met_versions.lines()].concat();
-        lines.iter().for_each(|line| print(line));
+        let lines = [self.met.lines(), self.met_json.lines(), self.met_reads.lines(), self.met_moves.lines(), self.met_versions.lines()];
+        lines.concat().iter().for_each(|line| print(line));
         let rewritten = FUNCTIONS.iter().zip(&self.rewritten).map(|((_, name, _), count)| format!("{count} {name}"));
         print(&format!("cases of version 1 rewritten as version 2: {}", rewritten.collect::<Vec<String>>().join(", ")));
     }
@@ -142,8 +146,8 @@ impl Report {
     fn seldom(&self, least: u64) -> Vec<String> {
         let rewritten = FUNCTIONS.iter().zip(&self.rewritten).filter(|(_, count)| **count < least);
         let rewritten = rewritten.map(|((_, name, _), count)| format!("{count} {name} rewritten")).collect();
-        let met = [self.met.seldom(least), self.met_json.seldom(least), self.met_moves.seldom(least), self.met_versions.seldom(least)];
-        [met.concat(), rewritten].concat()
+        let met = [self.met.seldom(least), self.met_json.seldom(least), self.met_reads.seldom(least), self.met_moves.seldom(least)];
+        [met.concat(), self.met_versions.seldom(least), rewritten].concat()
     }
 }
 
@@ -209,6 +213,20 @@ fn the_paper_writes_in_row_major_order() {
     }
 }
 
+/// Request [5]'s demand on the paper itself: what is written of an array, read with its type and extent, is that array.
+#[test]
+fn the_paper_reads_what_it_writes() {
+    let mut dice = Dice::new(setting("RMA_SEED").unwrap_or_else(clock));
+    for _ in 0..1_000 {
+        let case = cases::of_function(&mut dice, Function::WriteJson).swap_remove(0);
+        let Ok(bundle) = paper::bundle::read(&case.shared[0]) else { continue };
+        for array in bundle.arrays.iter().map(|declared| &declared.array).filter(|array| array.of != paper::cell::Type::Float) {
+            let members = paper::json_text::members(paper::json::text(array).as_bytes()).expect("an object with `data`");
+            assert_eq!(paper::json_read::fitted(array.of, &array.extent, &members[0].value), Ok(array.clone()));
+        }
+    }
+}
+
 /// Request [6]'s demand on the paper itself: a case of version 1 and the same case as one of version 2 have one answer, but for the bytes
 /// that are the format's.
 #[test]
@@ -230,6 +248,7 @@ fn the_paper_answers_both_versions_alike() {
 fn the_paper_answers_as_it_prints() {
     for sizes in VERSIONS {
         printed::all(Ask { sizes, answers: &paper_answers });
+        readings::all(Ask { sizes, answers: &paper_answers });
     }
 }
 
@@ -238,5 +257,6 @@ fn the_library_answers_as_the_paper_prints() {
     let library = |case: &Case| library_answers(case).expect("nothing changed that was not lent");
     for sizes in VERSIONS {
         printed::all(Ask { sizes, answers: &library });
+        readings::all(Ask { sizes, answers: &library });
     }
 }

@@ -1,12 +1,13 @@
 //! The examples in hex of docs/FORMAT.md, read out of the page and put to the engine: the bundle is read, each operation's step is run over
 //! it and leaves the cells that the page prints, the rows and the answer of a page are those printed, so are a plan and the head of a result,
-//! and a head packs to its bundle; and so for the example in version 2. What the page's tables say of both versions is looked up too.
+//! and a head packs to its bundle; and so for the example in version 2. The table of JSON texts is read too, each text put to the engine in
+//! both versions. What the page's tables say of both versions is looked up too, and that every refusal has a row.
 
 use std::collections::BTreeMap;
 use std::fs;
 use std::path::PathBuf;
 
-use rovgrint::{raw, Bundle, Recipe, Row, Version};
+use rovgrint::{raw, read_json, Axis, Bundle, Cell, Head, Kind, Recipe, Row, Version};
 
 fn page() -> String {
     let path = PathBuf::from(env!("CARGO_MANIFEST_DIR")).join("../docs/FORMAT.md");
@@ -135,6 +136,42 @@ fn in_version_2() {
     extent_is(bundle.bytes(), block("step slice"), block("head of the result"));
     assert_eq!((block("head").len(), block("head of the result").len()), (raw::HEAD_2, raw::HEAD_2));
     packs_to(Version::Two, block("head"), bundle.array(1).unwrap().bytes(), block("bundle"));
+}
+
+/// The cells that a row of the table of texts prints, or the refusal's number and byte.
+fn answer(printed: &str) -> Result<Vec<Cell>, [u32; 3]> {
+    let words: Vec<&str> = printed.split([' ', ',']).collect();
+    if let [number, "at", byte, ..] = words[..] {
+        return Err([number, "0", byte].map(|figure| figure.parse().expect("a figure")));
+    }
+    let cell = |word: &&str| if *word == "empty" { Cell::Empty } else { Cell::Int(word.parse().expect("a number")) };
+    Ok(words.iter().map(cell).collect())
+}
+
+#[test]
+fn texts_are_read_as_printed() {
+    let page = page();
+    let (_, from_section) = page.split_once("\n## A JSON text\n").expect("the section");
+    let section = from_section.split("\n## ").next().expect("a first part");
+    let head = Head { kind: Kind::Int, axes: vec![Axis::new("x", 1, 2), Axis::new("y", 1, 2)] };
+    let rows: Vec<&str> = section.lines().filter_map(|line| line.strip_prefix("| `")?.strip_suffix(" |")).collect();
+    for row in &rows {
+        let (text, printed) = row.split_once("` | ").expect("a text and its answer");
+        for version in [Version::One, Version::Two] {
+            assert_eq!(read_json(version, &head, text).map_err(|refusal| refusal.figures()), answer(printed), "{text}");
+        }
+    }
+    let of_number = |number: &str| rows.iter().filter(|row| row.contains(&format!("` | {number} at "))).count();
+    assert_eq!((rows.len(), of_number("15"), of_number("16")), (18, 6, 8));
+}
+
+/// A row for each refusal, and no other.
+#[test]
+fn table_of_refusals() {
+    let page = page();
+    let (_, section) = page.split_once("\n## Refusals\n").expect("the section");
+    let numbers = section.lines().filter_map(|line| line.strip_prefix("| ")?.split(" |").next()?.parse::<u32>().ok());
+    assert_eq!(numbers.collect::<Vec<u32>>(), (1..=16).collect::<Vec<u32>>());
 }
 
 /// The figures of the table of versions.

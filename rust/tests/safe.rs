@@ -692,12 +692,12 @@ mod words {
     #[test]
     fn there_are_some_for_every_number_and_for_no_other() {
         let words = |number, place, counts| Refusal { number, place, ordinality: 0, counts }.words();
-        for counts in [Counts::Arrays, Counts::Steps, Counts::Sides] {
-            let sentences: Vec<String> = (1..=14).map(|number| words(number, 0, counts)).collect();
+        for counts in [Counts::Arrays, Counts::Steps, Counts::Sides, Counts::Nothing] {
+            let sentences: Vec<String> = (1..=16).map(|number| words(number, 0, counts)).collect();
             assert!(sentences.iter().all(|sentence| !sentence.contains("no such refusal")));
-            assert!((1..14).all(|n| !sentences[..n].contains(&sentences[n])), "two numbers in the same words");
+            assert!((1..16).all(|n| !sentences[..n].contains(&sentences[n])), "two numbers in the same words");
             assert_eq!(words(0, 0, counts), "no such refusal");
-            assert_eq!(words(15, 2, counts).split(": ").last(), Some("no such refusal"));
+            assert_eq!(words(17, 2, counts).split(": ").last(), Some("no such refusal"));
         }
     }
 }
@@ -708,8 +708,8 @@ fn the_header_has_words_for_every_number() {
     let header = include_str!("../../include/rma.h");
     let table = header.split("words[] = {").nth(1).and_then(|rest| rest.split("};").next()).expect("rma_words");
     let sentences: Vec<&str> = table.lines().filter_map(|line| line.trim().strip_prefix('"')?.strip_suffix("\",")).collect();
-    assert_eq!((sentences.len(), sentences[0]), (15, "done"));
-    for number in 8..=14 {
+    assert_eq!((sentences.len(), sentences[0]), (17, "done"));
+    for number in 8..=16 {
         let refusal = Refusal { number, place: 0, ordinality: 0, counts: Counts::Steps };
         assert_eq!(sentences[number as usize], refusal.words());
     }

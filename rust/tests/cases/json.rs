@@ -101,7 +101,8 @@ fn array(dice: &mut Dice, sizes: Sizes) -> RawArray {
     RawArray { of, count: axes.len() as u8, axes, cells }
 }
 
-fn widths(dice: &mut Dice, sizes: Sizes) -> Vec<i32> {
+/// Widths on 1 axis to the most: mostly small ones, seldom as large as may be.
+pub fn widths(dice: &mut Dice, sizes: Sizes) -> Vec<i32> {
     let large: [&[i32]; 8] =
         [&[4_096], &[64, 64], &[16, 16, 16], &[8, 8, 8, 8], &[4_096, 1, 1, 1], &[1, 1, 1, 4_096], &[1, 4_095], &[4, 3, 11, 31]];
     let deep: [&[i32]; 4] = [&[4; 6], &[4_096, 1, 1, 1, 1, 1], &[1, 1, 1, 1, 1, 4_096], &[3, 5, 1, 7, 39]];
@@ -114,7 +115,7 @@ fn widths(dice: &mut Dice, sizes: Sizes) -> Vec<i32> {
 }
 
 /// So many cells of that type: all of them empty, many, few or hardly any; or one and the same INT wherever one is filled.
-fn cells(dice: &mut Dice, of: u8, count: usize) -> Vec<[u8; 9]> {
+pub fn cells(dice: &mut Dice, of: u8, count: usize) -> Vec<[u8; 9]> {
     let empty_in = dice.pick(&[1, 2, 6, 6, 6, 40, 40, 40]);
     let same = int(dice);
     let repeats = dice.one_in(10);

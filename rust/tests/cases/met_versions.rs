@@ -27,7 +27,7 @@ enum Thing {
     OtherHeads(Function, u32, u32),
     /// A bundle that is refused with 1 at place 0 for its version alone, which is that.
     Stands(&'static str),
-    /// In that version, so many axes in an array of a bundle, or a head of a pack or a stretch: whether taken, or refused with 1 there.
+    /// In that version, so many axes in an array of a bundle, or a head of a call that is told it: whether taken, or refused with 1 there.
     Axes(u32, Function, usize, bool),
     /// A coordinate of that length: whether it is a cell's, or refused with 5.
     Coordinate(&'static str, bool),
@@ -52,7 +52,7 @@ enum Thing {
 }
 
 const WITH_RECIPE: [Function; 4] = [Function::Plan, Function::Extent, Function::Run, Function::Page];
-const TOLD: [Function; 2] = [Function::Pack, Function::Stretch];
+const TOLD: [Function; 3] = [Function::Pack, Function::Stretch, Function::ReadJson];
 const NO_VERSIONS: [&str; 5] = ["0", "3", "65537", "65538", "another"];
 const NOT_STANDING: [&str; 5] = ["0", "3", "257", "258", "another"];
 const LENGTHS: [&str; 8] = ["0", "4", "8", "12", "16", "20", "24", "28"];
@@ -68,6 +68,7 @@ fn endings(function: Function) -> &'static [u32] {
         Function::Walk => &[0, 1, 2, 3, 4, 6],
         Function::Total => &[0, 1, 2, 3, 4, 7, 12],
         Function::WriteJson => &[0, 1, 2, 3, 4, 7, 14],
+        Function::ReadJson => &[0, 1, 2, 7, 14, 15, 16],
         Function::Plan => &[0, 1, 2, 3, 4, 5, 6, 7, 8, 9],
         Function::Extent => &[0, 1, 2, 3, 4, 5, 6, 7, 8, 9, 14],
         Function::Run => &[0, 1, 2, 3, 4, 5, 6, 7, 8, 9, 10, 12, 13],
@@ -86,18 +87,19 @@ impl Thing {
         let mut all = vec![];
         let numbered = FUNCTIONS.iter().flat_map(|(function, ..)| endings(*function).iter().map(|number| (*function, *number)));
         all.extend(numbered.map(|(function, number)| Thing::Ended(function, number)));
-        for function in [Function::Pack, Function::Extent, Function::Page, Function::Stretch] {
+        for function in [Function::Pack, Function::Extent, Function::Page, Function::Stretch, Function::ReadJson] {
             all.extend((1..=TWO.most_axes).map(|axes| Thing::Deep(function, axes)));
         }
         for function in TOLD {
             all.extend(NO_VERSIONS.map(|version| Thing::Told(function, version)));
         }
         for told in VERSIONS.map(|sizes| sizes.version) {
-            let places = [(Function::Pack, 0), (Function::Stretch, 1), (Function::Stretch, 2)];
+            let places = [(Function::Pack, 0), (Function::Stretch, 1), (Function::Stretch, 2), (Function::ReadJson, 0)];
             all.extend(places.map(|(function, place)| Thing::OtherHeads(function, told, place)));
         }
         all.extend(NOT_STANDING.map(Thing::Stands));
-        for (sizes, function) in [Function::Read, Function::Pack, Function::Stretch].iter().flat_map(|f| VERSIONS.map(|s| (s, *f))) {
+        let with_axes = [Function::Read, Function::Pack, Function::Stretch, Function::ReadJson];
+        for (sizes, function) in with_axes.iter().flat_map(|f| VERSIONS.map(|s| (s, *f))) {
             all.extend((5..=7).map(|axes| Thing::Axes(sizes.version, function, axes, sizes.fits_axes(axes))));
         }
         all.extend(LENGTHS[1..7].iter().map(|length| Thing::Coordinate(length, true)));
@@ -212,7 +214,7 @@ fn counts_in(heads: &[u8], length: usize) -> Vec<usize> {
     heads.chunks(length).filter(|head| head.len() == length).map(|head| usize::from(head[1])).collect()
 }
 
-/// What a pack or a stretch meets, which is told its version.
+/// What a pack, a stretch or a reading of JSON meets, which is told its version.
 fn met_told(case: &Case, number: u32) -> Vec<Thing> {
     let (function, told) = (case.function, case.numbers[0]);
     let Some(sizes) = Sizes::of_version(told) else {
@@ -222,7 +224,7 @@ fn met_told(case: &Case, number: u32) -> Vec<Thing> {
     if sizes == TWO {
         met.push(Thing::Ended(function, number));
     }
-    let heads: Vec<&Vec<u8>> = if function == Function::Pack { vec![&case.shared[0]] } else { vec![&case.shared[0], &case.shared[2]] };
+    let heads = if function == Function::Stretch { vec![&case.shared[0], &case.shared[2]] } else { vec![&case.shared[0]] };
     let counts: Vec<usize> = heads.iter().flat_map(|heads| counts_in(heads, sizes.head())).collect();
     if number == 0 {
         met.extend(counts.iter().map(|axes| Thing::Axes(told, function, *axes, true)));
@@ -236,7 +238,7 @@ fn met_told(case: &Case, number: u32) -> Vec<Thing> {
         if heads.get((place as usize).max(1) - 1).is_some_and(|heads| of_other(heads)) {
             met.push(Thing::OtherHeads(function, told, place));
         }
-        let at = counts.get((place as usize).wrapping_sub(1));
+        let at = if function == Function::ReadJson { counts.first() } else { counts.get((place as usize).wrapping_sub(1)) };
         met.extend(at.map(|axes| Thing::Axes(told, function, *axes, false)));
     }
     if number == 8 && function == Function::Stretch && heads_alike(sizes, &heads) {

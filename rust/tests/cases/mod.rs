@@ -7,13 +7,19 @@ pub mod cells;
 pub mod dice;
 pub mod faults;
 pub mod json;
+pub mod json_reads;
+pub mod json_texts;
+pub mod json_values;
 pub mod met;
 pub mod met_json;
 pub mod met_moves;
+pub mod met_reads;
+pub mod met_text;
 pub mod met_versions;
 pub mod packs;
 pub mod printed;
 pub mod questions;
+pub mod readings;
 pub mod recipes;
 pub mod runs;
 pub mod same;
@@ -32,6 +38,7 @@ pub enum Function {
     Walk,
     Total,
     WriteJson,
+    ReadJson,
     Plan,
     Extent,
     Run,
@@ -40,19 +47,20 @@ pub enum Function {
 }
 
 /// Each function with its name and its weight among the cases.
-pub const FUNCTIONS: [(Function, &str, u64); 12] = [
+pub const FUNCTIONS: [(Function, &str, u64); 13] = [
     (Function::Read, "rma_read", 20),
-    (Function::Array, "rma_array", 12),
+    (Function::Array, "rma_array", 14),
     (Function::Pack, "rma_pack", 22),
     (Function::Refer, "rma_refer", 24),
     (Function::Walk, "rma_walk", 20),
     (Function::Total, "rma_total", 26),
-    (Function::WriteJson, "rma_write_json", 24),
+    (Function::WriteJson, "rma_write_json", 27),
+    (Function::ReadJson, "rma_read_json", 56),
     (Function::Plan, "rma_plan", 24),
     (Function::Extent, "rma_extent", 24),
-    (Function::Run, "rma_run", 40),
-    (Function::Page, "rma_page", 52),
-    (Function::Stretch, "rma_stretch", 24),
+    (Function::Run, "rma_run", 46),
+    (Function::Page, "rma_page", 64),
+    (Function::Stretch, "rma_stretch", 30),
 ];
 
 /// The arguments of one call: slices that are only read, numbers, and lent buffers (`said` is the last), each in order.
@@ -87,6 +95,7 @@ pub fn of_function(dice: &mut Dice, function: Function) -> Vec<Case> {
         Function::Walk => questions::walks(dice),
         Function::Total => questions::totals(dice),
         Function::WriteJson => json::writings(dice),
+        Function::ReadJson => json_reads::reads(dice),
         Function::Plan => vec![runs::plan(dice)],
         Function::Extent => vec![runs::extent(dice)],
         Function::Run => vec![runs::run(dice)],
@@ -110,8 +119,8 @@ pub fn other_version(sizes: Sizes) -> Sizes {
     }
 }
 
-/// The version that a pack or a stretch is told: mostly that of its heads, else the other one, or a number that is no version, often
-/// one whose lowest bytes are those of a version.
+/// The version that a pack, a stretch or a reading of JSON is told: mostly that of its heads, else the other one, or a number that is no
+/// version, often one whose lowest bytes are those of a version.
 pub fn told(dice: &mut Dice, sizes: Sizes) -> u32 {
     let right = sizes.version;
     match dice.below(48) {

@@ -20,7 +20,7 @@ pub struct Ask<'a> {
 
 impl Ask<'_> {
     /// One call. `said` is lent after the other buffers.
-    fn call(&self, function: Function, shared: Vec<Vec<u8>>, numbers: &[u32], lent: &[usize]) -> Answer {
+    pub fn call(&self, function: Function, shared: Vec<Vec<u8>>, numbers: &[u32], lent: &[usize]) -> Answer {
         let lent = lent.iter().chain(&[16]).map(|&length| vec![0x77; length]).collect();
         (self.answers)(&Case { function, shared, numbers: numbers.to_vec(), lent })
     }

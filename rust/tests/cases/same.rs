@@ -10,8 +10,8 @@ use crate::paper::version::{ONE, TWO};
 /// The bytes that an axis has more in version 2.
 const MORE_AN_AXIS: usize = TWO.axis - ONE.axis;
 
-/// The case as one of version 2: a version 1 case whose bundle is accepted and whose recipe, if it has one, is 1 to 16 whole steps, or a
-/// packing or a stretch, told version 1, whose heads are whole and have 1 to 4 axes.
+/// The case as one of version 2: a version 1 case whose bundle is accepted and whose recipe, if it has one, is 1 to 16 whole steps; or a
+/// packing, a stretch or a reading of JSON, told version 1, whose heads are whole and have 1 to 4 axes.
 pub fn rewritten(case: &Case) -> Option<Case> {
     let mut case = case.clone();
     match case.function {
@@ -24,8 +24,12 @@ pub fn rewritten(case: &Case) -> Option<Case> {
         Function::Stretch => {
             tell_two(&mut case)?;
             for side in [0, 2] {
-                case.shared[side] = Some(&case.shared[side]).filter(|head| head.len() == ONE.head()).and_then(|head| heads(head))?;
+                case.shared[side] = one_head(&case.shared[side])?;
             }
+        }
+        Function::ReadJson => {
+            tell_two(&mut case)?;
+            case.shared[0] = one_head(&case.shared[0])?;
         }
         function => {
             let bundle = read(&case.shared[0]).ok().filter(|bundle| bundle.sizes == ONE)?;
@@ -71,6 +75,11 @@ fn heads(bytes: &[u8]) -> Option<Vec<u8>> {
         longer
     };
     Some(bytes.chunks(ONE.head()).flat_map(head).collect())
+}
+
+/// One whole head of 1 to 4 axes.
+fn one_head(bytes: &[u8]) -> Option<Vec<u8>> {
+    Some(bytes).filter(|head| head.len() == ONE.head()).and_then(heads)
 }
 
 /// The number of axes that whole heads have together, if each has 1 to 4.

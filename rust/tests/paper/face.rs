@@ -1,4 +1,4 @@
-//! The twelve callable parts of the C face, answered by the paper: the returned number, the bytes of `said`, and
+//! The thirteen callable parts of the C face, answered by the paper: the returned number, the bytes of `said`, and
 //! every lent buffer after. Each slice of the face is one slice here.
 
 use super::array::Declared;
@@ -6,7 +6,7 @@ use super::bundle::read;
 use super::bytes::{signed_numbers, unsigned};
 use super::cell::Cell;
 use super::refusal::Refusal;
-use super::{json, listing, pack, question, stretch};
+use super::{json, json_read, listing, pack, question, stretch};
 
 /// The answer's bytes, or place and ordinality, as far as `said` has room; then the number.
 fn say(answer: Result<Vec<u8>, Refusal>, said: &mut [u8]) -> u32 {
@@ -69,6 +69,10 @@ pub fn rma_total(bundle: &[u8], array: u32, which: u32, said: &mut [u8]) -> u32 
 pub fn rma_write_json(bundle: &[u8], array: u32, out: &mut [u8], said: &mut [u8]) -> u32 {
     let answer = read(bundle).and_then(|bundle| json::write(&bundle, array, out));
     say(answer.map(|length| numbers(&[length])), said)
+}
+
+pub fn rma_read_json(version: u32, head: &[u8], text: &[u8], cells: &mut [u8], said: &mut [u8]) -> u32 {
+    say(json_read::read(version, head, text, cells).map(|count| numbers(&[count])), said)
 }
 
 pub fn rma_plan(bundle: &[u8], recipe: &[u8], said: &mut [u8]) -> u32 {
