@@ -6,7 +6,16 @@
 set -e
 here=$(cd "$(dirname "$0")" && pwd)
 out=$(dirname "$here")/target/bench
-limits=''
+limits='INT, full range	3370000
+INT, 0 to 99	1780000
+INT, minutes of a roster, 1 in 16 empty	1930000
+INT, 1 to 19 digits, both signs	2570000
+BOOLEAN, 1 in 16 empty	1660000
+INT on six axes, the longest text	13900000
+INT indented by two, 0 to 99	2040000
+one cell behind 600 records	3120000
+one cell alone	42500
+INT, 2 by 2 among other members	48600'
 command -v valgrind >/dev/null || { echo "valgrind is missing: apt-get install valgrind" >&2; exit 2; }
 READ_ONLY=1 BUILD_ONLY=1 "$here/run.sh" || exit 2
 

@@ -96,10 +96,9 @@ def all_texts(packages):
 def put(text):
     """The ways in which a text is put. `whole` is the text itself with a `data` inserted, where it begins an object."""
     ways = {"raw": text, "before": b'{"a":' + text + b',"data":[1]}', "behind": b'{"data":[1],"a":' + text + b"}"}
-    inside = text.lstrip(BLANKS)
-    if inside.startswith(b"{"):
-        rest = inside[1:]
-        ways["whole"] = b'{"data":[1]' + b"," * (not rest.lstrip(BLANKS).startswith(b"}")) + rest
+    before, brace, behind = text.partition(b"{")
+    if brace and not before.strip(BLANKS):
+        ways["whole"] = before + b'{"data":[1]' + b"," * (not behind.lstrip(BLANKS).startswith(b"}")) + behind
     return ways
 
 
@@ -119,8 +118,8 @@ def unsound(text, answers):
         return [] if answers["raw"] == refused(15, begins) else [f"as it is: {answers['raw'][0]}, due at {begins}"]
     if answers["whole"] == TAKEN and places.get("raw") != len(text) + 1:
         return [f"an object without data: {answers['raw'][0]}, due at {len(text) + 1}"]
-    inserted = len(put(text)["whole"]) - (len(text) - begins + 1)
-    if "whole" in places and places.get("raw") != places["whole"] - inserted + begins - 1:
+    inserted = len(put(text)["whole"]) - len(text)
+    if "whole" in places and places.get("raw") != places["whole"] - inserted:
         return [f"as it is: {answers['raw'][0]}, with data inserted: {answers['whole'][0]}"]
     return []
 

@@ -84,7 +84,8 @@ module _ (E : List Axis) (left : List ℕ) (k : ℕ) where
   unfolding remains concat
   level-closed e = rw e refl
 
-  pub level-position : (n : ℕ) → k < length left → getD left k 0 ≡ suc n → remains E left (suc k) ≡ due (drop (suc k) E) ++ remains E (set left k n) (suc k)
+  pub level-position : (n : ℕ) → k < length left → getD left k 0 ≡ suc n
+      → remains E left (suc k) ≡ due (drop (suc k) E) ++ remains E (set left k n) (suc k)
   unfolding remains
   level-position n h e =
       let f : getD (set left k n) k 0 ≡ n = getD-set-same left k n 0 h in
@@ -164,7 +165,8 @@ module _ (E : List Axis) (left : List ℕ) (six : length left ≡ mostAxes) wher
           rest = sym (ap (remains E left) one-in ∙ level-closed E left (k - 1) e);
         }
 
-    module _ (n : ℕ) (e : getD left (k - 1) 0 ≡ n) (m : n ≡ 0 → ⊥) (less : List ℕ) (q : less ≡ set left (k - 1) (n - 1)) (h : k - 1 < length left) where
+    module _ (n : ℕ) (e : getD left (k - 1) 0 ≡ n) (m : n ≡ 0
+        → ⊥) (less : List ℕ) (q : less ≡ set left (k - 1) (n - 1)) (h : k - 1 < length left) where
       less-six : length less ≡ mostAxes
       less-six = ap length q ∙ (length-set left (k - 1) (n - 1) ∙ six)
 
@@ -189,7 +191,8 @@ module _ (E : List Axis) (left : List ℕ) (six : length left ≡ mostAxes) wher
 
 -- ---- an axis opened
 
-pub opened-so : (E : List Axis) (k : ℕ) (left wide : List ℕ) (a : Axis) (w : ℕ) (r : Cursor) → length left ≡ mostAxes → k < length left → k < length E
+pub opened-so : (E : List Axis) (k : ℕ) (left wide : List ℕ) (a : Axis) (w : ℕ) (r : Cursor) → length left ≡ mostAxes → k < length left
+    → k < length E
     → a ≡ getD E k noAxis → w ≡ width a → wide ≡ set left k w → Reached E r (remains E wide (k + 1)) → Opened E k left r
 opened-so E k left wide a w r six h j ea ew eq v =
     let d : drop k E ≡ a ∷ drop (suc k) E = drop-cons E k noAxis j ∙ ap (λ (x : Axis). x ∷ drop (suc k) E) (sym ea) in
@@ -203,7 +206,8 @@ opened-so E k left wide a w r six h j ea ew eq v =
 
 -- ---- what was due came
 
-follows-by : (E : List Axis) (c r : Cursor) (x : Wanted) → c .wanted ≡ x → Stands E r → restBy E x (c .level) (c .left) ≡ cameBy x (restOf E r) → Follows E c r
+follows-by : (E : List Axis) (c r : Cursor) (x : Wanted) → c .wanted ≡ x → Stands E r
+    → restBy E x (c .level) (c .left) ≡ cameBy x (restOf E r) → Follows E c r
 follows-by E c r x e s q =
     record {
       stands = s;
@@ -248,7 +252,8 @@ module _ (E : List Axis) (c : Cursor) where
     pub rest-opening : c .wanted ≡ Opening → (ds : List Due) × (restOf E c ≡ opening ∷ ds)
     unfolding restBy due
     rest-opening e =
-        let d : drop (c .level) E ≡ getD E (c .level) noAxis ∷ drop (suc (c .level)) E = drop-cons E (c .level) noAxis (stands-opening e) in (
+        let d : drop (c .level) E ≡ getD E (c .level) noAxis ∷ drop (suc (c .level)) E = drop-cons E (c .level) noAxis
+        (stands-opening e) in (
           _,
           ap (λ (y : Wanted). restBy E y (c .level) (c .left)) e
               ∙ ap (λ (l : List Axis). due l ++ remains E (c .left) (c .level)) d,

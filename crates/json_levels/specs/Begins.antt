@@ -149,7 +149,8 @@ module _ (d c : ℕ) (o : Open d c) where
   value-null b q = rw q (in-level Null 110 refl ((λ e. omega arith), refl) (λ a. a))
 
   -- a digit that is not 0
-  pub value-digit : (b : ℕ) → among blank b ≡ false → (b ≡ 48 → ⊥) → among digit b ≡ true → TurnedAt (partsAt Value d c) false d b (so Digit More d c)
+  pub value-digit : (b : ℕ) → among blank b ≡ false → (b ≡ 48 → ⊥) → among digit b ≡ true
+      → TurnedAt (partsAt Value d c) false d b (so Digit More d c)
   unfolding settled optional move rules chosen comes headOf FirstByte Behind
   value-digit b h z q =
       let l : 48 ≤ b = digit-from b q in
@@ -224,11 +225,13 @@ before-chosen ps [] b = refl
 before-chosen ps (r ∷ rs) b = go (among (r .byte) b) (before-chosen ps rs b)
   where
     go : (c : Bool) → chosen (map (before ps) rs) b ≡ Option·map (λ qs. qs ++ ps) (chosen rs b)
-        → (if c then some (r .rest ++ ps) else chosen (map (before ps) rs) b) ≡ Option·map (λ qs. qs ++ ps) (if c then some (r .rest) else chosen rs b)
+        → (if c then some (r .rest ++ ps) else chosen (map (before ps) rs) b) ≡ Option·map (λ qs. qs ++ ps)
+        (if c then some (r .rest) else chosen rs b)
     go true e = refl
     go false e = e
 
-map-twice : (ps gs : List Part) (o : Option (List Part)) → Option·map (λ qs. qs ++ gs) (Option·map (λ qs. qs ++ ps) o) ≡ Option·map (λ qs. qs ++ (ps ++ gs)) o
+map-twice : (ps gs : List Part) (o : Option (List Part)) → Option·map (λ qs. qs ++ gs) (Option·map (λ qs. qs ++ ps) o) ≡ Option·map
+    (λ qs. qs ++ (ps ++ gs)) o
 map-twice ps gs none = refl
 map-twice ps gs (some qs) = ap some (append-assoc qs ps gs)
 
@@ -243,10 +246,12 @@ pub item-step : (n : ℕ) (gs : List Part) (b : ℕ) → among blank b ≡ false
     → step (at items n ∷ gs) b ≡ step (at value n ∷ at moreItems n ∷ gs) b
 unfolding settled optional move rules chosen
 item-step n gs b e f =
-    rw (e, f) (ap (Option·map (λ qs. qs ++ gs)) (before-chosen (at moreItems n ∷ []) (values n) b) ∙ map-twice (at moreItems n ∷ []) gs (chosen (values n) b))
+    rw (e, f) (ap (Option·map (λ qs. qs ++ gs)) (before-chosen (at moreItems n ∷ []) (values n) b)
+    ∙ map-twice (at moreItems n ∷ []) gs (chosen (values n) b))
 
 module _ (d c : ℕ) (o : Open d c) where
-  closing : (gs : List Part) (p : Bool) (b : ℕ) → step gs b ≡ some (around d c) → NoName p b → TurnedAt gs p d b (so Bracket More (d - 1) (c / 2))
+  closing : (gs : List Part) (p : Bool) (b : ℕ) → step gs b ≡ some (around d c) → NoName p b
+      → TurnedAt gs p d b (so Bracket More (d - 1) (c / 2))
   unfolding StandingAt FirstByte Behind comes
   closing gs p b e f = record { goes = e; stands = pop-open d c o; first = f; behind = tt }
 
@@ -267,7 +272,8 @@ module _ (d c : ℕ) (o : Open d c) where
     unfolding settled optional move rules chosen among
     items-closed b q = rw q (closing (more d c) false 93 (rw (more-open d c (o .some), a) refl) ((λ e. omega arith), refl))
 
-    pub items-none : (b : ℕ) → among blank b ≡ false → (b ≡ 44 → ⊥) → (b ≡ 93 → ⊥) → TurnedAt (partsAt More d c) false d b (so Nothing Object d c)
+    pub items-none : (b : ℕ) → among blank b ≡ false → (b ≡ 44 → ⊥) → (b ≡ 93 → ⊥)
+        → TurnedAt (partsAt More d c) false d b (so Nothing Object d c)
     unfolding settled optional move rules chosen
     items-none b h n m = nothing-comes (more d c) false d b d c (rw (more-open d c (o .some), a) (rw (h, no-byte 44 b n, no-byte 93 b m)))
 
@@ -291,13 +297,20 @@ module _ (d c : ℕ) (o : Open d c) where
     pub first-ended : (b : ℕ) → b ≡ 125 → TurnedAt (partsAt First d c) (outermost First d c) d b (so Bracket More (d - 1) (c / 2))
     unfolding settled optional move rules chosen among
     first-ended b q =
-        rw (q, a) (closing (at members (inside d) ∷ around d c) (outer members (inside d)) 125 refl ((λ e. omega arith), and-never (outer members (inside d))))
+        rw (q, a) (closing (at members (inside d) ∷ around d c) (outer members (inside d)) 125 refl
+        ((λ e. omega arith), and-never (outer members (inside d))))
 
     pub first-name : (b : ℕ) (r : Turn) → among blank b ≡ false → (b ≡ 125 → ⊥) → TurnedAt (partsAt Member d c) (outermost Member d c) d b r
         → TurnedAt (partsAt First d c) (outermost First d c) d b r
     unfolding outer
     first-name b r h n t =
-        rw a (record { goes = member-step (inside d) (around d c) b h (no-byte 125 b n) ∙ t .goes; stands = t .stands; first = t .first; behind = t .behind })
+        rw a (record {
+          goes = member-step (inside d) (around d c) b h (no-byte 125 b n)
+              ∙ t .goes;
+          stands = t .stands;
+          first = t .first;
+          behind = t .behind;
+        })
 
     -- ---- a name
 
@@ -331,12 +344,15 @@ module _ (d c : ℕ) (o : Open d c) where
     unfolding settled optional move rules chosen among
     members-closed b q = rw q (closing (more d c) false 125 (rw (more-open d c (o .some), a) refl) ((λ e. omega arith), refl))
 
-    pub members-none : (b : ℕ) → among blank b ≡ false → (b ≡ 44 → ⊥) → (b ≡ 125 → ⊥) → TurnedAt (partsAt More d c) false d b (so Nothing Object d c)
+    pub members-none : (b : ℕ) → among blank b ≡ false → (b ≡ 44 → ⊥) → (b ≡ 125 → ⊥)
+        → TurnedAt (partsAt More d c) false d b (so Nothing Object d c)
     unfolding settled optional move rules chosen
-    members-none b h n m = nothing-comes (more d c) false d b d c (rw (more-open d c (o .some), a) (rw (h, no-byte 44 b n, no-byte 125 b m)))
+    members-none b h n m = nothing-comes (more d c) false d b d c
+        (rw (more-open d c (o .some), a) (rw (h, no-byte 44 b n, no-byte 125 b m)))
 
 -- no name
-pub name-none : (d c b : ℕ) → among blank b ≡ false → (b ≡ 34 → ⊥) → TurnedAt (partsAt Member d c) (outermost Member d c) d b (so Nothing Object d c)
+pub name-none : (d c b : ℕ) → among blank b ≡ false → (b ≡ 34 → ⊥)
+    → TurnedAt (partsAt Member d c) (outermost Member d c) d b (so Nothing Object d c)
 unfolding settled optional move rules chosen
 name-none d c b h n = nothing-comes (partsAt Member d c) (outermost Member d c) d b d c (rw (h, no-byte 34 b n))
 

@@ -25,7 +25,8 @@ use Rattle.json_levels.specs.declared.Next.the-variants.{Object, First, 
 use Rattle.json_levels.specs.declared.Turn.{Turn}
 use Rattle.json_levels.specs.declared.Begun.{Begun}
 use Rattle.json_levels.specs.declared.Begun.the-variants as Begun
-use Rattle.json_levels.specs.Parts.{array?, firstOf, moreOf, inside, more, around, partsAt, partsOf, comes, FirstByte, NoName, TurnedAt, Turned, outermost}
+use Rattle.json_levels.specs.Parts.{array?, firstOf, moreOf, inside, more, around, partsAt, partsOf, comes, FirstByte, NoName}
+use Rattle.json_levels.specs.Parts.{TurnedAt, Turned, outermost}
 
 -- a name in the first level, which spells so
 unfoldable pub namedBy : Begun → ℕ → Bool → Bool
@@ -167,15 +168,19 @@ outer-more c n = by-kind (array? c)
     by-kind true = refl
     by-kind false = refl
 
-more-tokens : (k c d : ℕ) (s : List ℕ) (i : ℕ) (r : Turn) → i < length s → among blank (getD s i 0) ≡ false → TurnedAt (more k c) false d (getD s i 0) r
-    → TokensAt (r .begun) (namedBy (r .begun) d (spells (text "data") (drop (i + 1) s))) s i (tokenOf (settled (more k c) (getD s i 0)) (i + 1) (getD s i 0) (drop (i + 1) s))
+more-tokens : (k c d : ℕ) (s : List ℕ) (i : ℕ) (r : Turn) → i < length s → among blank (getD s i 0) ≡ false
+    → TurnedAt (more k c) false d (getD s i 0) r
+    → TokensAt (r .begun) (namedBy (r .begun) d (spells (text "data") (drop (i + 1) s))) s i
+    (tokenOf (settled (more k c) (getD s i 0)) (i + 1) (getD s i 0) (drop (i + 1) s))
 unfolding more settled move
 more-tokens zero c d s i r h e t = none-tokens (r .begun) _ (partsOf (r .levels)) s i _ (sym (rw e at (sym (t .goes))))
-more-tokens (suc k) c d s i r h e t = spot-tokens (moreOf c) (levelsInside - k) (more k (c / 2)) d s i h (r .begun) e (rw (outer-more c (levelsInside - k)) (t .first))
+more-tokens (suc k) c d s i r h e t = spot-tokens (moreOf c) (levelsInside - k) (more k (c / 2)) d s i h (r .begun) e
+    (rw (outer-more c (levelsInside - k)) (t .first))
 
 tokens-by : (x : Next) (k c : ℕ) (s : List ℕ) (i : ℕ) (r : Turn) → i < length s → among blank (getD s i 0) ≡ false
     → TurnedAt (partsAt x k c) (outermost x k c) k (getD s i 0) r
-    → TokensAt (r .begun) (namedBy (r .begun) k (spells (text "data") (drop (i + 1) s))) s i (tokenOf (settled (partsAt x k c) (getD s i 0)) (i + 1) (getD s i 0) (drop (i + 1) s))
+    → TokensAt (r .begun) (namedBy (r .begun) k (spells (text "data") (drop (i + 1) s))) s i
+    (tokenOf (settled (partsAt x k c) (getD s i 0)) (i + 1) (getD s i 0) (drop (i + 1) s))
 unfolding outer
 tokens-by Object k c s i r h e t = spot-tokens object levelsInside [] k s i h (r .begun) e (t .first)
 tokens-by First k c s i r h e t = spot-tokens (firstOf c) (inside k) (around k c) k s i h (r .begun) e (t .first)

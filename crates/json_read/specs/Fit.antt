@@ -38,7 +38,8 @@ use Rattle.json_read.specs.declared.fit.Fit.{Fit}
 use Rattle.json_read.specs.declared.fit.Sign.{Sign}
 use Rattle.json_read.specs.declared.fit.Sign.the-variants as Sign
 use Rattle.json_read.specs.Outcome.{Phase, before, within, wrong, twice, outcome, with, Alive, with-none}
-use Rattle.json_read.specs.Outcome.{before-other, wrong-other, within-over, within-misfit, within-fits, before-data, within-data, wrong-data}
+use Rattle.json_read.specs.Outcome.{before-other, wrong-other, within-over, within-misfit, within-fits, before-data, within-data}
+use Rattle.json_read.specs.Outcome.{wrong-data}
 
 -- the phase that a stage stands for
 unfoldable pub phaseBy : List Axis → Stage → ℕ → Cursor → Phase
@@ -89,11 +90,13 @@ pub record Met (t : ℕ) (E : List Axis) (s : List ℕ) (i : ℕ) (f : Fit) (out
       → outcome t n (phaseOf E f) (preceded (k ∷ []) R) ≡ with new (outcome t n (phaseOf E r) R)
 
 -- what begins at byte i was met
-pub record TokenMet (t : ℕ) (E : List Axis) (s : List ℕ) (i : ℕ) (g : Begun) (d : ℕ) (f : Fit) (out : List ℕ) (r : Fit) (after : List ℕ) : Type 0 where
+pub record TokenMet (t : ℕ) (E : List Axis) (s : List ℕ) (i : ℕ) (g : Begun) (d : ℕ) (f : Fit) (out : List ℕ) (r : Fit)
+    (after : List ℕ) : Type 0 where
   pub new : List Cell
   pub stored : Stored E f out new r after
   pub stopped : g ≡ Begun.Nothing → r ≡ stopping f i
-  pub goes : (n : ℕ) (ks : List Token) → (g ≡ Begun.Nothing → ⊥) → TokensAt g (namedBy g d (spells (text "data") (drop (i + 1) s))) s i ks → (R : Rest)
+  pub goes : (n : ℕ) (ks : List Token) → (g ≡ Begun.Nothing → ⊥) → TokensAt g (namedBy g d (spells (text "data") (drop (i + 1) s))) s i ks
+      → (R : Rest)
       → outcome t n (phaseOf E f) (preceded ks R) ≡ with new (outcome t n (phaseOf E r) R)
 
 abbrev pub misfitting : Fit → ℕ → Fit
@@ -165,7 +168,16 @@ module _ (E : List Axis) (f : Fit) (out : List ℕ) (y : Ready E f (length out))
   unfolding concat Counts
   misfit-stored i =
       record {
-        ready = record { sound = y .sound; few = y .few; some-axis = y .some-axis; stands = y .stands; counts = tt; most = y .most; all-room = y .all-room };
+        ready =
+            record {
+              sound = y .sound;
+              few = y .few;
+              some-axis = y .some-axis;
+              stands = y .stands;
+              counts = tt;
+              most = y .most;
+              all-room = y .all-room;
+            };
         number = none-number;
         held = none-held;
       }
@@ -174,7 +186,16 @@ module _ (E : List Axis) (f : Fit) (out : List ℕ) (y : Ready E f (length out))
   unfolding concat Counts
   stop-stored i =
       record {
-        ready = record { sound = y .sound; few = y .few; some-axis = y .some-axis; stands = y .stands; counts = tt; most = y .most; all-room = y .all-room };
+        ready =
+            record {
+              sound = y .sound;
+              few = y .few;
+              some-axis = y .some-axis;
+              stands = y .stands;
+              counts = tt;
+              most = y .most;
+              all-room = y .all-room;
+            };
         number = none-number;
         held = none-held;
       }
@@ -220,7 +241,8 @@ module _ (t : ℕ) (E : List Axis) (s : List ℕ) (i : ℕ) (f : Fit) (out : Lis
       }
 
   -- it doesn't fit
-  pub misfit-met : (d : Due) (ds : List Due) → restOf E (f .cursor) ≡ d ∷ ds → fits t d (drop i s) ≡ none → Met t E s i f out (misfitting f i) out
+  pub misfit-met : (d : Due) (ds : List Due) → restOf E (f .cursor) ≡ d ∷ ds → fits t d (drop i s) ≡ none
+      → Met t E s i f out (misfitting f i) out
   misfit-met d ds e u =
       record {
         new = [];
@@ -233,7 +255,8 @@ module _ (t : ℕ) (E : List Axis) (s : List ℕ) (i : ℕ) (f : Fit) (out : Lis
       }
 
   -- it fits, with these cells
-  pub fit-met : (d : Due) (cs : List Cell) (r : Fit) (after : List ℕ) → fits t d (drop i s) ≡ some cs → FitsOn E (f .cursor) (f .done + length cs) r
+  pub fit-met : (d : Due) (cs : List Cell) (r : Fit) (after : List ℕ) → fits t d (drop i s) ≡ some cs
+      → FitsOn E (f .cursor) (f .done + length cs) r
       → restOf E (f .cursor) ≡ d ∷ restOf E (r .cursor) → Stored E f out cs r after → Met t E s i f out r after
   fit-met d cs r after u v e m =
       record {
@@ -271,7 +294,8 @@ module _ (t : ℕ) (E : List Axis) (s : List ℕ) (i : ℕ) (f : Fit) (out : Lis
       }
 
 -- a bracket
-module _ (t : ℕ) (E : List Axis) (s : List ℕ) (i : ℕ) (h : i < length s) (f : Fit) (out : List ℕ) (y : Ready E f (length out)) (w : f .stage ≡ Within)
+module _ (t : ℕ) (E : List Axis) (s : List ℕ) (i : ℕ) (h : i < length s) (f : Fit) (out : List ℕ) (y : Ready E f (length out))
+    (w : f .stage ≡ Within)
     (d : Due) (b : ℕ) (x : Wanted) (e : f .cursor .wanted ≡ x) (ca : (ds : List Due) → cameBy x ds ≡ d ∷ ds)
     (no : (ds : List Due) → cellsDue (d ∷ ds) ≡ cellsDue ds)
     (fi : (bs : List ℕ) → fits t d bs ≡ (if begins (b ∷ []) bs then some [] else none))
@@ -283,7 +307,8 @@ module _ (t : ℕ) (E : List Axis) (s : List ℕ) (i : ℕ) (h : i < length s) (
       let u : FitsOn E (f .cursor) (f .done + 0) r = record { stage = v .stage; done = v .done ∙ z; follows = v .follows } in
       let a : restOf E (f .cursor) ≡ d ∷ restOf E (r .cursor) =
       v .follows .rest ∙ ap (λ (n : Wanted). cameBy n (restOf E (r .cursor))) e ∙ ca (restOf E (r .cursor)) in
-      let l : cellsDue (d ∷ restOf E (r .cursor)) ≡ 0 + cellsDue (restOf E (r .cursor)) = no (restOf E (r .cursor)) ∙ sym (zero-add (cellsDue (restOf E (r .cursor)))) in
+      let l : cellsDue (d ∷ restOf E (r .cursor)) ≡ 0 + cellsDue (restOf E (r .cursor)) = no (restOf E (r .cursor))
+      ∙ sym (zero-add (cellsDue (restOf E (r .cursor)))) in
       let k : take ((f .done + 0) * cellBytes) out ≡ take (f .done * cellBytes) out ++ [] =
       ap (λ (n : ℕ). take (n * cellBytes) out) (sym z) ∙ sym (append-nil (take (f .done * cellBytes) out)) in
       fit-met t E s i f out y w d [] r out (fi (drop i s) ∙ rw (byte-begins s i b h ∙ q) refl) u a
@@ -317,7 +342,8 @@ module _ (t : ℕ) (E : List Axis) (s : List ℕ) (i : ℕ) (f : Fit) (out : Lis
       misfit-met t E s i f out (v .ready) (v .stage) cell (value-first .0) (value-first .1)
       (ap (Option·map (λ (x : Cell). x ∷ [])) (sym e ∙ ap told q))
 
-  module _ (c : Cell) (after : List ℕ) (p : after ≡ take (f .done * cellBytes) out ++ encode c ++ drop (f .done * cellBytes + cellBytes) out) where
+  module _ (c : Cell) (after : List ℕ) (p : after ≡ take (f .done * cellBytes) out ++ encode c ++ drop
+      (f .done * cellBytes + cellBytes) out) where
     nine : length (encode c) ≡ cellBytes
     unfolding concat
     nine = ap length (sym (append-nil (encode c))) ∙ cell-bytes (c ∷ [])
@@ -341,7 +367,8 @@ module _ (t : ℕ) (E : List Axis) (s : List ℕ) (i : ℕ) (f : Fit) (out : Lis
         ∙ (take-at (take (f .done * cellBytes) out ++ encode c) (drop (f .done * cellBytes + cellBytes) out) ((f .done + 1) * cellBytes) n
         ∙ ap (λ (l : List ℕ). take (f .done * cellBytes) out ++ l) (sym (append-nil (encode c))))
 
-    pub value-fits : (g : Got) → told g ≡ cellIn t (drop i s) → g ≡ Is c → (r : Fit) → FitsOn E (f .cursor) (f .done + 1) r → Met t E s i f out r after
+    pub value-fits : (g : Got) → told g ≡ cellIn t (drop i s) → g ≡ Is c → (r : Fit) → FitsOn E (f .cursor) (f .done + 1) r
+        → Met t E s i f out r after
     unfolding cameBy cellsDue
     value-fits g e q r u =
         let a : restOf E (f .cursor) ≡ cell ∷ restOf E (r .cursor) =
@@ -405,7 +432,8 @@ name-signed true true g s i ks a = a
 name-signed true false g s i ks a = a
 name-signed false x g s i ks a = a
 
-signed-by : (g : Begun) (d : ℕ) (x : Bool) (s : List ℕ) (i : ℕ) (ks : List Token) → (g ≡ Begun.Nothing → ⊥) → TokensAt g (namedBy g d x) s i ks
+signed-by : (g : Begun) (d : ℕ) (x : Bool) (s : List ℕ) (i : ℕ) (ks : List Token) → (g ≡ Begun.Nothing → ⊥)
+    → TokensAt g (namedBy g d x) s i ks
     → SignedBy (signOf g d x) g s i ks
 unfolding SignedBy TokensAt namedBy signOf
 signed-by Begun.Nothing d x s i ks n a = refl
@@ -434,7 +462,8 @@ number Sign.Other = 1
 -- another sign than nothing's
 other-sign : (g : Begun) (d : ℕ) (x : Bool) (z : Sign) → signOf g d x ≡ z → number z ≡ 1 → g ≡ Begun.Nothing → ⊥
 unfolding number
-other-sign g d x z e q h = let k : number (signOf g d x) ≡ 0 = ap number (from-nothing g d x h) in let m : number (signOf g d x) ≡ 1 = ap number e ∙ q in omega arith
+other-sign g d x z e q h = let k : number (signOf g d x) ≡ 0 = ap number (from-nothing g d x h) in let m : number (signOf g d x)
+    ≡ 1 = ap number e ∙ q in omega arith
 
 module _ (t : ℕ) (E : List Axis) (s : List ℕ) (i : ℕ) (g : Begun) (d : ℕ) (f : Fit) (out : List ℕ) (y : Ready E f (length out)) where
   abbrev spelt : Bool
@@ -462,7 +491,8 @@ module _ (t : ℕ) (E : List Axis) (s : List ℕ) (i : ℕ) (g : Begun) (d : ℕ
             ap (λ (l : List Token). outcome t n (phaseOf E f) (preceded l R)) k ∙ with-none (outcome t n (phaseOf E f) R);
       }
 
-  pub other-met : signOf g d spelt ≡ Sign.Other → (r : Fit) (after : List ℕ) → Met t E s i f out r after → TokenMet t E s i g d f out r after
+  pub other-met : signOf g d spelt ≡ Sign.Other → (r : Fit) (after : List ℕ) → Met t E s i f out r after
+      → TokenMet t E s i g d f out r after
   unfolding SignedBy number
   other-met e r after m =
       record {
@@ -503,7 +533,8 @@ module _ (t : ℕ) (E : List Axis) (s : List ℕ) (i : ℕ) (g : Begun) (d : ℕ
   data-goes : (x : Stage) → f .stage ≡ x → (n : ℕ) (k : Token) → k .place ≡ i + 1 → isData k ≡ true → (R : Rest)
       → outcome t n (phaseBy E x (f .place) (f .cursor)) (preceded (k ∷ []) R) ≡ outcome t n (phaseOf E (afterBy x f i)) R
   unfolding afterBy phaseBy outcome
-  data-goes Before w n k p a R = before-data t n k R a (due E) ∙ ap (λ (l : List Due). outcome t n (within l) R) (sym (first-reached E (y .some-axis) .rest))
+  data-goes Before w n k p a R = before-data t n k R a (due E)
+      ∙ ap (λ (l : List Due). outcome t n (within l) R) (sym (first-reached E (y .some-axis) .rest))
   data-goes Within w n k p a R = within-data t n k R a (restOf E (f .cursor)) ∙ ap (λ (z : ℕ). outcome t n (twice z) R) p
   data-goes Wrong w n k p a R = wrong-data t n k R a (f .place) ∙ ap (λ (z : ℕ). outcome t n (twice z) R) p
   data-goes Stopped w n k p a R = sym (ap (λ (x : Stage). outcome t n (phaseBy E x (f .place) (f .cursor)) R) w)
@@ -535,7 +566,8 @@ module _ (E : List Axis) (s : List ℕ) (i b : ℕ) (f r : Fit) where
   bracket-not e v = let q : eqb (getD s i 0) b ≡ false = ne-eqb (getD s i 0) b e in rw q v
 
 module _ (t : ℕ) (E : List Axis) (s : List ℕ) (i : ℕ) where
-  pub nothing-due : (f : Fit) (out : List ℕ) (y : Ready E f (length out)) (w : f .stage ≡ Within) → f .cursor .wanted ≡ Wanted.Nothing → Met t E s i f out f out
+  pub nothing-due : (f : Fit) (out : List ℕ) (y : Ready E f (length out)) (w : f .stage ≡ Within) → f .cursor .wanted ≡ Wanted.Nothing
+      → Met t E s i f out f out
   nothing-due f out y w e = over-met t E s i f out y w (rest-nothing E (f .cursor) (y .stands) e)
 
   module _ (h : i < length s) (f : Fit) (out : List ℕ) (w : WithinDue E f (length out)) where
@@ -543,19 +575,22 @@ module _ (t : ℕ) (E : List Axis) (s : List ℕ) (i : ℕ) where
     unfolding cameBy cellsDue fits
     opening-due e r v =
         let n = rest-opening E (f .cursor) (w .ready .stands) e in
-        bracket-done t E s i h f out (w .ready) (w .stage) opening 91 Wanted.Opening e (λ ds. refl) (λ ds. refl) (λ bs. refl) (n .0) (n .1) r v
+        bracket-done t E s i h f out (w .ready) (w .stage) opening 91 Wanted.Opening e (λ ds. refl) (λ ds. refl) (λ bs. refl) (n .0)
+        (n .1) r v
 
     pub closing-due : f .cursor .wanted ≡ Wanted.Closing → (r : Fit) → BracketMet E s i 93 f r → Met t E s i f out r out
     unfolding cameBy cellsDue fits
     closing-due e r v =
         let n = rest-closing E (f .cursor) (w .ready .stands) e in
-        bracket-done t E s i h f out (w .ready) (w .stage) closing 93 Wanted.Closing e (λ ds. refl) (λ ds. refl) (λ bs. refl) (n .0) (n .1) r v
+        bracket-done t E s i h f out (w .ready) (w .stage) closing 93 Wanted.Closing e (λ ds. refl) (λ ds. refl) (λ bs. refl) (n .0)
+        (n .1) r v
 
 module _ (f : Fit) (i : ℕ) where
   after-as : (x : Stage) → f .stage ≡ x → afterData f i ≡ afterBy x f i
   after-as x e = ap (λ (z : Stage). afterBy z f i) e
 
-  pub data-first : f .stage ≡ Before → (c : Cursor) → c ≡ firstDue → record { stage = Within; place = 0; done = f .done; cursor = c } ≡ afterData f i
+  pub data-first : f .stage ≡ Before → (c : Cursor) → c ≡ firstDue
+      → record { stage = Within; place = 0; done = f .done; cursor = c } ≡ afterData f i
   unfolding afterBy
   data-first e c q = ap (λ (z : Cursor). record { stage = Within; place = 0; done = f .done; cursor = z }) q ∙ sym (after-as Before e)
 

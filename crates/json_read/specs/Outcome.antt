@@ -1,4 +1,5 @@
--- What reading comes to, from what is left of the text: before `data`, in its value with what is due, after a misfit, after a second `data`.
+-- What reading comes to, from what is left of the text: before `data`, in its value with what is due, after a misfit, after a second
+-- `data`.
 use Prim.Native.Nat.{ℕ, _+_}
 use mathlib.Core.Path.{_≡_, refl, sym, ap, _∙_}
 use mathlib.Core.Bool.{Bool, true, false}

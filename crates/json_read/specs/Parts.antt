@@ -8,7 +8,8 @@ use native.Mathlib.Omega.{arith}
 use lib.ListN.{length, drop, getD}
 use Rattle.paper.specs.Refusals.{if_then_else_}
 use Rattle.paper.specs.Numbers.{text}
-use Rattle.paper.specs.Grammar.{Part, Spot, Digits, among, blank, these, optional, rules, chars, colon, number, at, word, unsigned, afterZero, afterDigit}
+use Rattle.paper.specs.Grammar.{Part, Spot, Digits, among, blank, these, optional, rules, chars, colon, number, at, word, unsigned}
+use Rattle.paper.specs.Grammar.{afterZero, afterDigit}
 use Rattle.paper.specs.Grammar.{value, items, moreItems, object, members, member, moreMembers}
 use Rattle.paper.specs.Machine.{chosen, settled, move, step}
 use Rattle.paper.specs.JsonRead.{tokenOf}
@@ -131,7 +132,8 @@ pub parts-more : (s : List ℕ) (g : Begun) (i : ℕ) (e : Ended) (ps : List Par
 parts-more s g i e ps q v =
     record { within = v .within; onward = v .onward; goes = λ gs b. ap (λ (l : List Part). left s (l ++ gs) i) q ∙ v .goes gs }
 
-pub number-more : (s : List ℕ) (g : Begun) (i : ℕ) (e : Ended) (d : Digits) → headOf g ≡ number d ∷ [] → ((gs : List Part) → Behind g gs → AtSpot gs)
+pub number-more : (s : List ℕ) (g : Begun) (i : ℕ) (e : Ended) (d : Digits) → headOf g ≡ number d ∷ []
+    → ((gs : List Part) → Behind g gs → AtSpot gs)
     → NumberEnds s d i e → BegunEnds s g i e
 number-more s g i e d q f v =
     record {

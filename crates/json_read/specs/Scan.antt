@@ -35,13 +35,15 @@ use Rattle.json_levels.specs.Tokens.{tokens-at}
 use Rattle.json_due.specs.declared.Cursor.{Cursor}
 use Rattle.json_due.specs.declared.Wanted.{Wanted}
 use Rattle.json_due.specs.declared.Wanted.the-variants as Wanted
-use Rattle.json_due.specs.Due.{restOf, restBy, Stands, cellsDue, firstDue, first-reached, rest-nothing, rest-opening, rest-closing, rest-value}
+use Rattle.json_due.specs.Due.{restOf, restBy, Stands, cellsDue, firstDue, first-reached, rest-nothing, rest-opening, rest-closing}
+use Rattle.json_due.specs.Due.{rest-value}
 use Rattle.json_read.specs.declared.fit.Stage.{Stage}
 use Rattle.json_read.specs.declared.fit.Stage.the-variants.{Before, Within, Wrong, Stopped}
 use Rattle.json_read.specs.declared.fit.Fit.{Fit}
 use Rattle.json_read.specs.declared.scan.Found.{Found}
 use Rattle.json_read.specs.declared.scan.Found.the-variants as Found
-use Rattle.json_read.specs.Outcome.{Phase, before, within, wrong, twice, outcome, with, Alive, all-left, with-none, with-more, stopped}
+use Rattle.json_read.specs.Outcome.{Phase, before, within, wrong, twice, outcome, with, Alive, all-left, with-none, with-more}
+use Rattle.json_read.specs.Outcome.{stopped}
 use Rattle.json_read.specs.Outcome.{done, done-before, done-over, done-short, done-wrong}
 use Rattle.json_read.specs.Parts.{BegunEnds, parts-stay}
 use Rattle.json_read.specs.Fit.{phaseBy, phaseOf, Counts, Ready, waiting, stopping, TokenMet}
@@ -117,7 +119,8 @@ pub record Along (t : ℕ) (E : List Axis) (s : List ℕ) (v : Levels) (f : Fit)
 abbrev pub atStart : Levels
 atStart = record { next = Next.Object; depth = 0; bits = 0 }
 
-pub along-start : (t : ℕ) (E : List Axis) (s : List ℕ) (i : ℕ) (out : List ℕ) → AllRoom E (length out) → PassedOver blank s 0 i → Along t E s atStart waiting i out
+pub along-start : (t : ℕ) (E : List Axis) (s : List ℕ) (i : ℕ) (out : List ℕ) → AllRoom E (length out) → PassedOver blank s 0 i
+    → Along t E s atStart waiting i out
 unfolding phaseBy Counts StandingAt concat
 along-start t E s i out a p =
     record {
@@ -204,7 +207,8 @@ twice-refused E g e t n cs R = ap (λ (x : Stage). with cs (outcome t n (phaseBy
 cells-append : (cs ds : List Cell) → cellsBytes (cs ++ ds) ≡ cellsBytes cs ++ cellsBytes ds
 unfolding concat
 cells-append [] ds = refl
-cells-append (c ∷ cs) ds = ap (λ (l : List ℕ). encode c ++ l) (cells-append cs ds) ∙ sym (append-assoc (encode c) (cellsBytes cs) (cellsBytes ds))
+cells-append (c ∷ cs) ds = ap (λ (l : List ℕ). encode c ++ l) (cells-append cs ds)
+    ∙ sym (append-assoc (encode c) (cellsBytes cs) (cellsBytes ds))
 
 -- no second `data` yet
 stage-alive : (E : List Axis) (x : Stage) (p : ℕ) (c : Cursor) → stopped? x ≡ false → Alive (phaseBy E x p c)
@@ -236,8 +240,10 @@ module _ (t : ℕ) (E : List Axis) (s : List ℕ) (v : Levels) (f : Fit) (i : �
       let hs : List Part = headOf (r .begun) ++ partsOf (r .levels) in
       let R : Rest = left s hs (i + 1) in
       a .comes-to
-      ∙ (ap (λ (x : Rest). with (a .had) (outcome t past (phaseOf E f) x)) (left-token s (partsOf v) i h hs (u .goes ∙ comes-some (r .begun) (partsOf (r .levels)) n))
-      ∙ (ap (with (a .had)) (m .goes past (tokenOf (settled (partsOf v) (getD s i 0)) (i + 1) (getD s i 0) (drop (i + 1) s)) n (tokens-at v s i r h (a .other h) u) R)
+      ∙ (ap (λ (x : Rest). with (a .had) (outcome t past (phaseOf E f) x)) (left-token s (partsOf v) i h hs (u .goes
+      ∙ comes-some (r .begun) (partsOf (r .levels)) n))
+      ∙ (ap (with (a .had)) (m .goes past (tokenOf (settled (partsOf v) (getD s i 0)) (i + 1) (getD s i 0) (drop (i + 1) s)) n
+      (tokens-at v s i r h (a .other h) u) R)
       ∙ with-more (a .had) (m .new) (outcome t past (phaseOf E g) R)))
 
   -- it ends there
@@ -251,16 +257,19 @@ module _ (t : ℕ) (E : List Axis) (s : List ℕ) (v : Levels) (f : Fit) (i : �
           ∙ (ap (λ (x : Rest). with (a .had) (outcome t past (phaseOf E f) x)) (left-stops s (partsOf v) i h z)
           ∙ (ap (with (a .had)) (stopped t past i (phaseOf E f) (a .alive))
           ∙ ap (λ (x : Fit). refused (refusal notJson15 0 (x .place))) (sym (m .stopped q))))
-      by (inr n) = to-rest n ∙ twice-refused E g (stage-stopped (g .stage) e) t past (a .had ++ m .new) (left s (headOf (r .begun) ++ partsOf (r .levels)) (i + 1))
+      by (inr n) = to-rest n ∙ twice-refused E g (stage-stopped (g .stage) e) t past (a .had ++ m .new)
+          (left s (headOf (r .begun) ++ partsOf (r .levels)) (i + 1))
 
   module _ (e : stopped? (g .stage) ≡ false) (x : Ended) (b : BegunEnds s (r .begun) (i + 1) x) where
     to-reached : wholeOf t E s ≡ with (a .had ++ m .new) (outcome t past (phaseOf E g) (reached s (partsOf (r .levels)) x))
-    to-reached = to-rest (not-nothing e) ∙ ap (λ (y : Rest). with (a .had ++ m .new) (outcome t past (phaseOf E g) y)) (b .goes (partsOf (r .levels)) (u .behind))
+    to-reached = to-rest (not-nothing e) ∙ ap (λ (y : Rest). with (a .had ++ m .new) (outcome t past (phaseOf E g) y))
+        (b .goes (partsOf (r .levels)) (u .behind))
 
     -- what was begun stops being JSON
     pub turn-unsound : x .sound ≡ false → wholeOf t E s ≡ refused (refusal notJson15 0 (x .at + 1))
     turn-unsound q =
-        to-reached ∙ (rw q (ap (with (a .had ++ m .new)) (stopped t past (x .at) (phaseOf E g) (stage-alive E (g .stage) (g .place) (g .cursor) e))))
+        to-reached ∙ (rw q (ap (with (a .had ++ m .new)) (stopped t past (x .at) (phaseOf E g)
+        (stage-alive E (g .stage) (g .place) (g .cursor) e))))
 
     -- the next turn
     pub turn-again : x .sound ≡ true → (j : ℕ) → PassedOver blank s (x .at) j → Along t E s (r .levels) g j after
@@ -304,12 +313,14 @@ left-done : (s : List ℕ) (i : ℕ) → length s ≤ i → left s [] i ≡ done
 unfolding left faultFrom tokensFrom
 left-done s i h = let e : drop i s ≡ [] = drop-of-length-le s {i = i} h in rw e
 
-module _ (t : ℕ) (E : List Axis) (s : List ℕ) (v : Levels) (f : Fit) (i : ℕ) (out : List ℕ) (a : Along t E s v f i out) (h : length s ≤ i) where
+module _ (t : ℕ) (E : List Axis) (s : List ℕ) (v : Levels) (f : Fit) (i : ℕ) (out : List ℕ) (a : Along t E s v f i out)
+    (h : length s ≤ i) where
   -- the object is not closed
   pub end-open : ended? v ≡ false → wholeOf t E s ≡ refused (refusal notJson15 0 (i + 1))
   end-open e =
       a .comes-to
-      ∙ (ap (λ (x : Rest). with (a .had) (outcome t (length s + 1) (phaseOf E f) x)) (left-end s (partsOf v) i h (parts-open (v .next) (v .depth) (v .bits) e))
+      ∙ (ap (λ (x : Rest). with (a .had) (outcome t (length s + 1) (phaseOf E f) x))
+      (left-end s (partsOf v) i h (parts-open (v .next) (v .depth) (v .bits) e))
       ∙ ap (with (a .had)) (stopped t (length s + 1) i (phaseOf E f) (a .alive)))
 
   module _ (e : ended? v ≡ true) where
@@ -319,7 +330,8 @@ module _ (t : ℕ) (E : List Axis) (s : List ℕ) (v : Levels) (f : Fit) (i : �
     to-done : wholeOf t E s ≡ with (a .had) (outcome t (i + 1) (phaseOf E f) done)
     to-done =
         a .comes-to
-        ∙ (ap (λ (x : List Part). with (a .had) (outcome t (length s + 1) (phaseOf E f) (left s x i))) (parts-over (v .next) (v .depth) (v .bits) e)
+        ∙ (ap (λ (x : List Part). with (a .had) (outcome t (length s + 1) (phaseOf E f) (left s x i)))
+        (parts-over (v .next) (v .depth) (v .bits) e)
         ∙ (ap (λ (x : Rest). with (a .had) (outcome t (length s + 1) (phaseOf E f) x)) (left-done s i h)
         ∙ ap (λ (n : ℕ). with (a .had) (outcome t (n + 1) (phaseOf E f) done)) (sym at-end)))
 
@@ -336,7 +348,8 @@ module _ (t : ℕ) (E : List Axis) (s : List ℕ) (v : Levels) (f : Fit) (i : �
     full-cells : restOf E (f .cursor) ≡ [] → f .stage ≡ Within → CellsFound t E s out (f .done)
     unfolding phaseBy Counts cellsDue
     full-cells q w =
-        let k : f .done + cellsDue (restOf E (f .cursor)) ≡ cells E = subst (λ (x : Stage). Counts E x (f .done) (f .cursor)) w (a .ready .counts) in
+        let k : f .done + cellsDue (restOf E (f .cursor)) ≡ cells E = subst (λ (x : Stage). Counts E x (f .done) (f .cursor)) w
+        (a .ready .counts) in
         let z : cellsDue (restOf E (f .cursor)) ≡ 0 = ap cellsDue q in
         record {
           found = a .had;
@@ -366,7 +379,8 @@ module _ (t : ℕ) (E : List Axis) (s : List ℕ) (v : Levels) (f : Fit) (i : �
     pub end-closed : (r : Found) → r ≡ endFound (i + 1) f → ScanFound t E s out r
     end-closed r q = subst (ScanFound t E s out) (sym q) (found-by (f .stage) refl)
 
-pub not-json : (t : ℕ) (E : List Axis) (s out : List ℕ) (i : ℕ) → wholeOf t E s ≡ refused (refusal notJson15 0 i) → ScanFound t E s out (Found.NotJson i)
+pub not-json : (t : ℕ) (E : List Axis) (s out : List ℕ) (i : ℕ) → wholeOf t E s ≡ refused (refusal notJson15 0 i)
+    → ScanFound t E s out (Found.NotJson i)
 unfolding ScanFound
 not-json t E s out i e = e
 

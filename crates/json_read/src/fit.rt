@@ -1,4 +1,5 @@
-// The tokens of a text held against what is due: `data` found, its brackets and cells met one after the other, each cell stored as it comes.
+// The tokens of a text held against what is due: `data` found, its brackets and cells met one after the other, each cell stored as it
+// comes.
 ghost use mathlib.Core.Path.{_≡_};
 ghost use Prim.Native.Nat.{_+_, _^_, _<_};
 ghost use lib.ListN.{length, drop};

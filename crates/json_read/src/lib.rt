@@ -3,7 +3,7 @@
 ghost use mathlib.Core.Path.{_≡_};
 ghost use lib.ListN.{length};
 ghost use Rattle.paper.specs.Limits.{sizesOf};
-ghost use Rattle.paper.specs.Answers.{axesOf, namesFor, jsonSaid};
+ghost use Rattle.paper.specs.Answers.{axesOf, namesFor, jsonSaid, jsonExact};
 ghost use Rattle.paper.specs.JsonRead.{cellsAs, fillWith, readJson};
 ghost use Rattle.json_read.specs.Read.{FormJudged, HasCells, Filled};
 use cell::bytes::copy_bytes;
@@ -83,7 +83,7 @@ pub fn read_as(
     ensures { λ r. ⌜ (jsonSaid r ≡ fillWith (now (cells .entry)) (cellsAs (sizesOf v) kind (namesFor (axesOf extent) names) (axesOf extent)
         (now (text .entry)) (length (now (cells .entry)))) .answer)
         × (now (cells .exit) ≡ fillWith (now (cells .entry)) (cellsAs (sizesOf v) kind (namesFor (axesOf extent) names) (axesOf extent)
-        (now (text .entry)) (length (now (cells .entry)))) .buffer) ⌝ }
+        (now (text .entry)) (length (now (cells .entry)))) .buffer) × jsonExact r ⌝ }
 {
     let refusal = form_refusal(v, kind, names, extent);
     if refusal.number != 0 {
@@ -107,8 +107,10 @@ pub fn read(
     text: &[u8],
     cells: &mut [u8],
 ) -> JsonAnswer
-    ensures { λ r. ⌜ (jsonSaid r ≡ readJson version kind (namesFor (axesOf extent) names) (axesOf extent) (now (text .entry)) (now (cells .entry)) .answer)
-        × (now (cells .exit) ≡ readJson version kind (namesFor (axesOf extent) names) (axesOf extent) (now (text .entry)) (now (cells .entry)) .buffer) ⌝ }
+    ensures { λ r. ⌜ (jsonSaid r ≡ readJson version kind (namesFor (axesOf extent) names) (axesOf extent) (now (text .entry))
+        (now (cells .entry)) .answer)
+        × (now (cells .exit) ≡ readJson version kind (namesFor (axesOf extent) names) (axesOf extent) (now (text .entry))
+        (now (cells .entry)) .buffer) × jsonExact r ⌝ }
 {
     let told = version_told(version);
     match told {

@@ -10,7 +10,8 @@ use lib.Dec.{leb}
 use lib.ListN.{length, drop, getD}
 use Rattle.paper.specs.Refusals.{if_then_else_}
 use Rattle.paper.specs.Grammar.{Bytes, Part, Spot, Digits, Rule, among, blank, digit, these, ends, optional, rules, fraction, power}
-use Rattle.paper.specs.Grammar.{one, chars, escape, number, colon, at, unsigned, afterZero, afterDigit, afterFraction, afterE, afterExponent}
+use Rattle.paper.specs.Grammar.{one, chars, escape, number, colon, at, unsigned, afterZero, afterDigit, afterFraction, afterE}
+use Rattle.paper.specs.Grammar.{afterExponent}
 use Rattle.paper.specs.Grammar.{value, items, moreItems, object, members, member, moreMembers}
 use Rattle.paper.specs.Machine.{given, chosen, settled, move, step, complete}
 use Rattle.paper.specs.JsonRead.{Token, outer, tokenOf}
@@ -216,7 +217,8 @@ power-some : (b : ℕ) → among eE b ≡ true → chosen (power ∷ []) b ≡ s
 unfolding chosen
 power-some b e = rw e refl
 
-digit-stays : (d : Digits) (gs : List Part) → ((b : ℕ) → among digit b ≡ true → chosen (rules (number d)) b ≡ some (number d ∷ [])) → Stays digit (number d ∷ gs)
+digit-stays : (d : Digits) (gs : List Part) → ((b : ℕ) → among digit b ≡ true → chosen (rules (number d)) b ≡ some (number d ∷ []))
+    → Stays digit (number d ∷ gs)
 digit-stays d gs f b e = number-moves d gs (number d ∷ []) b (f b e)
 
 exponent-stays : (gs : List Part) → Stays digit (number afterExponent ∷ gs)
@@ -247,7 +249,8 @@ one-due s i gs =
       by-other = λ h e. rw e refl;
     }
 
-e-due : (s : List ℕ) (i : ℕ) (gs : List Part) → (i < length s → among signs (getD s i 0) ≡ false) → DigitDue s i (number afterE ∷ gs) (number afterExponent ∷ gs)
+e-due : (s : List ℕ) (i : ℕ) (gs : List Part) → (i < length s → among signs (getD s i 0) ≡ false)
+    → DigitDue s i (number afterE ∷ gs) (number afterExponent ∷ gs)
 unfolding settled optional ends move rules chosen
 e-due s i gs n =
     record {
@@ -279,7 +282,8 @@ module _ (s : List ℕ) (i : ℕ) where
           onward = omega (arith, r .onward);
           goes = λ gs.
               moved-left s (number afterE ∷ gs) (one digit ∷ number afterExponent ∷ gs) i h (sign-moves y gs)
-              ∙ r .goes (one digit ∷ number afterExponent ∷ gs) (number afterExponent ∷ gs) (one-due s (i + 1) (number afterExponent ∷ gs)) (exponent-stays gs);
+              ∙ r .goes (one digit ∷ number afterExponent ∷ gs) (number afterExponent ∷ gs)
+              (one-due s (i + 1) (number afterExponent ∷ gs)) (exponent-stays gs);
           other = r .other;
         }
 
@@ -298,7 +302,8 @@ exponent-over : (s : List ℕ) (i : ℕ) (e : Ended) → PowerRead s i e → (p 
 unfolding rules chosen ends
 exponent-over s i e r p n gs = by-sound (e .sound) refl
   where
-    by-sound : (t : Bool) → e .sound ≡ t → (if t then left s (number afterExponent ∷ at p n ∷ gs) (e .at) else stops (e .at)) ≡ (if t then left s (at p n ∷ gs) (e .at) else stops (e .at))
+    by-sound : (t : Bool) → e .sound ≡ t → (if t then left s (number afterExponent ∷ at p n ∷ gs) (e .at) else stops (e .at)) ≡
+        (if t then left s (at p n ∷ gs) (e .at) else stops (e .at))
     by-sound true q = number-over s (e .at) afterExponent refl p n gs (λ h. rw (r .other q h) refl)
     by-sound false q = refl
 
@@ -373,7 +378,8 @@ digit-fractioned : (s : List ℕ) (i : ℕ) → (i < length s → among digit (g
 unfolding rules chosen ends
 digit-fractioned s i n = record { can-end = refl; by = λ h. rw (n h) refl }
 
-pub digits-then : (s : List ℕ) (i r : ℕ) (e : Ended) → PassedOver digit s i r → ((d : Digits) → Fractioned s r d → NumberEnds s d r e) → NumberEnds s afterDigit i e
+pub digits-then : (s : List ℕ) (i r : ℕ) (e : Ended) → PassedOver digit s i r → ((d : Digits) → Fractioned s r d → NumberEnds s d r e)
+    → NumberEnds s afterDigit i e
 digits-then s i r e p m =
     let v : NumberEnds s afterDigit r e = m afterDigit (digit-fractioned s r (p .other)) in
     record {
@@ -387,13 +393,15 @@ module _ (s : List ℕ) (i : ℕ) where
   minus-missing h j = record { within = h; onward = omega arith; goes = λ p n gs. left-end s (number unsigned ∷ at p n ∷ gs) i j refl }
 
   module _ (h : i < length s) where
-    first-moves : (d : Digits) (e : Ended) → chosen (rules (number unsigned)) (getD s i 0) ≡ some (number d ∷ []) → NumberEnds s d (i + 1) e → NumberEnds s unsigned i e
+    first-moves : (d : Digits) (e : Ended) → chosen (rules (number unsigned)) (getD s i 0) ≡ some (number d ∷ [])
+        → NumberEnds s d (i + 1) e → NumberEnds s unsigned i e
     first-moves d e q v =
         record {
           within = v .within;
           onward = omega (arith, v .onward);
           goes = λ p n gs.
-              moved-left s (number unsigned ∷ at p n ∷ gs) (number d ∷ at p n ∷ gs) i h (number-moves unsigned (at p n ∷ gs) (number d ∷ []) (getD s i 0) q)
+              moved-left s (number unsigned ∷ at p n ∷ gs) (number d ∷ at p n ∷ gs) i h
+              (number-moves unsigned (at p n ∷ gs) (number d ∷ []) (getD s i 0) q)
               ∙ v .goes p n gs;
         }
 
@@ -401,19 +409,29 @@ module _ (s : List ℕ) (i : ℕ) where
     unfolding rules chosen among
     minus-zero y e v = first-moves afterZero e (rw y refl) v
 
-    pub minus-digit : (getD s i 0 ≡ 48 → ⊥) → among digit (getD s i 0) ≡ true → (e : Ended) → NumberEnds s afterDigit (i + 1) e → NumberEnds s unsigned i e
+    pub minus-digit : (getD s i 0 ≡ 48 → ⊥) → among digit (getD s i 0) ≡ true → (e : Ended) → NumberEnds s afterDigit (i + 1) e
+        → NumberEnds s unsigned i e
     unfolding rules chosen
     minus-digit n y e v =
         let l : 48 ≤ getD s i 0 = digit-from (getD s i 0) y in
         let u : getD s i 0 ≤ 57 = digit-to (getD s i 0) y in
         let k : 49 ≤ getD s i 0 = above 48 (getD s i 0) l n in
-        first-moves afterDigit e (rw (not-byte 48 (getD s i 0) [] n ∙ none-among (getD s i 0), in-range 0x31 0x39 (getD s i 0) [] k u) refl) v
+        first-moves afterDigit e (rw (
+          not-byte 48 (getD s i 0) [] n
+              ∙ none-among (getD s i 0),
+          in-range 0x31 0x39 (getD s i 0) [] k u,
+        ) refl) v
       where
         above : (a b : ℕ) → a ≤ b → (b ≡ a → ⊥) → a + 1 ≤ b
         above a b p q = omega arith
 
     pub minus-none : among digit (getD s i 0) ≡ false → NumberEnds s unsigned i (ended i false)
-    minus-none n = record { within = omega arith; onward = omega arith; goes = λ p m gs. left-stops s (number unsigned ∷ at p m ∷ gs) i h (none-goes p m gs) }
+    minus-none n = record {
+      within = omega arith;
+      onward = omega arith;
+      goes = λ p m gs. left-stops s (number unsigned ∷ at p m ∷ gs) i h
+          (none-goes p m gs);
+    }
       where
         none-goes : (p : Spot) (m : ℕ) (gs : List Part) → step (number unsigned ∷ at p m ∷ gs) (getD s i 0) ≡ none
         none-goes p m gs = unsigned-none (getD s i 0) (at p m ∷ gs) n

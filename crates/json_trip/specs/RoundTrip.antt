@@ -25,7 +25,8 @@ use Rattle.paper.specs.Grammar.{Part, among, optional, rules, start, at, value,
 use Rattle.paper.specs.Machine as Machine
 use Rattle.paper.specs.Machine.{settled, move, faultFrom, fault}
 use Rattle.paper.specs.Json.{brackets, jsonText, written}
-use Rattle.paper.specs.JsonRead.{Token, outer, tokenOf, tokensFrom, spells, dataIn, dataOf, due, fitted, cellsAs, cellsIn, fillWith, readJson}
+use Rattle.paper.specs.JsonRead.{Token, outer, tokenOf, tokensFrom, spells, dataIn, dataOf, due, fitted, cellsAs, cellsIn, fillWith}
+use Rattle.paper.specs.JsonRead.{readJson}
 use Rattle.laws.specs.Numbers.{Bytes}
 use Rattle.laws.specs.Tests.{between-true, bind-got, ensure-got, got-one, none-refused}
 use Rattle.laws.specs.Limits.{extent-true}

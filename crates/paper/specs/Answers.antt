@@ -1,6 +1,7 @@
 -- The answers of the callable parts: each enum or struct that the engine answers with, as the paper's values or its refusal, for
 -- every case. A promise says that the answer, so read, is what the definitions above give.
 use Prim.Native.Nat.{ℕ, _+_, _-_, _*_}
+use mathlib.Core.Path.{_≡_}
 use mathlib.Core.List.{List, [], _∷_, _++_, map}
 use lib.Dec.{eqb, leb}
 use lib.ListN.{take, length, replicate}
@@ -101,6 +102,13 @@ jsonSaid (Json.Got n) = got n
 jsonSaid (Json.NotJson i) = refused (refusal notJson15 0 i)
 jsonSaid (Json.Misfit i) = refused (refusal misfit16 0 i)
 jsonSaid (Json.Refused r) = refused r
+
+-- 15 and 16 are told by answers of their own
+abbrev pub jsonExact : JsonAnswer → Type 0
+jsonExact (Json.Got n) = Unit {0}
+jsonExact (Json.NotJson i) = Unit {0}
+jsonExact (Json.Misfit i) = Unit {0}
+jsonExact (Json.Refused r) = (r .number ≡ notJson15 → ⊥) × (r .number ≡ misfit16 → ⊥)
 
 abbrev pub planSaid : PlanAnswer → Res Foreseen
 planSaid (Plan.Got f) = got f

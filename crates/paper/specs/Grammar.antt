@@ -45,7 +45,8 @@ further = range 0x80 0xbf
 
 -- ---- parts
 
--- where a number is: after its minus; after its 0; after a digit before the point; after one behind it; after the e; after a digit behind that
+-- where a number is: after its minus; after its 0; after a digit before the point; after one behind it; after the e; after a digit
+-- behind that
 pub data Digits : Type 0 where
   unsigned afterZero afterDigit afterFraction afterE afterExponent : Digits
 
@@ -53,7 +54,8 @@ pub data Digits : Type 0 where
 pub data Spot : Type 0 where
   value items moreItems object members member moreMembers : Spot
 
--- one of these bytes; the characters of a string and its closing quote; what follows a backslash; the rest of a number; a name's colon; what
+-- one of these bytes; the characters of a string and its closing quote; what follows a backslash; the rest of a number; a name's colon;
+-- what
 -- stands at a spot, nested at most n levels inside
 pub data Part : Type 0 where
   one : Bytes → Part

@@ -18,17 +18,20 @@ use Rattle.paper.specs.Machine as Machine
 use Rattle.paper.specs.JsonRead as JsonRead
 
 unfoldable pub opened : Unit {0}
-unfolding Limits.sizesOf Numbers.leBytes Numbers.position Numbers.distance Numbers.lastOf Numbers.from Numbers.concat Numbers.total Numbers.alike
+unfolding Limits.sizesOf Numbers.leBytes Numbers.position Numbers.distance Numbers.lastOf Numbers.from Numbers.concat Numbers.total
+    Numbers.alike
     Numbers.zeros Axes.nameRest Axes.isName Axes.named Axes.goodNames Axes.goodLimits Axes.cells Axes.offset Axes.atOffset Axes.build
     Axes.placeOf Axes.at Cells.finite Cells.filled Cells.cellFrom Cells.encode Cells.isTruth Cells.trues Operators.takes Operators.gives
     Operators.takesOne Operators.givesOne Operators.fitInt Operators.fitFloat Operators.intBy Operators.floatDiv Operators.absFloat
     Operators.two Operators.worked Operators.compared Operators.andCell Operators.orCell Operators.notCell Operators.answered
     Operators.applied Operators.signed Operators.singleCell Bundle.eachAxis Bundle.cellsOf Bundle.arrayOf Bundle.readArray
-    Bundle.versionTold Bundle.versionIn Bundle.readArrays Bundle.readAs Bundle.namesFit Bundle.axesBytes Bundle.arrayBytes Bundle.bundleBytes Bundle.packArray Bundle.packArrays
+    Bundle.versionTold Bundle.versionIn Bundle.readArrays Bundle.readAs Bundle.namesFit Bundle.axesBytes Bundle.arrayBytes
+    Bundle.bundleBytes Bundle.packArray Bundle.packArrays
     Bundle.packed Bundle.putInto Reference.chosen Reference.referred Reference.reference Reference.seen Reference.walkedOn Totals.totals?
     Totals.filledFrom Totals.holds Totals.best Totals.bestOf Totals.int Totals.intTotal Totals.intSum Totals.float Totals.sumOn
     Totals.floatSum Totals.totalOf Totals.totals Recipe.operation Recipe.operand Recipe.uses Recipe.unusedZero Recipe.isScalar
-    Recipe.takesType Recipe.typesFit Recipe.agree Recipe.eachAnew Recipe.glued Recipe.fitsIn Recipe.resultType Recipe.resultNames Recipe.resultAxes
+    Recipe.takesType Recipe.typesFit Recipe.agree Recipe.eachAnew Recipe.glued Recipe.fitsIn Recipe.resultType Recipe.resultNames
+    Recipe.resultAxes
     Recipe.stepTests Recipe.stepResult Recipe.stepOver Recipe.planStep Recipe.planSteps Recipe.planRecipe Values.shiftedBack Values.whence
     Values.taken Values.made Values.cellAt Values.settled Values.valueOf Values.valuesFrom Listing.planned Listing.plan Listing.workAfter
     Listing.runTests Listing.runAfter Listing.row Listing.listTests Listing.pageTests Listing.listed Listing.goOn Listing.pageOf

@@ -23,14 +23,17 @@ pub data Wide : List ℕ → List ℕ → Type 0 where
   e0 : {b c d : ℕ} {r : List ℕ} → In b (range 0xe0 0xe0) → In c (range 0xa0 0xbf) → In d further → Wide (b ∷ c ∷ d ∷ r) r
   three : {b c d : ℕ} {r : List ℕ} → In b (range 0xe1 0xec ++ range 0xee 0xef) → In c further → In d further → Wide (b ∷ c ∷ d ∷ r) r
   ed : {b c d : ℕ} {r : List ℕ} → In b (range 0xed 0xed) → In c (range 0x80 0x9f) → In d further → Wide (b ∷ c ∷ d ∷ r) r
-  f0 : {b c d e : ℕ} {r : List ℕ} → In b (range 0xf0 0xf0) → In c (range 0x90 0xbf) → In d further → In e further → Wide (b ∷ c ∷ d ∷ e ∷ r) r
+  f0 : {b c d e : ℕ} {r : List ℕ} → In b (range 0xf0 0xf0) → In c (range 0x90 0xbf) → In d further → In e further
+      → Wide (b ∷ c ∷ d ∷ e ∷ r) r
   four : {b c d e : ℕ} {r : List ℕ} → In b (range 0xf1 0xf3) → In c further → In d further → In e further → Wide (b ∷ c ∷ d ∷ e ∷ r) r
-  f4 : {b c d e : ℕ} {r : List ℕ} → In b (range 0xf4 0xf4) → In c (range 0x80 0x8f) → In d further → In e further → Wide (b ∷ c ∷ d ∷ e ∷ r) r
+  f4 : {b c d e : ℕ} {r : List ℕ} → In b (range 0xf4 0xf4) → In c (range 0x80 0x8f) → In d further → In e further
+      → Wide (b ∷ c ∷ d ∷ e ∷ r) r
 
 -- what follows a backslash
 pub data Escape : List ℕ → List ℕ → Type 0 where
   short : {b : ℕ} {r : List ℕ} → In b (these "\"\\/bfnrt") → Escape (b ∷ r) r
-  unicode : {u b c d e : ℕ} {r : List ℕ} → In u (these "u") → In b hexDigit → In c hexDigit → In d hexDigit → In e hexDigit → Escape (u ∷ b ∷ c ∷ d ∷ e ∷ r) r
+  unicode : {u b c d e : ℕ} {r : List ℕ} → In u (these "u") → In b hexDigit → In c hexDigit → In d hexDigit → In e hexDigit
+      → Escape (u ∷ b ∷ c ∷ d ∷ e ∷ r) r
 
 -- the characters of a string and its closing quote
 pub data Chars : List ℕ → List ℕ → Type 0 where
@@ -99,7 +102,8 @@ mutual
 
   -- a name, a colon, a value
   pub data Member : ℕ → List ℕ → List ℕ → Type 0 where
-    member : {n q p : ℕ} {a b c d v r : List ℕ} → Blanks a (q ∷ b) → In q (these "\"") → Chars b c → Blanks c (p ∷ d) → In p (these ":") → Blanks d v → Value n v r → Member n a r
+    member : {n q p : ℕ} {a b c d v r : List ℕ} → Blanks a (q ∷ b) → In q (these "\"") → Chars b c → Blanks c (p ∷ d) → In p (these ":")
+        → Blanks d v → Value n v r → Member n a r
 
   -- after a member
   pub data Members : ℕ → List ℕ → List ℕ → Type 0 where

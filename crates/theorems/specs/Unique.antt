@@ -1,10 +1,14 @@
 -- Promises fix answers: two answers with the same figures are equal, and so are two readings with nothing past the last array and axis.
 use mathlib.Core.Path.{_≡_, refl, sym, ap, _∙_}
+use Prim.Native.Nat.{ℕ}
+use borrow.Author.Tests.{ne-eqb}
+use lib.Dec.{eqb}
 use Rattle.paper.specs.declared.Version.{Version}
 use Rattle.paper.specs.declared.Extent.{Extent}
 use Rattle.paper.specs.declared.Refusal.{Refusal}
 use Rattle.paper.specs.declared.Reading.{Reading}
 use Rattle.paper.specs.declared.NumberAnswer.{NumberAnswer}
+use Rattle.paper.specs.declared.JsonAnswer.{JsonAnswer}
 use Rattle.paper.specs.declared.ReferenceAnswer.{ReferenceAnswer}
 use Rattle.paper.specs.declared.WalkAnswer.{WalkAnswer}
 use Rattle.paper.specs.declared.Walk.{Walk}
@@ -12,11 +16,13 @@ use Rattle.paper.specs.declared.TotalAnswer.{TotalAnswer}
 use Rattle.paper.specs.declared.PlanAnswer.{PlanAnswer}
 use Rattle.paper.specs.declared.PageAnswer.{PageAnswer}
 use Rattle.paper.specs.declared.StretchAnswer.{StretchAnswer}
-use Rattle.paper.specs.Refusals.{Res, got, refused}
+use Rattle.paper.specs.Refusals.{Res, got, refused, if_then_else_}
 use Rattle.paper.specs.Reference.{Walked}
-use Rattle.paper.specs.Answers.{axesOf, extentOf, readSaid, numberSaid, planSaid, referenceSaid, seenSaid, walkSaid, totalSaid, pageSaid, stretchSaid}
+use Rattle.paper.specs.Answers.{axesOf, extentOf, readSaid, numberSaid, jsonSaid, jsonExact, planSaid, referenceSaid, seenSaid}
+use Rattle.paper.specs.Answers.{walkSaid, totalSaid, pageSaid, stretchSaid}
 use Rattle.laws.specs.Answers.{TidyExtent, readingOf}
 use Rattle.paper.specs.declared.NumberAnswer.the-variants as Number
+use Rattle.paper.specs.declared.JsonAnswer.the-variants as Json
 use Rattle.paper.specs.declared.ReferenceAnswer.the-variants as Reference
 use Rattle.paper.specs.declared.WalkAnswer.the-variants as WalkCase
 use Rattle.paper.specs.declared.TotalAnswer.the-variants as Total
@@ -37,6 +43,23 @@ number-one = fixed numberSaid Number.Got Number.Refused (λ a. elim a [ Number.G
 
 pub reference-one : (a b : ReferenceAnswer) → referenceSaid a ≡ referenceSaid b → a ≡ b
 reference-one = fixed referenceSaid Reference.Got Reference.Refused (λ a. elim a [ Reference.Got x ↦ refl | Reference.Refused r ↦ refl ])
+
+-- of reading JSON: an answer is fixed by its figures where 15 and 16 are told by answers of their own
+json-back : Res ℕ → JsonAnswer
+json-back (got n) = Json.Got n
+json-back (refused r) =
+    if eqb (r .number) 15 then Json.NotJson (r .ordinality) else
+    (if eqb (r .number) 16 then Json.Misfit (r .ordinality) else Json.Refused r)
+
+json-again : (a : JsonAnswer) → jsonExact a → json-back (jsonSaid a) ≡ a
+unfolding json-back
+json-again (Json.Got n) h = refl
+json-again (Json.NotJson i) h = refl
+json-again (Json.Misfit i) h = refl
+json-again (Json.Refused r) h = rw (ne-eqb (r .number) 15 (h .0), ne-eqb (r .number) 16 (h .1))
+
+pub json-one : (a b : JsonAnswer) → jsonExact a → jsonExact b → jsonSaid a ≡ jsonSaid b → a ≡ b
+json-one a b h k e = sym (json-again a h) ∙ (ap json-back e ∙ json-again b k)
 
 seen-one : (a b : WalkAnswer) → seenSaid a ≡ seenSaid b → a ≡ b
 seen-one = fixed seenSaid WalkCase.Got WalkCase.Refused (λ a. elim a [ WalkCase.Got x ↦ refl | WalkCase.Refused r ↦ refl ])
