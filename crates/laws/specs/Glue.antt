@@ -6,11 +6,10 @@ use mathlib.Core.Bool.{Bool, true, false}
 use mathlib.Core.List.{List, _∷_, _++_}
 use native.Mathlib.Nat.{mod-lt, div-lt-iff-lt-mul, div-add-mod', add-mul, mul-add, add-mul-div-right, add-mul-mod-self-right}
 use native.Mathlib.Omega.{arith}
-use borrow.Author.Tests.{eqb-true, leb-true, leb-false, ltb-true, ltb-false, le-leb, lt-leb}
+use borrow.Author.Tests.{leb-true, leb-false, ltb-true, ltb-false, le-leb, lt-leb}
 use lib.Dec.{leb, ltb}
 use lib.ListN.{length, getD, take, drop, length-append}
 use lib.Seq.{getD-at}
-use Rattle.paper.specs.Numbers.{alike}
 use Rattle.paper.specs.declared.Name.{Name}
 use Rattle.paper.specs.declared.Axis.{Axis}
 use Rattle.paper.specs.declared.Cell.the-variants.{Empty}
@@ -18,13 +17,13 @@ use Rattle.paper.specs.declared.Cell.{Cell}
 use Rattle.paper.specs.declared.Move.the-variants.{Glue}
 use Rattle.paper.specs.declared.Operation.the-variants.{Moves}
 use Rattle.paper.specs.Refusals.{if_then_else_}
-use Rattle.paper.specs.Axes.{width, cells, sameName, limited, offset, atOffset, axisAt, without, putIn, Array, at}
-use Rattle.paper.specs.Recipe.{asMany, agree, glued}
+use Rattle.paper.specs.Axes.{width, cells, limited, offset, atOffset, axisAt, without, putIn, Array, at}
+use Rattle.paper.specs.Recipe.{glued}
 use Rattle.paper.specs.Values.{Whence, fromA, fromB, inFirst, inSecond, taken}
-use Rattle.laws.specs.Tests.{and-left, and-right}
 use Rattle.laws.specs.Places.{Inside, right-pos, offset-atOffset, atOffset-inside, inside-length}
 use Rattle.laws.specs.Limits.{Sound, sound-drop, sound-at, cells-pos}
-use Rattle.laws.specs.Alike.{SameLimits, alike-true, alike-back, alike-append, alike-split, cells-alike, alike-inside, offset-alike}
+use Rattle.laws.specs.Alike.{SameLimits, alike-back, alike-append, alike-split, cells-alike, alike-inside, offset-alike}
+use Rattle.laws.specs.Agreeing.{Agree, glue-many, glue-limits}
 use Rattle.laws.specs.Joins.{cells-append, offset-append, atOffset-append, axes-at, drop-index, length-before, without-at, putIn-at, inside-putIn, inside-axis, inside-without, inside-again}
 use Rattle.laws.specs.Arrays.{at-inside}
 
@@ -143,17 +142,15 @@ pub record Gluable (k : ℕ) (E F : List Axis) : Type 0 where
   pub same : SameLimits (without k E) (without k F)
   pub sound : Sound E
 
-pub gluable : (k : ℕ) (M N : List Name) (E F : List Axis) → 1 ≤ k → k ≤ length E → Sound E → agree (Moves Glue) k M E N F ≡ true
+pub gluable : (k : ℕ) (M N : List Name) (E F : List Axis) → 1 ≤ k → k ≤ length E → Sound E → Agree (Moves Glue) k M E N F
     → Gluable k E F
-unfolding agree
 gluable k M N E F one last s e =
-    let l = eqb-true (length E) (length F) (and-left (asMany E F) _ e) in
-    let x = and-right (asMany E F) _ e in
+    let l = glue-many k M E N F e in
     record {
       one = one;
       first = last;
       second = omega arith;
-      same = alike-true (without k E) (without k F) (and-right (alike sameName M N) _ x);
+      same = glue-limits k M E N F e;
       sound = s;
     }
 

@@ -14,6 +14,7 @@ use Rattle.paper.specs.Limits.{headBytes, mostSteps}
 use Rattle.paper.specs.Refusals.{Res, got, _>>_, if_then_else_, refusal, present, between, unknown4, badAxis5, outside6, unfit7, differ8, badResult9}
 use Rattle.paper.specs.Axes.{Shape}
 use Rattle.paper.specs.Recipe.{Step, Planned, operation, stepOf, operand, noShape, uses, unusedZero, axisIn, typesFit, agree, fitsIn, resultOf, goodResult, stepTests, stepResult, stepOver, planStep, planSteps, planRecipe}
+use Rattle.laws.specs.Agreeing.{Agree}
 use Rattle.laws.specs.Tests.{got-one, bind-got, ensure-got, ensured, present-got, and-left, and-right}
 
 -- what a step's tests say of it and its operands
@@ -21,7 +22,7 @@ pub record Tested (z : Sizes) (s : Step) (A B : Shape) : Type 0 where
   pub unused : unusedZero (uses (s .operation)) (z .name) (length (A .axes)) s ≡ true
   pub axis : axisIn (uses (s .operation)) (length (A .axes)) (s .axis) ≡ true
   pub types : typesFit (s .operation) s (A .type) (B .type) ≡ true
-  pub agrees : agree (s .operation) (s .axis) (A .names) (A .axes) (B .names) (B .axes) ≡ true
+  pub agrees : Agree (s .operation) (s .axis) (A .names) (A .axes) (B .names) (B .axes)
   pub fits : fitsIn (s .operation) s A B ≡ true
 
 pub tests-passed : {C : Type 0} (z : Sizes) (k : ℕ) (s : Step) (A B : Shape) (m : Res C) (c : C) → (stepTests z k s A B >> m) ≡ got c

@@ -1,11 +1,10 @@
 -- What the functions of this crate ask of their callers, and that a step that passed its tests gives it.
 use Prim.Native.Nat.{ℕ, _+_, _-_, _*_, _≤_, _<_}
 use mathlib.Core.Path.{_≡_, sym, ap, _∙_}
-use mathlib.Core.Bool.{Bool, true, _&&_}
+use mathlib.Core.Bool.{true}
 use mathlib.Core.List.{List}
 use native.Mathlib.Nat.{mul-le-mul-right, one-mul}
 use native.Mathlib.Omega.{arith}
-use borrow.Author.Tests.{eqb-true}
 use lib.ListN.{length, take, drop, length-append, length-take, length-drop}
 use Rattle.paper.specs.declared.Axis.{Axis}
 use Rattle.paper.specs.declared.Move.{Move}
@@ -14,8 +13,9 @@ use Rattle.paper.specs.Limits.{reach, mostCells, mostAxes, limitBytes}
 use Rattle.paper.specs.Refusals.{between}
 use Rattle.paper.specs.Numbers.{positionAt}
 use Rattle.paper.specs.Axes.{width, cells, noAxis, axisAt, onAxis, without}
-use Rattle.paper.specs.Recipe.{Step, uses, asMany, agree, fitsIn, withLimits, resultAxes}
+use Rattle.paper.specs.Recipe.{Step, uses, fitsIn, withLimits, resultAxes}
 use Rattle.laws.specs.Tests.{and-left, between-true}
+use Rattle.laws.specs.Agreeing.{update-many, put-many}
 use Rattle.laws.specs.Places.{onAxis-true}
 use Rattle.laws.specs.Limits.{sound-at}
 use Rattle.laws.specs.Sizes.{fits}
@@ -87,10 +87,6 @@ position-asks s h = fewer (s .at) limitBytes (detailOf s) _ (omega (arith, fits 
 
 -- ---- from a step's tests
 
--- the arrays' axes are as many
-as-many : (E F : List Axis) (b : Bool) → (asMany E F && b) ≡ true → length E ≡ length F
-as-many E F b e = eqb-true (length E) (length F) (and-left (asMany E F) b e)
-
 axial-in : {k : ℕ} {E : List Axis} → Small E → between 1 (length E) k ≡ true → Axial k E
 axial-in {k} {E} s e = let b = between-true (length E) k e in record { small = s; one = b .0; last = b .1 }
 
@@ -109,16 +105,17 @@ module _ {st : Step} {E F G : List Axis} where
       record { axial = axial-in (M .first) (M .axis); low = l .0; high = l .1; lt = rw (M .axes) at h }
 
   pub update-asks : {k : ℕ} → Moving Update st E F G → k < cells G → Beside G F k
-  unfolding resultAxes agree
+  unfolding resultAxes
   update-asks M h =
-      record { here = M .result; there = M .second; same = sym (ap length (M .axes) ∙ as-many E F _ (M .agrees)); lt = h }
+      let n = update-many (st .axis) (M .left .names) E (M .right .names) F (M .agrees) in
+      record { here = M .result; there = M .second; same = sym (ap length (M .axes) ∙ n); lt = h }
 
   -- place: B has one axis fewer, and has room for it
   pub put-axis : Moving Put st E F G → (1 ≤ st .axis) × (st .axis ≤ length E) × (length E ≡ length F + 1)
-  unfolding uses agree
+  unfolding uses
   put-axis M =
       let a = axial-in (M .first) (M .axis) in
-      let s = as-many (without (st .axis) E) F _ (M .agrees) in
+      let s = put-many (st .axis) (M .left .names) E (M .right .names) F (M .agrees) in
       (a .one, a .last, omega (arith, s, length-without (st .axis) E (a .one) (a .last)))
 
   pub put-room : Moving Put st E F G → length E ≤ mostAxes → Insertable (st .axis) F

@@ -14,8 +14,9 @@ use Rattle.paper.specs.declared.Move.{Move}
 use Rattle.paper.specs.declared.Operation.the-variants.{Moves}
 use Rattle.paper.specs.Refusals.{if_then_else_}
 use Rattle.paper.specs.Axes.{cells, inside, offset, ordinality, Shape, Array, at}
-use Rattle.paper.specs.Recipe.{Step, uses, axisIn, agree, fitsIn, resultAxes}
+use Rattle.paper.specs.Recipe.{Step, uses, axisIn, fitsIn, resultAxes}
 use Rattle.paper.specs.Values.{Whence, fromA, fromB, nowhere, overlaid, taken}
+use Rattle.laws.specs.Agreeing.{Agree}
 use Rattle.laws.specs.Places.{Inside, true-inside, offset-lt}
 use Rattle.laws.specs.Arrays.{at-inside}
 use Rattle.laws.specs.Glue.{turn, inTurn}
@@ -35,7 +36,7 @@ pub record Moving (m : Move) (st : Step) (E F G : List Axis) : Type 0 where
   pub right : Shape
   pub left-axes : left .axes ≡ E
   pub right-axes : right .axes ≡ F
-  pub agrees : agree (Moves m) (st .axis) (left .names) E (right .names) F ≡ true
+  pub agrees : Agree (Moves m) (st .axis) (left .names) E (right .names) F
   pub fits : fitsIn (Moves m) st left right ≡ true
   pub axes : G ≡ resultAxes (Moves m) st E F
 

@@ -2,7 +2,7 @@
 -- coordinate: of cells moved, that the nine bytes where the cell comes from are its bytes; of cells worked out, that the code gives the answer.
 use Prim.Native.Nat.{ℕ, _+_, _*_, _^_, _<_}
 use mathlib.Core.Path.{_≡_, refl, sym, ap, subst, _∙_}
-use mathlib.Core.Bool.{true, false, _&&_}
+use mathlib.Core.Bool.{true, false}
 use mathlib.Core.List.{List}
 use mathlib.Core.Option.{Option, none, some, Option·getD}
 use native.Mathlib.Omega.{arith}
@@ -24,12 +24,12 @@ use Rattle.paper.specs.declared.Work.the-variants.{Pair, Scalar, Single}
 use Rattle.paper.specs.declared.Operation.{Operation}
 use Rattle.paper.specs.declared.Operation.the-variants.{Moves, Works}
 use Rattle.paper.specs.Limits.{FLOAT, cellBytes, wordBytes}
-use Rattle.paper.specs.Numbers.{leOf, leBytes, part, alike}
-use Rattle.paper.specs.Axes.{cells, atOffset, sameName, Shape, Array, at}
+use Rattle.paper.specs.Numbers.{leOf, leBytes, part}
+use Rattle.paper.specs.Axes.{cells, atOffset, Shape, Array, at}
 use Rattle.paper.specs.Cells.{isType, filled, cellFrom, encode}
 use Rattle.paper.specs.Operators.{takes, takesOne, pairCell}
 use Rattle.paper.specs.Bundle.{sizesIn}
-use Rattle.paper.specs.Recipe.{Step, Planned, scalarOf, uses, axisIn, isScalar, fitsIn, takesType, typesFit, sameLimits, asMany, agree, resultAxes, resultOf}
+use Rattle.paper.specs.Recipe.{Step, Planned, scalarOf, uses, axisIn, isScalar, fitsIn, takesType, typesFit, resultAxes, resultOf}
 use Rattle.paper.specs.Values.{Whence, whence, taken, made, scalar, cellAt}
 use Rattle.paper.specs.Answers.{axesOf}
 use Rattle.laws.specs.Tests.{and-left, and-right}
@@ -37,7 +37,8 @@ use Rattle.laws.specs.Cells.{OfKind, bytes-back}
 use Rattle.laws.specs.Numbers.{Bytes, bytes-take, bytes-drop}
 use Rattle.laws.specs.Places.{offset-atOffset, atOffset-inside}
 use Rattle.laws.specs.Arrays.{at-inside}
-use Rattle.laws.specs.Alike.{alike-true, cells-alike, atOffset-alike}
+use Rattle.laws.specs.Alike.{SameLimits, cells-alike, atOffset-alike}
+use Rattle.laws.specs.Agreeing.{Agree, pair-limits}
 use Rattle.laws.specs.Passed.{Tested}
 use Rattle.laws.specs.Steps.{Kept, cell-kept, result-type}
 use Rattle.coded.specs.Codes.{standing, NoNan, kindOf, pairCodeOf, singleCodeOf, codeCell}
@@ -234,10 +235,9 @@ module _ {B bs D : List ℕ} {A Z : Array} {p : Planned} {t : Turn} (y : Ready B
         → CellHere B D n (source scalarSide 0) k kind (scalar (p .step) A)
     scalar-cell v q = scalar-here B D n k kind (scalar (p .step) A) (rw (kind-is (y .first), v) (scalar-some (filled (S .type) (scalarOf (p .step))) q))
 
-    second-cell : uses (Works w) .b ≡ true → eqb (S .type) (U .type) ≡ true → alike sameLimits (S .axes) (U .axes) ≡ true
+    second-cell : uses (Works w) .b ≡ true → eqb (S .type) (U .type) ≡ true → SameLimits (S .axes) (U .axes)
         → CellHere B D n (cellsAt (t .b)) k kind (at Z pt)
-    second-cell u q l =
-        let a = alike-true (S .axes) (U .axes) l in
+    second-cell u q a =
         let s = y .second (rw e u) in
         let i : k < cells (U .axes) = omega (arith, ap cells same-axes, cells-alike (S .axes) (U .axes) a) in
         let z : kindIn (t .b) ≡ kind = kind-is s ∙ sym (eqb-true (S .type) (U .type) q) ∙ sym (kind-is (y .first)) in
@@ -251,14 +251,12 @@ module _ {B bs D : List ℕ} {A Z : Array} {p : Planned} {t : Turn} (y : Ready B
 
   pub computes : (w : Work) → p .step .operation ≡ Works w → (n k : ℕ) → n ≡ scalarOf (p .step) → k < cells (p .shape .axes)
       → Computes B D (pairingOf w n (t .a) (t .b)) k (cellAt (p .step .operation) (p .step) A Z (atOffset (p .shape .axes) k))
-  unfolding cellAt made typesFit takesType agree uses
+  unfolding cellAt made typesFit takesType uses
   computes (Pair o) e n k v h = rw e (
       let f = fits (Pair o) e 0 k h in
-      let g : (asMany (S .axes) (U .axes) && (alike sameName (S .names) (U .names) && alike sameLimits (S .axes) (U .axes))) ≡ true = rw
-      e at (y .tested .agrees) in
-      let l = and-right (asMany (S .axes) (U .axes)) _ g in
+      let l = pair-limits (p .step .axis) (S .names) (S .axes) (U .names) (U .axes) o (rw e at (y .tested .agrees)) in
       pair-by (Pair o) e 0 k h o (and-right (eqb (S .type) (U .type)) _ f) (first-cell (Pair o) e 0 k h)
-      (second-cell (Pair o) e 0 k h refl (and-left _ _ f) (and-right (alike sameName (S .names) (U .names)) _ l)))
+      (second-cell (Pair o) e 0 k h refl (and-left _ _ f) l))
   computes (Scalar Right o) e n k v h = rw e (
       let f = fits (Scalar Right o) e n k h in
       pair-by (Scalar Right o) e n k h o (and-left _ _ f) (first-cell (Scalar Right o) e n k h) (scalar-cell (Scalar Right o) e n k h v (and-right (takes o (S .type)) _ f)))
@@ -299,7 +297,7 @@ module _ {B bs D : List ℕ} {A Z : Array} {p : Planned} {t : Turn} (y : Ready B
       agrees = rw (
         ← first-axes,
         ← second-axes,
-      ) (subst (λ (op : Operation). agree op (p .step .axis) (S .names) (S .axes) (U .names) (U .axes) ≡ true) e
+      ) (subst (λ (op : Operation). Agree op (p .step .axis) (S .names) (S .axes) (U .names) (U .axes)) e
           (y .tested .agrees));
       left = S;
       right = U;

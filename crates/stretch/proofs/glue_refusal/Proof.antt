@@ -10,10 +10,11 @@ use Rattle.paper.specs.declared.Axis.{Axis}
 use Rattle.paper.specs.declared.Move.the-variants.{Glue}
 use Rattle.paper.specs.declared.Operation.the-variants.{Moves}
 use Rattle.paper.specs.Refusals.{between}
-use Rattle.paper.specs.Recipe.{agree, glued}
+use Rattle.paper.specs.Recipe.{glued}
 use Rattle.paper.specs.Answers.{axesOf, namesFor}
 use Rattle.paper.specs.Stretch.{glueTests}
 use Rattle.laws.specs.Tests.{between-true}
+use Rattle.laws.specs.Agreeing.{Agree}
 use Rattle.laws.specs.Glue.{Gluable, gluable}
 use Rattle.extent.specs.Judged.{goodCells, good-zero, good-some}
 use Rattle.stretch.specs.Sides.{glued-some, glued-cells}
@@ -44,7 +45,7 @@ module _ (c : tie.Else3) where
   abbrev N : List Name
   N = namesFor F (s .args .right-names)
 
-  agree-told : agree (Moves Glue) (s .args .axis .0) M E N F ≡ true
+  agree-told : Agree (Moves Glue) (s .args .axis .0) M E N F
   agree-told = sym (c .before .agrees .ensures) ∙ not-false _ (c .if3 .left)
 
   fits : Gluable (s .args .axis .0) E F
