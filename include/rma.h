@@ -40,7 +40,13 @@
  * coordinates. 6 outside. 7 types unfit. 8 axis count, names or limits differ. 9 the result's extent is bad. 10 work area under 9T
  * bytes. 11 no room for a row, or start outside. 12 a value doesn't fit. 13 division by zero. 14 no room for the bundle,
  * the text, the head or the cells. 15 the text is not one JSON object with one `data`. 16 a value or bracket in `data` does not fit the
- * type and extent. rma_words has them as sentences. */
+ * type and extent. rma_words has them as sentences.
+ *
+ * The ordinality of 8 says what differs first: 4 the number of axes (of a place, where B has not one axis fewer than A), before any axis
+ * is compared; else 10 times an axis index and 1 (its name), 2 (its lower limit) or 3 (its upper limit), of the first axis of A that
+ * differs, name before lower before upper. With four axes it goes up to 43, with six to 63. A pair compares all names and limits; an
+ * update and a place names alone, a place without A's placed axis, the index counted in A; a glue and a stretch names and limits, of
+ * the axis glued along the name alone. */
 #ifndef RMA_H
 #define RMA_H
 
@@ -120,7 +126,7 @@ uint32_t rma_read_json(uint32_t version, const uint8_t *head, size_t head_len, c
 /* Plans a recipe over a bundle: nothing is lent, and nothing is run. `said`: T, the number of cells of all results together, then of the
  * last result the type, the axis count and the number of cells (four u32). So a work area of 9T bytes is enough, and a row has 4 and 4
  * times the axis count. Refused as rma_read, 4 with place 0 (recipe length: not 1 to 16 steps of the bundle's version), with the step as
- * place 4, 5, 7, 8, 6, 9. */
+ * place 4, 5, 7, 8 (ordinality: what differs, as above), 6, 9. */
 uint32_t rma_plan(const uint8_t *bundle, size_t bundle_len, const uint8_t *recipe, size_t recipe_len, uint8_t *said, size_t said_len);
 
 /* Tells the extent of a recipe's last result. `said`: the head's length (u32), RMA_HEAD_1 or RMA_HEAD_2 by the bundle's version.
@@ -131,9 +137,8 @@ uint32_t rma_extent(const uint8_t *bundle, size_t bundle_len, const uint8_t *rec
 
 /* Runs a recipe of 1 to 16 steps over a bundle: 36 bytes each over one of version 1, 100 over one of version 2. `said`: T, the number
  * of cells of all results together (u32).
- * `work`: these cells in step order, 9T bytes, then what was there. Refused as rma_read, 4 with place 0 (recipe length), with the
- * step as place 4, 5, 7, 8, 6, 9, then 10: `work` is untouched. Then 12 or 13, with step and ordinality: the first 9T bytes of `work`
- * are zeros, the rest is untouched. */
+ * `work`: these cells in step order, 9T bytes, then what was there. Refused as rma_plan, then 10: `work` is untouched. Then 12 or 13, with
+ * step and the cell's ordinality: the first 9T bytes of `work` are zeros, the rest is untouched. */
 uint32_t rma_run(const uint8_t *bundle, size_t bundle_len, const uint8_t *recipe, size_t recipe_len, uint8_t *work, size_t work_len,
                  uint8_t *said, size_t said_len);
 
@@ -149,14 +154,15 @@ uint32_t rma_page(const uint8_t *bundle, size_t bundle_len, const uint8_t *recip
  * to where the other side begins, or to the end. Both heads are of `version`, 1 or 2. `said`: the side (1 left, 2 right), and from which
  * byte up to which byte of that side's cells (three u32). Cells are not judged, maxima not looked at. Refused 1 with place 0 for another
  * version; then for left (place 1), then right (place 2): 1 (a head of other than RMA_HEAD_1 bytes in version 1, RMA_HEAD_2 in version
- * 2; type or axis count), 2 (extent), 1 (cells not nine bytes each); then with place 0 as a glue: 5, 7, 8, 9; then 6 (ordinality 0 or
- * past the end). */
+ * 2; type or axis count), 2 (extent), 1 (cells not nine bytes each); then with place 0 as a glue: 5, 7, 8 (with a glue's ordinality: 4,
+ * or an axis and what differs), 9; then 6 (`ordinality` 0 or past the end). */
 uint32_t rma_stretch(uint32_t version, const uint8_t *left_head, size_t left_head_len, const uint8_t *left_cells,
                      size_t left_cells_len, const uint8_t *right_head, size_t right_head_len, const uint8_t *right_cells,
                      size_t right_cells_len, uint32_t axis, uint32_t ordinality, uint8_t *said, size_t said_len);
 
-/* A refusal's number in words, for a person; "done" for 0. Place and ordinality say where: an array, a step or a side, and a cell; with
- * 15 and 16 the ordinality is a byte of the text. */
+/* A refusal's number in words, for a person; "done" for 0. Place and ordinality say where: an array, a step or a side, and a cell; with 8
+ * the ordinality is 4 for the number of axes, else 10 times the axis index and 1 name, 2 lower limit, 3 upper limit; with 15 and 16 it is
+ * a byte of the text. */
 static inline const char *rma_words(uint32_t number)
 {
     static const char *const words[] = {

@@ -9,7 +9,7 @@ use native.Mathlib.Omega.{arith}
 use lib.Dec.{leb}
 use lib.ListN.{length, take, drop, getD, drop-of-length-le}
 use lib.Seq.{length-take-le}
-use Rattle.paper.specs.Numbers.{zeros, alike}
+use Rattle.paper.specs.Numbers.{zeros}
 use Rattle.paper.specs.Bundle.{namesFit}
 use Rattle.laws.specs.Loops.{drop-first-cons}
 use Rattle.paper.specs.declared.Sizes.{Sizes}
@@ -78,17 +78,6 @@ module _ (z : Sizes) (N : List Name) (r : ℕ) (h : r ≤ length N) (i : ℕ) wh
   pub fit-end : r ≤ i → true ≡ namesFit z (drop i (take r N))
   unfolding namesFit
   fit-end b = rw (none-left N r h i b)
-
--- two lists of names in step
-module _ (M N : List Name) (r : ℕ) (h : r ≤ length M) (k : r ≤ length N) (i : ℕ) where
-  pub same-up : i < r → alike sameName (drop i (take r M)) (drop i (take r N))
-      ≡ (sameName (getD M i noName) (getD N i noName) && alike sameName (drop (i + 1) (take r M)) (drop (i + 1) (take r N)))
-  unfolding alike
-  same-up b = rw (left M r h i b, left N r k i b)
-
-  pub same-end : r ≤ i → true ≡ alike sameName (drop i (take r M)) (drop i (take r N))
-  unfolding alike
-  same-end b = rw (none-left M r h i b, none-left N r k i b)
 
 -- ---- every axis
 

@@ -1,18 +1,17 @@
-// An extent judged as the paper does: names, limits, number of cells, inside its maximum; and two extents compared, by one loop that is
-// told what is asked of each two axes. An extent's axes are the first `rank`, never more than there is room for; names stand apart.
+// An extent judged as the paper does: names, limits, number of cells, inside its maximum; and one extent inside another, by one loop that
+// is told what is asked of each two axes. An extent's axes are the first `rank`, never more than there is room for; names stand apart.
 ghost use mathlib.Core.Path.{_≡_};
-ghost use mathlib.Core.Bool.{_&&_, _||_};
 ghost use Prim.Native.Nat.{_+_, _-_, _*_, _≤_};
-ghost use lib.Dec.{eqb};
 ghost use Rattle.paper.specs.Limits.{mostAxes, mostCells, reach};
 ghost use Rattle.paper.specs.Axes.{goodLimits, width, axisWithin, axisAt, onAxis};
-ghost use Rattle.paper.specs.Recipe.{sameLimits, covers};
+ghost use Rattle.paper.specs.Numbers.{alike};
+ghost use Rattle.paper.specs.Recipe.{covers};
 ghost use Rattle.paper.specs.Answers.{axisCount, axesOf, namesFor};
 ghost use Rattle.laws.specs.Limits.{Sound};
 ghost use Rattle.extent.specs.Rank.{Rank};
 ghost use Rattle.extent.specs.Judged.{fewCells, goodCells, cellsWithin};
 ghost use Rattle.extent.specs.Tests.{Ranged, inRange};
-ghost use Rattle.extent.specs.Meeting.{axisCovers, meet, meeting};
+ghost use Rattle.extent.specs.Meeting.{axisCovers, meet};
 use names::good_names;
 use paper::AXES;
 use paper::Axis;
@@ -128,35 +127,13 @@ pub fn good_extent(names: [Name; AXES], e: Extent) -> usize
     cells_of(e)
 }
 
-// ---- two extents compared
+// ---- one extent inside another
 
-// What is asked of each two axes: the same limits; the same but for the axis of an index; that the first lies inside the maximum's,
-// whose limits are in range; that the second lies inside the first.
-pub enum Asked {
-    Limits,
-    OtherLimits(AxisIndex),
+// What is asked of each two axes: that the first lies inside the maximum's, whose limits are in range; that the second lies inside the
+// first.
+enum Asked {
     Within,
     Covers,
-}
-
-// Both have the same limits.
-fn same_limits(a: Axis, b: Axis) -> bool
-    ensures { λ r. ⌜ r ≡ sameLimits a b ⌝ }
-{
-    if a.lo != b.lo {
-        return false;
-    }
-    a.hi == b.hi
-}
-
-// The same, but they don't count on the axis of index k; i is theirs.
-fn same_but(k: AxisIndex, i: usize, a: Axis, b: Axis) -> bool
-    ensures { λ r. ⌜ r ≡ (eqb i (k .0) || sameLimits a b) ⌝ }
-{
-    if i == k.0 as usize {
-        return true;
-    }
-    same_limits(a, b)
 }
 
 // The axis lies inside the maximum's, whose limits are in range.
@@ -192,21 +169,19 @@ fn axis_covers(a: Axis, b: Axis) -> bool
     on_axis(a, b.hi)
 }
 
-// What is asked of two axes of index i, from 1.
-fn axes_meet(asked: Asked, i: usize, a: Axis, b: Axis) -> bool
-    ensures { λ r. ⌜ r ≡ meet asked i a b ⌝ }
+// What is asked of two axes.
+fn axes_meet(asked: Asked, a: Axis, b: Axis) -> bool
+    ensures { λ r. ⌜ r ≡ meet asked a b ⌝ }
 {
     match asked {
-        Asked::Limits => return same_limits(a, b),
-        Asked::OtherLimits(k) => return same_but(k, i, a, b),
         Asked::Within => return axis_within(a, b),
         Asked::Covers => return axis_covers(a, b),
     }
 }
 
 // As many axes, and each two as asked.
-pub fn all_meet(asked: Asked, e: Extent, f: Extent) -> bool
-    ensures { λ r. ⌜ r ≡ meeting asked 1 (axesOf e) (axesOf f) ⌝ }
+fn all_meet(asked: Asked, e: Extent, f: Extent) -> bool
+    ensures { λ r. ⌜ r ≡ alike (meet asked) (axesOf e) (axesOf f) ⌝ }
 {
     let rank = rank_of(e);
     if rank_of(f) != rank {
@@ -214,7 +189,7 @@ pub fn all_meet(asked: Asked, e: Extent, f: Extent) -> bool
     }
     let mut i: usize = 0;
     while i < rank {
-        if !axes_meet(asked, i + 1, e.axes[i], f.axes[i]) {
+        if !axes_meet(asked, e.axes[i], f.axes[i]) {
             return false;
         }
         i += 1;

@@ -1,11 +1,10 @@
-// Names judged and compared: a letter, then letters, digits or underscores, padded with zeros; no two of an array equal. Names are
-// compared in step, the first with the first.
+// Names judged and compared: a letter, then letters, digits or underscores, padded with zeros; no two of an array equal.
 ghost use mathlib.Core.Path.{_≡_};
 ghost use mathlib.Core.List.{List, _++_};
 ghost use Prim.Native.Nat.{ℕ, _-_, _≤_};
 ghost use lib.ListN.{take, drop};
 ghost use Rattle.paper.specs.Limits.{mostAxes, halfName, sizesOf};
-ghost use Rattle.paper.specs.Numbers.{leBytes, zeros, alike};
+ghost use Rattle.paper.specs.Numbers.{leBytes, zeros};
 ghost use Rattle.paper.specs.Axes.{inName, nameRest, lettersOf, goodName, sameName, goodNames};
 ghost use Rattle.paper.specs.Bundle.{namesFit};
 ghost use Rattle.extent.specs.Names.{Left};
@@ -70,7 +69,7 @@ fn is_name(n: Name) -> bool
 }
 
 // Both are one name.
-fn same_name(m: Name, n: Name) -> bool
+pub fn same_name(m: Name, n: Name) -> bool
     ensures { λ r. ⌜ r ≡ sameName m n ⌝ }
 {
     if m.first != n.first {
@@ -121,21 +120,6 @@ pub fn good_names(names: [Name; AXES], rank: usize) -> bool
                 return false;
             }
             j += 1;
-        }
-        i += 1;
-    }
-    true
-}
-
-// The first `rank` names of both are the same.
-pub fn same_names(m: [Name; AXES], n: [Name; AXES], rank: usize) -> bool
-    requires { ⌜ rank ≤ mostAxes ⌝ }
-    ensures { λ r. ⌜ r ≡ alike sameName (take rank m) (take rank n) ⌝ }
-{
-    let mut i = 0;
-    while i < rank {
-        if !same_name(m[i], n[i]) {
-            return false;
         }
         i += 1;
     }

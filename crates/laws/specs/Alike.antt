@@ -1,33 +1,26 @@
 -- Two extents with the same limits, whatever their names, have the same cells: as many, at the same coordinates, in the same order.
 use Prim.Native.Nat.{ℕ, suc, _+_, _/_, _%_}
 use mathlib.Core.Path.{_≡_, refl, sym, ap, ap₂, _∙_}
-use mathlib.Core.Bool.{Bool, true}
+use mathlib.Core.Bool.{Bool, true, _&&_}
 use mathlib.Core.List.{List, [], _∷_, _++_}
 use native.Mathlib.Omega.{arith}
-use borrow.Author.Tests.{eqb-true}
 use lib.Dec.{eqb}
 use lib.ListN.{length}
 use Rattle.paper.specs.Numbers.{alike}
 use Rattle.paper.specs.declared.Axis.{Axis}
 use Rattle.paper.specs.Axes.{cells, inside, offset, atOffset}
-use Rattle.paper.specs.Recipe.{sameLimits}
-use Rattle.laws.specs.Tests.{and-left, and-right}
+use Rattle.laws.specs.Tests.{and-right}
 use Rattle.laws.specs.Places.{Inside, inside-true, true-inside}
+
+-- two axes have the same limits
+abbrev pub sameLimits : Axis → Axis → Bool
+sameLimits a b = eqb (a .lo) (b .lo) && eqb (a .hi) (b .hi)
 
 abbrev pub SameLimits : List Axis → List Axis → Type 0
 SameLimits [] [] = Unit {0}
 SameLimits [] (b ∷ F) = ⊥
 SameLimits (a ∷ E) [] = ⊥
 SameLimits (a ∷ E) (b ∷ F) = (a .lo ≡ b .lo) × (a .hi ≡ b .hi) × SameLimits E F
-
-pub alike-true : (E F : List Axis) → alike sameLimits E F ≡ true → SameLimits E F
-unfolding alike
-alike-true [] [] e = tt
-alike-true [] (b ∷ F) e = let z : _≡_ {A = ℕ} 0 1 = cc in omega arith
-alike-true (a ∷ E) [] e = let z : _≡_ {A = ℕ} 0 1 = cc in omega arith
-alike-true (a ∷ E) (b ∷ F) e =
-    let s = and-left (sameLimits a b) (alike sameLimits E F) e in
-    (eqb-true _ _ (and-left (eqb (a .lo) (b .lo)) _ s), eqb-true _ _ (and-right (eqb (a .lo) (b .lo)) _ s), alike-true E F (and-right (sameLimits a b) _ e))
 
 -- as many axes, whatever else is alike
 pub alike-length : (f : Axis → Axis → Bool) (E F : List Axis) → alike f E F ≡ true → length E ≡ length F

@@ -150,7 +150,7 @@ gluable k M N E F one last s e =
       one = one;
       first = last;
       second = omega arith;
-      same = glue-limits k M E N F e;
+      same = glue-limits k M E N F one e;
       sound = s;
     }
 

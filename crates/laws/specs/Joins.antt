@@ -6,7 +6,7 @@ use mathlib.Core.List.{List, [], _∷_, _++_}
 use native.Mathlib.Nat.{mul-assoc, one-mul, zero-add, add-mul, add-assoc, div-div-eq-div-mul, mul-comm, mod-lt, zero-mul, mod-eq-of-lt}
 use native.Mathlib.Omega.{arith}
 use lib.Arith.{digits-div, digits-mod, mod-mul}
-use lib.ListN.{length, getD, take, drop}
+use lib.ListN.{length, getD, take, drop, length-append, length-take, length-drop}
 use lib.Seq.{split-at, drop-cons, length-take-le, take-at, drop-at, drop-append-add}
 use Rattle.paper.specs.declared.Axis.{Axis}
 use Rattle.paper.specs.Axes.{width, cells, offset, atOffset, axisAt, without, putIn}
@@ -152,3 +152,17 @@ module _ (k : ℕ) (E : List Axis) (one : 1 ≤ k) (last : k ≤ length E) where
     -- which put together are the coordinate
     pub inside-again : putIn k (getD p (k - 1) 0) (without k p) ≡ p
     inside-again = let e = inside-length E p h in putIn-without k p 0 one (omega arith)
+
+-- as many without one of an index
+pub without-many : {X Y : Type 0} (k : ℕ) (l : List X) (m : List Y) → length l ≡ length m → length (without k l) ≡ length (without k m)
+without-many k l m e =
+    omega (
+      arith,
+      e,
+      length-append (take (k - 1) l) (drop k l),
+      length-take (k - 1) l,
+      length-drop k l,
+      length-append (take (k - 1) m) (drop k m),
+      length-take (k - 1) m,
+      length-drop k m,
+    )

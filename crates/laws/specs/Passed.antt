@@ -11,10 +11,10 @@ use lib.ListN.{length, getD, take, drop}
 use Rattle.paper.specs.declared.Sizes.{Sizes}
 use Rattle.paper.specs.declared.Operation.{Operation}
 use Rattle.paper.specs.Limits.{headBytes, mostSteps}
-use Rattle.paper.specs.Refusals.{Res, got, _>>_, if_then_else_, refusal, present, between, unknown4, badAxis5, outside6, unfit7, differ8, badResult9}
+use Rattle.paper.specs.Refusals.{Res, got, _>>_, if_then_else_, refusal, present, between, unknown4, badAxis5, outside6, unfit7, badResult9}
 use Rattle.paper.specs.Axes.{Shape}
 use Rattle.paper.specs.Recipe.{Step, Planned, operation, stepOf, operand, noShape, uses, unusedZero, axisIn, typesFit, agree, fitsIn, resultOf, goodResult, stepTests, stepResult, stepOver, planStep, planSteps, planRecipe}
-use Rattle.laws.specs.Agreeing.{Agree}
+use Rattle.laws.specs.Agreeing.{Agree, same-got}
 use Rattle.laws.specs.Tests.{got-one, bind-got, ensure-got, ensured, present-got, and-left, and-right}
 
 -- what a step's tests say of it and its operands
@@ -34,7 +34,7 @@ tests-passed z k s A B m c e =
     let u = ensure-got (unusedZero (uses op) (z .name) (length (A .axes)) s) unknown4 k _ tt (h .1) in
     let x = ensure-got (axisIn (uses op) (length (A .axes)) (s .axis)) badAxis5 k _ tt (u .1) in
     let t = ensure-got (typesFit op s (A .type) (B .type)) unfit7 k _ tt (x .1) in
-    let g = ensure-got (agree op (s .axis) (A .names) (A .axes) (B .names) (B .axes)) differ8 k _ tt (t .1) in
+    let g = same-got (agree op (s .axis) (A .names) (A .axes) (B .names) (B .axes)) k _ tt (t .1) in
     let f = ensured (fitsIn op s A B) outside6 k (g .1) in
     (record { unused = u .0; axis = x .0; types = t .0; agrees = g .0; fits = f }, h .2)
 

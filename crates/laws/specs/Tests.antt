@@ -42,6 +42,14 @@ pub and-and : (x y z : Bool) → (x && (y && z)) ≡ ((x && y) && z)
 and-and true y z = refl
 and-and false y z = refl
 
+-- two tests of two, the one after the other or both of the one first
+pub and-crossed : (n l N L : Bool) → ((n && l) && (N && L)) ≡ ((n && N) && (l && L))
+and-crossed true true true L = refl
+and-crossed true true false L = refl
+and-crossed true false true L = refl
+and-crossed true false false L = refl
+and-crossed false l N L = refl
+
 pub no-both : (b : Bool) → b ≡ true → b ≡ false → ⊥
 no-both b e f = let z : _≡_ {A = ℕ} 0 1 = cc in omega arith
 

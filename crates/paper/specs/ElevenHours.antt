@@ -69,7 +69,7 @@ table =
     ∷ same (said one (run roster recipe (replicate 179 7) .answer)) (10 ∷ 0 ∷ 0 ∷ [])
     -- what is printed, with the shift and without
     ∷ same (rests roster recipe) (text "found 1\n3 2 1\n")
-    ∷ same (rests roster unshifted) (text "refused 8 3 0\n")
+    ∷ same (rests roster unshifted) (text "refused 8 3 22\n")
     ∷ []
 
 pub eleven-hours : all table ≡ true

@@ -30,7 +30,8 @@ unfolding Limits.sizesOf Numbers.leBytes Numbers.position Numbers.distance Numbe
     Bundle.packed Bundle.putInto Reference.chosen Reference.referred Reference.reference Reference.seen Reference.walkedOn Totals.totals?
     Totals.filledFrom Totals.holds Totals.best Totals.bestOf Totals.int Totals.intTotal Totals.intSum Totals.float Totals.sumOn
     Totals.floatSum Totals.totalOf Totals.totals Recipe.operation Recipe.operand Recipe.uses Recipe.unusedZero Recipe.isScalar
-    Recipe.takesType Recipe.typesFit Recipe.agree Recipe.eachAnew Recipe.glued Recipe.fitsIn Recipe.resultType Recipe.resultNames
+    Recipe.takesType Recipe.typesFit Recipe.axisDiffers Recipe.inStep Recipe.firstDifference Recipe.agree Recipe.eachAnew Recipe.glued
+    Recipe.fitsIn Recipe.resultType Recipe.resultNames
     Recipe.resultAxes
     Recipe.stepTests Recipe.stepResult Recipe.stepOver Recipe.planStep Recipe.planSteps Recipe.planRecipe Values.shiftedBack Values.whence
     Values.taken Values.made Values.cellAt Values.settled Values.valueOf Values.valuesFrom Listing.planned Listing.plan Listing.workAfter

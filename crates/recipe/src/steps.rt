@@ -26,9 +26,10 @@ use paper::StepNumber;
 use paper::Version;
 use refusals::none;
 use refusals::refuse;
+use refusals::refuse_at;
 use shape::starred;
 use step::StepHead;
-use step::agreeing::agrees;
+use step::agreeing::difference;
 use step::operation::OperationGot;
 use step::operation::operation_of;
 use step::tests::fits_in;
@@ -94,8 +95,9 @@ fn step_refusal(step: StepHead, used: Used, a: Form, b: Form, k: StepNumber, s: 
     let axis = AxisIndex(step.axis as u32);
     let m = a.names;
     let n = b.names;
-    if !agrees(op, axis, m, a.extent, n, b.extent) {
-        return refuse(8, k.0);
+    let d = difference(op, axis, m, a.extent, n, b.extent);
+    if d != 0 {
+        return refuse_at(8, k.0, d);
     }
     if !fits_in(step, a, b, s) {
         return refuse(6, k.0);

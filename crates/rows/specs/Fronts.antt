@@ -15,12 +15,11 @@ use Rattle.paper.specs.declared.Axis.{Axis}
 use Rattle.paper.specs.declared.Extent.{Extent}
 use Rattle.paper.specs.Limits.{mostAxes}
 use Rattle.paper.specs.Axes.{cells, atOffset, noAxis}
-use Rattle.paper.specs.Recipe.{sameLimits}
 use Rattle.paper.specs.Answers.{axisCount, axesOf}
 use Rattle.laws.specs.Tests.{and-left, and-right}
 use Rattle.laws.specs.Answers.{axes-few}
 use Rattle.laws.specs.Limits.{cells-pos, sound-take, sound-drop}
-use Rattle.laws.specs.Alike.{SameLimits}
+use Rattle.laws.specs.Alike.{sameLimits, SameLimits}
 use Rattle.laws.specs.Joins.{cells-append}
 use Rattle.extent.specs.Rank.{axisNo}
 use Rattle.extent.specs.Judged.{Small}

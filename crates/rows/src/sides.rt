@@ -5,7 +5,7 @@ ghost use Prim.Native.Nat.{_*_, _≤_, _<_};
 ghost use lib.ListN.{length, take};
 ghost use Rattle.paper.specs.Limits.{mostCells};
 ghost use Rattle.paper.specs.Axes.{width, cells};
-ghost use Rattle.paper.specs.Recipe.{sameLimits};
+ghost use Rattle.laws.specs.Alike.{sameLimits};
 ghost use Rattle.paper.specs.Answers.{axesOf};
 ghost use Rattle.extent.specs.Judged.{Small};
 ghost use Rattle.extent.specs.Tests.{Ranged};

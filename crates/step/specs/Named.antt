@@ -19,22 +19,9 @@ use Rattle.paper.specs.Bundle.{nameFrom}
 use Rattle.paper.specs.Recipe.{Step, uses, axisIn, glued, renamed, resultNames, resultAxes}
 use Rattle.paper.specs.Answers.{axesOf, namesFor}
 use Rattle.laws.specs.Tests.{between-true}
+use Rattle.laws.specs.Joins.{without-many}
 use Rattle.shape.specs.Renewed.{length-anew}
 use Rattle.shape.specs.Names.{names-in-detail}
-
--- as many without one of an index
-pub without-many : {X Y : Type 0} (k : ℕ) (l : List X) (m : List Y) → length l ≡ length m → length (without k l) ≡ length (without k m)
-without-many k l m e =
-    omega (
-      arith,
-      e,
-      length-append (take (k - 1) l) (drop k l),
-      length-take (k - 1) l,
-      length-drop k l,
-      length-append (take (k - 1) m) (drop k m),
-      length-take (k - 1) m,
-      length-drop k m,
-    )
 
 -- what an operation makes of the names of A, whose extent is e, a name in the detail having w bytes
 abbrev pub NamesTold : ℕ → Operation → Step → List Name → Extent → List Name → Type 0

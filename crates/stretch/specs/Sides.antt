@@ -15,7 +15,7 @@ use Rattle.paper.specs.declared.Refusal.{Refusal}
 use Rattle.paper.specs.declared.Move.the-variants.{Glue}
 use Rattle.paper.specs.declared.Operation.the-variants.{Moves}
 use Rattle.paper.specs.Limits.{cellBytes}
-use Rattle.paper.specs.Refusals.{Res, got, refused, between, badBytes1, badExtent2, badAxis5, unfit7, differ8, badResult9}
+use Rattle.paper.specs.Refusals.{Res, got, refused, between, badBytes1, badExtent2, badAxis5, unfit7, badResult9}
 use Rattle.paper.specs.Numbers.{none?}
 use Rattle.paper.specs.Axes.{cells, goodExtent}
 use Rattle.paper.specs.Cells.{isType}
@@ -25,6 +25,7 @@ use Rattle.paper.specs.Stretch.{Side, judge, glueTests}
 use Rattle.paper.specs.Answers.{axesOf, namesFor, unless}
 use Rattle.laws.specs.Tests.{and-right, between-true, ensure-got, ensured}
 use Rattle.laws.specs.Answers.{unless-refused, unless-got}
+use Rattle.laws.specs.Agreeing.{same-got}
 use Rattle.laws.specs.Glue.{Gluable, gluable, length-glued}
 use Rattle.extent.specs.Judged.{goodCells, Small, good-small}
 
@@ -86,7 +87,7 @@ glue-passed l r k s e =
     let M = l .names in
     let i = ensure-got (between 1 (length E) k) badAxis5 0 _ tt e in
     let t = ensure-got (eqb (l .type) (r .type)) unfit7 0 _ tt (i .1) in
-    let a = ensure-got (agree (Moves Glue) k M E (r .names) F) differ8 0 _ tt (t .1) in
+    let a = same-got (agree (Moves Glue) k M E (r .names) F) 0 _ tt (t .1) in
     let g = and-right (not (none? G)) (goodExtent M G) (ensured (goodResult M G) badResult9 0 (a .1)) in
     let b = between-true (length E) k (i .0) in
     (gluable k M (r .names) E F (b .0) (b .1) (s .sound) (a .0), good-small M G g)

@@ -35,8 +35,9 @@ use paper::Version;
 use refusals::in_range;
 use refusals::none;
 use refusals::refuse;
+use refusals::refuse_at;
 use shape::glued_along;
-use step::agreeing::agrees;
+use step::agreeing::difference;
 use versions::Told;
 use versions::sizes;
 use versions::version_told;
@@ -94,15 +95,10 @@ fn glue_refusal(
     if left_kind != right_kind {
         return refuse(7, 0);
     }
-    if !agrees(
-        Operation::Moves(Move::Glue),
-        axis,
-        left_names,
-        left,
-        right_names,
-        right,
-    ) {
-        return refuse(8, 0);
+    let glue = Operation::Moves(Move::Glue);
+    let d = difference(glue, axis, left_names, left, right_names, right);
+    if d != 0 {
+        return refuse_at(8, 0, d);
     }
     if good_extent(left_names, glued_along(left, right, axis)) == 0 {
         return refuse(9, 0);

@@ -8,7 +8,7 @@ use lib.Dec.{eqb}
 use Rattle.paper.specs.declared.Sizes.{Sizes}
 use Rattle.paper.specs.declared.Refusal.{Refusal}
 use Rattle.paper.specs.Limits.{version1, version2}
-use Rattle.paper.specs.Refusals.{Res, got, refused, _>>=_, if_then_else_, refusal, ensure, present, between, badBytes1, badPage11}
+use Rattle.paper.specs.Refusals.{Res, got, refused, _>>=_, if_then_else_, refusal, ensure, ensureSame, present, between, badBytes1, differ8, badPage11}
 use Rattle.paper.specs.Axes.{Shape}
 use Rattle.paper.specs.Bundle.{versionTold, sizesIn, cellsOf, arrayOf, readArray, readArrays, readAs, readBundle}
 use Rattle.paper.specs.Recipe.{stepTests, stepResult, stepOver, planStep, planSteps, planRecipe}
@@ -34,12 +34,19 @@ ensure-early : (t : Bool) (n k : ℕ) → between 1 badPage11 n ≡ true → Ear
 ensure-early true n k h = done tt
 ensure-early false n k h = refused-early (refusal n k 0) h
 
+same-early : (d k : ℕ) → Early (ensureSame d k)
+same-early d k = by (eqb d 0)
+  where
+    by : (t : Bool) → Early {A = Unit {0}} (if t then got tt else refused (refusal differ8 k d))
+    by true = done tt
+    by false = refused-early {A = Unit {0}} (refusal differ8 k d) refl
+
 present-early : {A : Type 0} (o : Option A) (r : Refusal) → between 1 badPage11 (r .number) ≡ true → Early (present o r)
 present-early none r h = refused-early r h
 present-early (some a) r h = done a
 
 -- what follows of a `do` block is found line by line
-ruleset tests = (done, then-early, ensure-early, present-early)
+ruleset tests = (done, then-early, ensure-early, same-early, present-early)
 
 cells-early : (n k t o : ℕ) (bs : List ℕ) → Early (cellsOf k t o n bs)
 unfolding cellsOf

@@ -2,6 +2,7 @@
 use mathlib.Core.Path.{_≡_, sym, _∙_}
 use mathlib.Core.Bool.{true}
 use mathlib.Core.List.{List}
+use native.Mathlib.Omega.{arith}
 use borrow.Author.Needs.{needs}
 use borrow.Author.Tests.{not-true, not-false, eq-eqb, ne-eqb}
 use lib.ListN.{length}
@@ -10,7 +11,7 @@ use Rattle.paper.specs.declared.Axis.{Axis}
 use Rattle.paper.specs.declared.Move.the-variants.{Glue}
 use Rattle.paper.specs.declared.Operation.the-variants.{Moves}
 use Rattle.paper.specs.Refusals.{between}
-use Rattle.paper.specs.Recipe.{glued}
+use Rattle.paper.specs.Recipe.{uses, glued}
 use Rattle.paper.specs.Answers.{axesOf, namesFor}
 use Rattle.paper.specs.Stretch.{glueTests}
 use Rattle.laws.specs.Tests.{between-true}
@@ -46,7 +47,10 @@ module _ (c : tie.Else3) where
   N = namesFor F (s .args .right-names)
 
   agree-told : Agree (Moves Glue) (s .args .axis .0) M E N F
-  agree-told = sym (c .before .agrees .ensures) ∙ not-false _ (c .if3 .left)
+  agree-told = sym (c .before .difference .ensures) ∙ same
+    where
+      same : c .before .difference .result ≡ 0
+      same = omega (arith, c .if3 .left)
 
   fits : Gluable (s .args .axis .0) E F
   fits = let b = between-true _ _ (inside first) in gluable _ M N E F (b .0) (b .1) (s .pre .0 .sound) agree-told
@@ -62,12 +66,17 @@ returns-2 : tie.Need-returns-2
 unfolding glueTests
 returns-2 c = record { said = λ bs cs. rw (c .refuse2 .ensures, inside (c .before .before), ne-eqb _ _ (c .before .if2 .taken)) }
 
+difference-requires : tie.Need-difference-requires
+unfolding uses
+difference-requires c κs = inside (c .before)
+
 returns-3 : tie.Need-returns-3
 unfolding glueTests
 returns-3 c =
     let q = c .before .before .before in
-    let n = sym (c .before .before .agrees .ensures) ∙ not-true _ (c .before .if3 .taken) in
-    record { said = λ bs cs. rw (c .refuse3 .ensures, inside (q .before), eq-eqb _ _ (q .if2 .left), n) }
+    let n = sym (c .before .before .difference .ensures) in
+    let t = eq-eqb _ _ (q .if2 .left) in
+    record { said = λ bs cs. rw (c .refuse-at .ensures, inside (q .before), t, n, ne-eqb _ 0 (c .before .if3 .taken)) }
 
 glued-along-requires : tie.Need-glued-along-requires
 glued-along-requires c κs =
@@ -92,7 +101,7 @@ returns-4 c =
     let t = eq-eqb _ _ (q .before .before .if2 .left) in
     let g = good-zero (M q) (G d) (sym (counted d) ∙ c .before .if4 .taken) in
     record {
-      said = λ bs cs. rw (c .refuse4 .ensures, inside (first q), t, agree-told q, glued-some (fits q), g);
+      said = λ bs cs. rw (c .refuse3 .ensures, inside (first q), t, agree-told q, glued-some (fits q), g);
     }
 
 returns-5 : tie.Need-returns-5
@@ -111,5 +120,5 @@ glue-refusal-spec =
     tie.close
     (tie.spec
     (λ c. search needs) (λ c κs. search needs) (λ c κs. search needs) (λ c κs. search needs) returns
-    (λ c κs. search needs) returns-2 (λ c κs. search needs) (λ c κs. search needs) returns-3 glued-along-requires
+    (λ c κs. search needs) returns-2 difference-requires (λ c κs. search needs) returns-3 glued-along-requires
     (λ c κs. search needs) (λ c κs. search needs) returns-4 (λ c κs. search needs) returns-5)

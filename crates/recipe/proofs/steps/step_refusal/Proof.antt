@@ -3,8 +3,9 @@ use Prim.Native.Nat.{ℕ}
 use mathlib.Core.Path.{_≡_, sym, ap, subst, _∙_}
 use mathlib.Core.Bool.{Bool, true, false, not, _||_}
 use denote.Ref.{now}
+use native.Mathlib.Omega.{arith}
 use lib.ListN.{length}
-use borrow.Author.Tests.{not-true, not-false}
+use borrow.Author.Tests.{not-true, not-false, ne-eqb}
 use borrow.Author.Needs.{needs}
 use Rattle.paper.specs.Refusals.{outside6, between, ensure}
 use Rattle.paper.specs.Axes.{Shape}
@@ -78,17 +79,21 @@ module _ (c : tie.After-types-fit) where
   types-told b e = sym (c .types-fit .ensures) ∙ e
 
 -- 8
-module _ (c : tie.After-agrees) where
+module _ (c : tie.After-difference) where
   abbrev past7 : tie.Else3
   past7 = c .before .before .before .before
 
   abbrev in7 : tie.After-types-fit
   in7 = past7 .before
 
-  agrees-told : (b : Bool) → c .agrees .result ≡ b
-      → agree (st (in5 (past5 in7)) .operation) (st (in5 (past5 in7)) .axis) (A (in5 (past5 in7)) .names) (A (in5 (past5 in7)) .axes)
-      (B (in5 (past5 in7)) .names) (B (in5 (past5 in7)) .axes) ≡ b
-  agrees-told b e = sym (c .agrees .ensures) ∙ e
+  differs-told : agree (st (in5 (past5 in7)) .operation) (st (in5 (past5 in7)) .axis) (A (in5 (past5 in7)) .names)
+      (A (in5 (past5 in7)) .axes) (B (in5 (past5 in7)) .names) (B (in5 (past5 in7)) .axes)
+      ≡ c .difference .result
+  differs-told = sym (c .difference .ensures)
+
+-- nothing differs
+none-differs : (c : tie.Else4) → c .before .difference .result ≡ 0
+none-differs c = omega (arith, c .if4 .left)
 
 -- 6, where the tests before it held
 module _ (c : tie.After-fits-in) where
@@ -106,7 +111,7 @@ module _ (c : tie.After-fits-in) where
         held4 (past4 (past5 in6 .before)),
         held5 (past5 in6),
         types-told in6 true (not-false _ (past7 (c .before .before) .if3 .left)),
-        agrees-told (c .before .before) true (not-false _ (c .before .if4 .left)),
+        differs-told (c .before .before) ∙ none-differs (c .before),
         sym (c .fits-in .ensures) ∙ e,
       )
 
@@ -132,21 +137,25 @@ returns-3 c =
     let x = c .before .before in
     rw (c .refuse3 .ensures, held4 (past4 (past5 x .before)), held5 (past5 x), types-told x false (not-true _ (c .before .if3 .taken)))
 
+difference-requires : tie.Need-difference-requires
+difference-requires c κs = held5 (c .before .before .before .before .before)
+
 returns-4 : tie.Need-returns-4
 unfolding stepTests
 returns-4 c =
     let y = c .before .before in
     let x = in7 y in
     rw (
-      c .refuse4 .ensures,
+      c .refuse-at .ensures,
       held4 (past4 (past5 x .before)),
       held5 (past5 x),
       types-told x true (not-false _ (past7 y .if3 .left)),
-      agrees-told y false (not-true _ (c .before .if4 .taken)),
+      differs-told y,
+      ne-eqb _ 0 (c .before .if4 .taken),
     )
 
 returns-5 : tie.Need-returns-5
-returns-5 c = rw (c .refuse5 .ensures, fits-told (c .before .before) false (not-true _ (c .before .if5 .taken)))
+returns-5 c = rw (c .refuse4 .ensures, fits-told (c .before .before) false (not-true _ (c .before .if5 .taken)))
 
 returns-6 : tie.Need-returns-6
 returns-6 c = rw (c .none .ensures, fits-told (c .before .before) true (not-false _ (c .before .if5 .left)))
@@ -157,5 +166,5 @@ step-refusal-spec =
     (tie.spec
     unused-zero-requires (λ c κs. search needs) returns (λ c κs. search needs) (λ c κs. search needs)
     (λ c κs. search needs) returns-2 types-fit-requires (λ c κs. search needs) returns-3 (λ c. search needs)
-    (λ c κs. search needs) (λ c κs. search needs) returns-4 (λ c κs. search needs) (λ c κs. search needs) returns-5
+    difference-requires (λ c κs. search needs) returns-4 (λ c κs. search needs) (λ c κs. search needs) returns-5
     (λ c κs. search needs) returns-6)
