@@ -42,8 +42,10 @@
 //!     .pair(step(1), step(2), Operator::Minus) // the turns 2:3 and 1:2 don't meet
 //!     .right_scalar(step(3), Operator::Less, Cell::Int(660));
 //! let refusal = roster.listing(&no_shift).unwrap_err();
-//! assert_eq!(refusal.to_string(), "refused 8 3 0");
-//! assert_eq!(refusal.words(), "step 3: the two arrays do not agree in axes, names or limits");
+//! assert_eq!(refusal.to_string(), "refused 8 3 22"); // axis 2, its lower limit
+//! assert_eq!(refusal.words(), "step 3, axis 2: the lower limits of the two arrays differ");
+//! let by_name = "step 3: axis 2, turn, begins at 2 in step 1's result and at 1 in step 2's result";
+//! assert_eq!(refusal.words_for(&roster, &no_shift), by_name);
 //! # Ok::<(), rovgrint::Refusal>(())
 //! ```
 //!
@@ -80,6 +82,7 @@ mod bundle;
 #[allow(unsafe_code)]
 mod call;
 mod cell;
+mod differs;
 mod extent;
 mod json;
 mod listing;

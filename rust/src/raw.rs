@@ -7,7 +7,8 @@
 //!
 //! A call returns the number of its refusal, 0 for none. Refused, `said` begins with the place and the ordinality (two u32); else with
 //! the bytes that the function names. Bytes of `said` after these stay; an answer longer than `said` is cut there. [`SAID`] bytes are
-//! room for every answer.
+//! room for every answer. The ordinality is a cell with 3, 12 and 13, a byte of the text with 15 and 16, and with 8 what differs first: 4
+//! for the axis count, else ten times the axis's index and 1 for its name, 2 for its lower limit, 3 for its upper one.
 //!
 //! A bundle is of version 1 or 2; what takes a bundle finds its version in its bytes, and [`rma_pack`], [`rma_stretch`] and
 //! [`rma_read_json`] are told it as their first argument. A told version other than 1 and 2, in all its 32 bits, is refused with 1, place 0, before all else.

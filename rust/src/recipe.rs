@@ -4,11 +4,12 @@ use crate::cell::Cell;
 use crate::extent::name_bytes;
 use crate::version::Version;
 
-/// The operation that removes an axis.
+/// The operation that removes an axis, and the one that takes a B without one.
 const SLICE: u8 = 2;
+pub(crate) const PLACE: u8 = 7;
 
 /// The result of step k is operand k and this.
-const STEPS_FROM: usize = 16;
+pub(crate) const STEPS_FROM: usize = 16;
 
 /// The operand that is the result of step k, 1 to 16, of the recipe. (Operands 1 to 4 are the bundle's arrays.)
 pub const fn step(k: u8) -> u8 {
@@ -171,7 +172,7 @@ impl Recipe {
 
     /// Operation 7: A with B's cells, empty ones too, at that position of the axis; B has one axis fewer.
     pub fn place(self, a: u8, b: u8, axis: u8, position: i32) -> Recipe {
-        self.with([7, a, b, axis], Some(position.to_le_bytes().to_vec()))
+        self.with([PLACE, a, b, axis], Some(position.to_le_bytes().to_vec()))
     }
 
     /// Operation 8: A then B along the axis; A's lower limit is kept.

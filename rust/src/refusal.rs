@@ -4,7 +4,9 @@ use std::error::Error;
 use std::fmt;
 use std::hash::{Hash, Hasher};
 
-/// A refusal of the engine. It prints as `refused 8 3 0`: number, place, ordinality.
+use crate::differs::Differs;
+
+/// A refusal of the engine. It prints as `refused 8 3 22`: number, place, ordinality.
 ///
 /// | Number | Given exactly when |
 /// |---|---|
@@ -15,7 +17,7 @@ use std::hash::{Hash, Hasher};
 /// | 5 | axis index not in A; for a reference, wrong number of coordinates |
 /// | 6 | a trim pair, a position or a patch outside A; a coordinate beyond the maximum; an ordinality or walking place outside |
 /// | 7 | types or scalar unfit; listing of a result that isn't BOOLEAN; FLOAT as JSON |
-/// | 8 | axis count, or names or limits compared, differ |
+/// | 8 | axis count, or names or limits compared, differ; the first axis that does, and in what |
 /// | 9 | the result has no axis, over 4,096 cells, a limit out of range or crossed, bad or equal names |
 /// | 10 | work area under nine bytes for each cell of all results |
 /// | 11 | no room for one row; start 0 or over cells + 1 |
@@ -33,7 +35,8 @@ pub struct Refusal {
     /// The array, the step or the side, counted from 1; 0 for what belongs to none.
     pub place: u32,
     /// The cell, with 3, 12 and 13; with 15 and 16 the byte of the text, counted from 1, or [`u32::MAX`] where it lies there or after it;
-    /// else 0.
+    /// with 8 what differs first: 4 for the axis count, else ten times the axis's index in A (or in the left array of a stretch), and 1 for
+    /// its name, 2 for its lower limit, 3 for its upper one; else 0.
     pub ordinality: u32,
     /// What the place counts.
     pub counts: Counts,
@@ -58,14 +61,15 @@ impl Refusal {
         [self.number, self.place, self.ordinality]
     }
 
-    /// The refusal as one plain sentence, with its place and its cell, or its byte of a text. [`words_in`](Refusal::words_in) shows that text too.
+    /// The refusal as one plain sentence, with its place and its cell, its axis, or its byte of a text. [`words_in`](Refusal::words_in)
+    /// shows that text too, and [`words_for`](Refusal::words_for) what stands on that axis in the two arrays.
     ///
     /// ```
     /// use rovgrint::{Counts, Refusal};
     ///
-    /// let refusal = Refusal { number: 8, place: 3, ordinality: 0, counts: Counts::Steps };
-    /// assert_eq!(refusal.words(), "step 3: the two arrays do not agree in axes, names or limits");
-    /// assert_eq!(refusal.to_string(), "refused 8 3 0");
+    /// let refusal = Refusal { number: 8, place: 3, ordinality: 22, counts: Counts::Steps };
+    /// assert_eq!(refusal.words(), "step 3, axis 2: the lower limits of the two arrays differ");
+    /// assert_eq!(refusal.to_string(), "refused 8 3 22");
     /// ```
     pub fn words(&self) -> String {
         let place = match (self.counts, self.place) {
@@ -77,6 +81,7 @@ impl Refusal {
         };
         let counted = match (self.number, self.ordinality) {
             (_, 0) => String::new(),
+            (8, _) => self.differs().and_then(Differs::axis).map_or(String::new(), |index| format!("axis {index}")),
             (15 | 16, u32::MAX) => format!("byte {} or after it", u32::MAX),
             (15 | 16, byte) => format!("byte {byte}"),
             (_, cell) => format!("cell {cell}"),
@@ -88,6 +93,11 @@ impl Refusal {
         } else {
             format!("{}: {reason}", places.join(", "))
         }
+    }
+
+    /// What differs first, with 8, if its ordinality says it.
+    pub(crate) fn differs(&self) -> Option<Differs> {
+        (self.number == 8).then(|| Differs::of(self.ordinality)).flatten()
     }
 
     /// What its number says of an array, a step or a side.
@@ -111,7 +121,7 @@ impl Refusal {
             (7, Counts::Steps, _) => "the types do not fit, or a listing's last result is not BOOLEAN",
             (7, Counts::Sides, _) => "the two arrays have different types",
             (7, Counts::Nothing, _) => "JSON is not read into a FLOAT array",
-            (8, _, _) => "the two arrays do not agree in axes, names or limits",
+            (8, _, _) => self.differs().map_or("the two arrays do not agree in axes, names or limits", Differs::reason),
             (9, _, _) => "the result's extent is bad: no axis, a name, a limit, or over 4,096 cells",
             (10, _, _) => "the work area is under nine bytes for each cell of all results",
             (11, _, _) => "the row buffer has no room for one row, or the start is outside the listing",

@@ -10,8 +10,8 @@ use crate::version::Version;
 ///
 /// Cells are nine bytes each and aren't judged; maxima aren't looked at. The version tells how long names may be, and how many axes there
 /// may be. Refused for left (place 1), then right (place 2): 1 for the number of axes, 2 for the extent (also for a name that the version
-/// has no room for), 1 for cells that aren't nine bytes each; then with place 0 as a glue is, 5, 7, 8, 9; then 6 for an ordinality of 0
-/// or past the end.
+/// has no room for), 1 for cells that aren't nine bytes each; then with place 0 as a glue is, 5, 7, 8, 9, and 8 says which axis differs;
+/// then 6 for an ordinality of 0 or past the end.
 ///
 /// ```
 /// use rovgrint::{stretch, Axis, Cell, Head, Kind, Version};

@@ -1,8 +1,9 @@
 //! The library held against the paper: the same cases are put to both, and every answer and every byte that was lent must be equal.
 //! `RMA_SEED` gives the seed (else the clock), `RMA_CASES` the number of cases (else 240,000). From that many cases on, each thing that
 //! `cases::met`, `cases::met_json`, `cases::met_reads`, `cases::met_moves` and `cases::met_versions` count must have been met in a
-//! hundred of them. Each case of version 1 that can be said in version 2 is rewritten so, and the library must answer both alike
-//! (`cases::same`). What is reported goes straight to standard output, so that it is seen whether the test passes or not.
+//! hundred of them, and each that `cases::met_axes` counts in two hundred. Each case of version 1 that can be said in version 2 is
+//! rewritten so, and the library must answer both alike (`cases::same`). What is reported goes straight to standard output, so that it is
+//! seen whether the test passes or not.
 
 mod cases;
 mod paper;
@@ -10,12 +11,13 @@ mod paper;
 use cases::answers::{library_answers, paper_answers};
 use cases::dice::Dice;
 use cases::met::Met;
+use cases::met_axes::MetAxes;
 use cases::met_json::MetJson;
 use cases::met_moves::MetMoves;
 use cases::met_reads::MetReads;
 use cases::met_versions::MetVersions;
 use cases::printed::Ask;
-use cases::{printed, readings, same, Answer, Case, Function, FUNCTIONS};
+use cases::{axes, printed, readings, same, Answer, Case, Function, FUNCTIONS};
 use paper::version::VERSIONS;
 use std::io::Write;
 use std::time::{Instant, SystemTime, UNIX_EPOCH};
@@ -23,6 +25,7 @@ use std::time::{Instant, SystemTime, UNIX_EPOCH};
 const CASES: u64 = 240_000;
 const PRINTED_DIFFERENCES: u64 = 20;
 const LEAST_MET: u64 = 100;
+const LEAST_AXES: u64 = 200;
 
 /// How many cases a function had, and how many ended with each number (0: done).
 #[derive(Clone, Copy, Default)]
@@ -38,6 +41,7 @@ struct Report {
     tallies: [Tally; FUNCTIONS.len()],
     rewritten: [u64; FUNCTIONS.len()],
     met: Met,
+    met_axes: MetAxes,
     met_json: MetJson,
     met_reads: MetReads,
     met_moves: MetMoves,
@@ -66,10 +70,10 @@ fn hex(bytes: &[u8]) -> String {
 
 impl Report {
     fn new(seed: u64) -> Report {
-        let (met, met_json, met_reads) = (Met::new(), MetJson::new(), MetReads::new());
+        let (met, met_axes, met_json, met_reads) = (Met::new(), MetAxes::new(), MetJson::new(), MetReads::new());
         let (met_moves, met_versions) = (MetMoves::new(), MetVersions::new());
         let (tallies, rewritten) = ([Tally::default(); FUNCTIONS.len()], [0; FUNCTIONS.len()]);
-        Report { seed, tallies, rewritten, met, met_json, met_reads, met_moves, met_versions, cases: 0, differ: 0, apart: 0 }
+        Report { seed, tallies, rewritten, met, met_axes, met_json, met_reads, met_moves, met_versions, cases: 0, differ: 0, apart: 0 }
     }
 
     /// The function that is furthest behind its share of the cases.
@@ -87,6 +91,7 @@ impl Report {
         tally.cases += 1;
         tally.ended[paper.number as usize] += 1;
         self.met.count(case, paper.number);
+        self.met_axes.count(case, paper.number);
         self.met_json.count(case, paper.number);
         self.met_reads.count(case, paper.number);
         self.met_moves.count(case, paper.number);
@@ -136,18 +141,19 @@ impl Report {
             let counts: Vec<String> = refused.map(|number| format!("{number}: {}", tally.ended[number])).collect();
             print(&format!("{name} {} cases: {} done, refused {}", tally.cases, tally.ended[0], counts.join(", ")));
         }
-        let lines = [self.met.lines(), self.met_json.lines(), self.met_reads.lines(), self.met_moves.lines(), self.met_versions.lines()];
-        lines.concat().iter().for_each(|line| print(line));
+        let lines = [self.met.lines(), self.met_axes.lines(), self.met_json.lines(), self.met_reads.lines()];
+        let more = [self.met_moves.lines(), self.met_versions.lines()];
+        lines.iter().chain(&more).flatten().for_each(|line| print(line));
         let rewritten = FUNCTIONS.iter().zip(&self.rewritten).map(|((_, name, _), count)| format!("{count} {name}"));
         print(&format!("cases of version 1 rewritten as version 2: {}", rewritten.collect::<Vec<String>>().join(", ")));
     }
 
-    /// What fewer cases than that met, and the functions of which fewer cases were rewritten.
+    /// What fewer cases than that met, and the functions of which fewer cases were rewritten; and where 8 was met too seldom.
     fn seldom(&self, least: u64) -> Vec<String> {
         let rewritten = FUNCTIONS.iter().zip(&self.rewritten).filter(|(_, count)| **count < least);
         let rewritten = rewritten.map(|((_, name, _), count)| format!("{count} {name} rewritten")).collect();
         let met = [self.met.seldom(least), self.met_json.seldom(least), self.met_reads.seldom(least), self.met_moves.seldom(least)];
-        [met.concat(), self.met_versions.seldom(least), rewritten].concat()
+        [met.concat(), self.met_axes.seldom(LEAST_AXES), self.met_versions.seldom(least), rewritten].concat()
     }
 }
 
@@ -171,7 +177,7 @@ fn library_and_paper_answer_alike() {
     assert_eq!(report.differ, 0, "cases that differ, of {}", report.cases);
     assert_eq!(report.apart, 0, "cases of version 1 that version 2 answers otherwise, of {rewritten}");
     let seldom = report.seldom(LEAST_MET);
-    assert!(report.cases < CASES || seldom.is_empty(), "met in fewer than {LEAST_MET} cases: {seldom:?}");
+    assert!(report.cases < CASES || seldom.is_empty(), "met in too few cases: {seldom:?}");
 }
 
 /// The paper's demands on itself: valid bytes read and packed are those bytes, ordinalities count the coordinates in row-major
@@ -248,6 +254,7 @@ fn the_paper_answers_both_versions_alike() {
 fn the_paper_answers_as_it_prints() {
     for sizes in VERSIONS {
         printed::all(Ask { sizes, answers: &paper_answers });
+        axes::all(Ask { sizes, answers: &paper_answers });
         readings::all(Ask { sizes, answers: &paper_answers });
     }
 }
@@ -257,6 +264,7 @@ fn the_library_answers_as_the_paper_prints() {
     let library = |case: &Case| library_answers(case).expect("nothing changed that was not lent");
     for sizes in VERSIONS {
         printed::all(Ask { sizes, answers: &library });
+        axes::all(Ask { sizes, answers: &library });
         readings::all(Ask { sizes, answers: &library });
     }
 }

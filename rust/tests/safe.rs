@@ -467,7 +467,7 @@ mod values {
         assert_eq!(of(Recipe::new(ONE).reshape(1, &[(1, 3), (1, 2)]), 6), Ok(wider));
         assert_eq!(of(Recipe::new(ONE).place(1, 2, 1, 1), 4), Ok(ints([8, 9, 3, 4])));
         let renamed = Recipe::new(ONE).rename(1, &["k", "l"]);
-        assert_eq!(of(renamed.clone().update(1, step(1)), 4), Err(refused(8, 2, 0)));
+        assert_eq!(of(renamed.clone().update(1, step(1)), 4), Err(refused(8, 2, 11)));
         assert_eq!(of(renamed.rename(step(1), &["i", "j"]).update(1, step(2)), 4), Ok(ints([1, 2, 3, 4])));
         assert_eq!(of(Recipe::new(ONE).single(1, Single::Negate), 4), Ok(ints([-1, -2, -3, -4])));
         assert_eq!(of(Recipe::new(ONE).left_scalar(1, Operator::Minus, Cell::Int(10)), 4), Ok(ints([9, 8, 7, 6])));
@@ -567,7 +567,7 @@ mod not_hidden {
         assert_eq!(Bundle::read(&[]).map(|_| ()), Err(refused(1, 0, 0)));
         let bytes = roster();
         assert_eq!(Bundle::read(&bytes[..bytes.len() - 1]).map(|_| ()), Err(refused(1, 2, 0)));
-        assert_eq!(refused(8, 3, 0).to_string(), "refused 8 3 0");
+        assert_eq!(refused(8, 3, 22).to_string(), "refused 8 3 22");
     }
 }
 
@@ -607,7 +607,7 @@ mod plans {
             (Recipe::new(ONE).slice(1, 3, 1), refused(5, 1, 0)),
             (Recipe::new(ONE).slice(1, 1, 1).slice(step(1), 1, 9), refused(6, 2, 0)),
             (Recipe::new(ONE).right_scalar(1, Operator::And, Cell::Int(1)), refused(7, 1, 0)),
-            (Recipe::new(ONE).trim(1, &[(1, 1), (1, 3)]).pair(1, step(1), Operator::Minus), refused(8, 2, 0)),
+            (Recipe::new(ONE).trim(1, &[(1, 1), (1, 3)]).pair(1, step(1), Operator::Minus), refused(8, 2, 13)),
             (Recipe::new(ONE).reshape(1, &[(1, 64), (1, 65)]), refused(9, 1, 0)),
         ];
         for (recipe, refusal) in bad {
@@ -672,7 +672,7 @@ mod words {
         let bundle = Bundle::read(&bytes).unwrap();
         let said = |refusal: Option<Refusal>| refusal.expect("refused").words();
         let apart = Recipe::new(ONE).trim(1, &[(1, 1), (1, 3)]).pair(1, step(1), Operator::Minus);
-        assert_eq!(said(bundle.plan(&apart).err()), "step 2: the two arrays do not agree in axes, names or limits");
+        assert_eq!(said(bundle.plan(&apart).err()), "step 2, axis 1: the upper limits of the two arrays differ");
         assert_eq!(said(bundle.total(2, Total::True).err()), "array 2: this cannot be asked of an array of that type");
         assert_eq!(said(bundle.array(3).err()), "array 3: there is no such array");
         assert_eq!(
@@ -699,6 +699,217 @@ mod words {
             assert_eq!(words(0, 0, counts), "no such refusal");
             assert_eq!(words(17, 2, counts).split(": ").last(), Some("no such refusal"));
         }
+    }
+}
+
+/// Two arrays that don't match: the figure of 8, and both ways to say it.
+mod which_axis {
+    use super::*;
+
+    const GENERAL: &str = "the two arrays do not agree in axes, names or limits";
+
+    fn figure_of(counts: Counts, place: u32, ordinality: u32) -> String {
+        Refusal { number: 8, place, ordinality, counts }.words()
+    }
+
+    #[test]
+    fn words_of_each_figure() {
+        for (index, kind) in
+            (1..=6).flat_map(|index| [(1, "axis names"), (2, "lower limits"), (3, "upper limits")].map(|kind| (index, kind)))
+        {
+            let sentence = format!("axis {index}: the {} of the two arrays differ", kind.1);
+            assert_eq!(figure_of(Counts::Steps, 3, 10 * index + kind.0), format!("step 3, {sentence}"));
+            assert_eq!(figure_of(Counts::Sides, 0, 10 * index + kind.0), sentence);
+        }
+        assert_eq!(figure_of(Counts::Steps, 3, 4), "step 3: the numbers of axes of the two arrays do not fit");
+        assert_eq!(figure_of(Counts::Sides, 0, 4), "the numbers of axes of the two arrays do not fit");
+    }
+
+    /// By hand only: the engine gives none of these.
+    #[test]
+    fn no_such_figure() {
+        for none in [0, 1, 2, 3, 5, 9, 10, 14, 19, 20, 24, 60, 64, 70, 71, 73, 111, 1_000_011, u32::MAX] {
+            assert_eq!(figure_of(Counts::Steps, 3, none), format!("step 3: {GENERAL}"), "{none}");
+            assert_eq!(figure_of(Counts::Sides, 0, none), GENERAL, "{none}");
+        }
+    }
+
+    /// Three axes; two, of which the second has another name; the three with other limits on the last two; and one axis.
+    fn arrays() -> [Head; 4] {
+        let days = int_head(&[("depot", 1, 2), ("who", 1, 2), ("turn", 1, 2)]);
+        let one_depot = int_head(&[("who", 1, 2), ("week", 1, 2)]);
+        let later = int_head(&[("depot", 1, 2), ("who", 1, 3), ("turn", 2, 3)]);
+        [days, one_depot, later, int_head(&[("turn", 1, 2)])]
+    }
+
+    /// The refusal of the recipe over the arrays above: its figures, and the words for bundle and recipe.
+    fn said(version: Version, cooked: impl Fn(Recipe) -> Recipe) -> ([u32; 3], String) {
+        let heads = arrays();
+        let cells = vec![Cell::Empty; heads.iter().map(Head::cells).sum()];
+        let bytes = packed_in(version, &heads, &cells);
+        let bundle = Bundle::read(&bytes).unwrap();
+        let recipe = cooked(bundle.recipe());
+        let refusal = bundle.plan(&recipe).unwrap_err();
+        let mut work = [0; MOST_WORK];
+        assert_eq!(bundle.extent(&recipe), Err(refusal));
+        assert_eq!(bundle.run(recipe.bytes(), &mut work), Err(refusal));
+        assert_eq!(bundle.page(recipe.bytes(), &mut work, 1, &mut [0; 28]), Err(refusal));
+        assert_eq!(bundle.listing(&recipe).err(), Some(refusal));
+        assert_eq!(refusal.words_for(&bundle, recipe.bytes()), refusal.words_for(&bundle, &recipe));
+        (refusal.figures(), refusal.words_for(&bundle, &recipe))
+    }
+
+    /// The recipe is refused with these figures, and these are its words for bundle and recipe, in either version.
+    fn says(cooked: impl Fn(Recipe) -> Recipe, figures: [u32; 3], sentence: &str) {
+        for version in [ONE, TWO] {
+            assert_eq!(said(version, &cooked), (figures, sentence.to_string()));
+        }
+    }
+
+    #[test]
+    fn words_for_a_limit() {
+        let plus = |recipe: Recipe, a: u8, b: u8| recipe.pair(a, b, Operator::Plus);
+        says(|recipe| plus(recipe, 1, 3), [8, 1, 23], "step 1: axis 2, who, ends at 2 in array 1 and at 3 in array 3");
+        says(|recipe| recipe.glue(3, 1, 2), [8, 1, 32], "step 1: axis 3, turn, begins at 2 in array 3 and at 1 in array 1");
+        let moved = |recipe: Recipe| recipe.shift(1, &[-9, 0, 0]);
+        says(
+            |recipe| plus(moved(recipe), 1, step(1)),
+            [8, 2, 12],
+            "step 2: axis 1, depot, begins at 1 in array 1 and at -8 in step 1's result",
+        );
+        says(
+            |recipe| plus(moved(recipe).trim(step(1), &[(-8, -8), (1, 2), (1, 2)]), step(2), step(1)),
+            [8, 3, 13],
+            "step 3: axis 1, depot, ends at -8 in step 2's result and at -7 in step 1's result",
+        );
+    }
+
+    #[test]
+    fn words_for_a_name() {
+        let renamed = |recipe: Recipe| recipe.rename(1, &["depot", "shift", "turn"]);
+        says(|recipe| renamed(recipe).update(1, step(1)), [8, 2, 21], "step 2: axis 2 is who in array 1 and shift in step 1's result");
+        says(|recipe| renamed(recipe).glue(step(1), 1, 2), [8, 2, 21], "step 2: axis 2 is shift in step 1's result and who in array 1");
+        says(
+            |recipe| renamed(recipe).pair(3, step(1), Operator::Less),
+            [8, 2, 21],
+            "step 2: axis 2 is who in array 3 and shift in step 1's result",
+        );
+    }
+
+    /// The placed axis is left out of A: before it the two have one index, behind it B's is one lower.
+    #[test]
+    fn words_for_a_place() {
+        says(|recipe| recipe.place(1, 2, 1, 1), [8, 1, 31], "step 1: axis 3 is turn in array 1 and axis 2 is week in array 2");
+        says(|recipe| recipe.place(1, 2, 3, 1), [8, 1, 11], "step 1: axis 1 is depot in array 1 and who in array 2");
+        let renamed = |recipe: Recipe| recipe.rename(2, &["depot", "week"]);
+        says(
+            |recipe| renamed(recipe).place(1, step(1), 2, 1),
+            [8, 2, 31],
+            "step 2: axis 3 is turn in array 1 and axis 2 is week in step 1's result",
+        );
+        says(|recipe| renamed(recipe).place(1, step(1), 3, 1), [8, 2, 21], "step 2: axis 2 is who in array 1 and week in step 1's result");
+    }
+
+    #[test]
+    fn words_for_the_axis_count() {
+        says(|recipe| recipe.pair(1, 2, Operator::Plus), [8, 1, 4], "step 1: array 1 has 3 axes and array 2 has 2");
+        says(|recipe| recipe.glue(4, 1, 1), [8, 1, 4], "step 1: array 4 has 1 axis and array 1 has 3");
+        let sliced = |recipe: Recipe| recipe.slice(1, 1, 1);
+        says(|recipe| sliced(recipe).update(1, step(1)), [8, 2, 4], "step 2: array 1 has 3 axes and step 1's result has 2");
+        says(|recipe| recipe.place(1, 3, 1, 1), [8, 1, 4], "step 1: array 1 has 3 axes, and array 3 has 3 where 2 would fit");
+        says(|recipe| recipe.place(1, 4, 2, 1), [8, 1, 4], "step 1: array 1 has 3 axes, and array 4 has 1 where 2 would fit");
+        says(
+            |recipe| sliced(recipe).place(step(1), 2, 1, 1),
+            [8, 2, 4],
+            "step 2: step 1's result has 2 axes, and array 2 has 2 where 1 would fit",
+        );
+        says(|recipe| recipe.place(4, 4, 1, 1), [8, 1, 4], "step 1: array 4 has 1 axis, so nothing can be placed in it");
+    }
+
+    /// The sixth axis of version 2, with names of 16 letters.
+    #[test]
+    fn words_for_the_sixth_axis() {
+        let head = |letter: char, upper: i32| {
+            let name = |k: u8| format!("axis_of_a_depot{}", if k == b'f' { letter } else { k as char });
+            let mut axes: Vec<Axis> = (b'a'..=b'f').map(|k| Axis::new(&name(k), 1, 1)).collect();
+            axes[5].upper = upper;
+            Head { kind: Kind::Int, axes }
+        };
+        let bytes = packed_in(TWO, &[head('f', 1), head('g', 1), head('f', 2)], &ints(1..=4));
+        let bundle = Bundle::read(&bytes).unwrap();
+        for (b, figure, sentence) in [
+            (2, 61, "step 1: axis 6 is axis_of_a_depotf in array 1 and axis_of_a_depotg in array 2"),
+            (3, 63, "step 1: axis 6, axis_of_a_depotf, ends at 1 in array 1 and at 2 in array 3"),
+        ] {
+            let recipe = bundle.recipe().pair(1, b, Operator::Plus);
+            let refusal = bundle.plan(&recipe).unwrap_err();
+            assert_eq!((refusal.figures(), refusal.words_for(&bundle, &recipe)), ([8, 1, figure], sentence.to_string()));
+        }
+    }
+
+    #[test]
+    fn words_of_a_stretch() {
+        let [days, one_depot, later, _] = arrays();
+        let glued = |left: &Head, right: &Head, axis: u32| {
+            let cells = |head: &Head| vec![0; head.cells() * CELL];
+            stretch(ONE, left, &cells(left), right, &cells(right), axis, 1).unwrap_err()
+        };
+        let bytes = roster();
+        let roster = Bundle::read(&bytes).unwrap();
+        for (refusal, figures, sentence) in [
+            (glued(&days, &later, 2), [8, 0, 32], "axis 3: the lower limits of the two arrays differ"),
+            (glued(&days, &later, 3), [8, 0, 23], "axis 2: the upper limits of the two arrays differ"),
+            (glued(&days, &one_depot, 1), [8, 0, 4], "the numbers of axes of the two arrays do not fit"),
+            (
+                glued(&one_depot, &int_head(&[("who", 1, 2), ("day", 1, 2)]), 2),
+                [8, 0, 21],
+                "axis 2: the axis names of the two arrays differ",
+            ),
+        ] {
+            assert_eq!((refusal.figures(), refusal.words()), (figures, sentence.to_string()));
+            assert_eq!(refusal.words_for(&roster, &rests()), sentence, "a stretch has no step");
+        }
+    }
+
+    /// A refusal that isn't the recipe's over the bundle is said in words alone: another number, no such step, a recipe that is done, other
+    /// operands, another figure, another bundle, a recipe of the other version, bytes that are none.
+    #[test]
+    fn a_refusal_of_something_else() {
+        let bytes = roster();
+        let bundle = Bundle::read(&bytes).unwrap();
+        let trimmed = bundle.recipe().trim(1, &[(1, 2), (2, 3)]).trim(2, &[(1, 2), (1, 2)]);
+        let no_shift = trimmed.clone().pair(step(1), step(2), Operator::Minus);
+        let refusal = bundle.plan(&no_shift).unwrap_err();
+        let plain = "step 3, axis 2: the lower limits of the two arrays differ";
+        let by_name = "step 3: axis 2, turn, begins at 2 in step 1's result and at 1 in step 2's result";
+        assert_eq!((refusal.figures(), refusal.words_for(&bundle, &no_shift)), ([8, 3, 22], by_name.to_string()));
+        assert_eq!(refusal.words_for(&bundle, &no_shift.clone().single(step(3), Single::Negate)), by_name, "later steps are not looked at");
+
+        let turned = trimmed.clone().pair(step(2), step(2), Operator::Minus);
+        let other_version = Recipe::new(TWO).trim(1, &[(1, 2), (2, 3)]).trim(2, &[(1, 2), (1, 2)]).pair(step(1), step(2), Operator::Minus);
+        for recipe in [rests(), trimmed, turned, bundle.recipe(), other_version] {
+            assert_eq!(refusal.words_for(&bundle, &recipe), plain);
+        }
+        for bytes in [&[][..], &[8], &no_shift.bytes()[..107], &[no_shift.bytes(), &[0]].concat()] {
+            assert_eq!(refusal.words_for(&bundle, bytes), plain);
+        }
+        let one = line(Kind::Int, &ints([1]));
+        assert_eq!(refusal.words_for(&Bundle::read(&one).unwrap(), &no_shift), plain);
+
+        for (place, ordinality) in
+            [(3, 21), (3, 23), (3, 12), (3, 4), (3, 0), (3, 62), (2, 22), (4, 22), (0, 22), (u32::MAX, 22), (3, u32::MAX)]
+        {
+            let other = Refusal { place, ordinality, ..refusal };
+            assert_eq!(other.words_for(&bundle, &no_shift), other.words(), "{other}");
+        }
+        let of_arrays = Refusal { counts: Counts::Arrays, ..refusal };
+        assert_eq!(of_arrays.words_for(&bundle, &no_shift), of_arrays.words(), "its place is no step");
+        let outside = bundle.recipe().trim(1, &[(1, 2), (2, 4)]);
+        let refusal = bundle.plan(&outside).unwrap_err();
+        assert_eq!(refusal.words_for(&bundle, &outside), refusal.words());
+        let by_zero = bundle.recipe().right_scalar(1, Operator::Divide, Cell::Int(0));
+        let refusal = bundle.run(by_zero.bytes(), &mut [0; 54]).unwrap_err();
+        assert_eq!(refusal.words_for(&bundle, &by_zero), "step 1, cell 1: division by zero");
     }
 }
 
@@ -802,7 +1013,7 @@ mod versions {
                 assert_eq!(glued(&head, &head), if fits { Ok(9) } else { Err(refused(2, 1, 0)) });
                 let beside = match letters {
                     1 => Ok(9),
-                    _ if fits => Err(refused(8, 0, 0)), // two names, which don't agree
+                    _ if fits => Err(refused(8, 0, 11)), // two names, which don't agree
                     _ => Err(refused(2, 2, 0)),
                 };
                 assert_eq!(glued(&short, &head), beside, "{letters} letters in {version:?}");
@@ -968,8 +1179,8 @@ mod versions {
             let other = Head { axes: vec![head.axes[1].clone(), head.axes[0].clone()], ..head.clone() };
             let bytes = packed_in(version, &[head.clone(), other.clone()], &ints([1, 2]));
             let bundle = Bundle::read(&bytes).unwrap();
-            assert_eq!(bundle.plan(&bundle.recipe().pair(1, 2, Operator::Plus)), Err(refused(8, 1, 0)));
-            assert_eq!(stretch(version, &head, &[0; 9], &other, &[0; 9], 1, 1), Err(refused(8, 0, 0)));
+            assert_eq!(bundle.plan(&bundle.recipe().pair(1, 2, Operator::Plus)), Err(refused(8, 1, 11)));
+            assert_eq!(stretch(version, &head, &[0; 9], &other, &[0; 9], 1, 1), Err(refused(8, 0, 11)));
         }
     }
 

@@ -135,10 +135,23 @@ pub fn bundle_bytes(sizes: Sizes, arrays: &[RawArray]) -> Vec<u8> {
 
 /// 1 to 4 sound arrays, each after the first mostly related to an earlier one.
 pub fn arrays(dice: &mut Dice, sizes: Sizes, moody: fn(&mut Dice) -> Mood) -> Vec<RawArray> {
+    let first = fresh(dice, sizes);
+    arrays_from(dice, sizes, first, moody)
+}
+
+/// Such arrays, the first of which has as many axes as there may be, or one or two fewer.
+pub fn deep_arrays(dice: &mut Dice, sizes: Sizes, moody: fn(&mut Dice) -> Mood) -> Vec<RawArray> {
+    let count = sizes.most_axes - dice.pick(&[0, 0, 0, 0, 0, 0, 0, 0, 0, 1, 1, 2]);
+    let widths: Vec<i32> = (0..count).map(|_| dice.pick(&[1, 1, 2, 2])).collect();
+    let first = RawArray { of: dice.pick(&[1, 1, 2, 3]), count: 0, axes: axes_of_widths(dice, sizes, &widths), cells: vec![] };
+    arrays_from(dice, sizes, first, moody)
+}
+
+fn arrays_from(dice: &mut Dice, sizes: Sizes, first: RawArray, moody: fn(&mut Dice) -> Mood) -> Vec<RawArray> {
     let count = dice.pick(&[1, 1, 2, 2, 2, 3, 3, 4]);
-    let mut arrays: Vec<RawArray> = vec![];
+    let (mut next, mut arrays): (Option<RawArray>, Vec<RawArray>) = (Some(first), vec![]);
     for _ in 0..count {
-        let mut array = fresh(dice, sizes);
+        let mut array = next.take().unwrap_or_else(|| fresh(dice, sizes));
         if !arrays.is_empty() && !dice.one_in(6) {
             let other = dice.index(arrays.len());
             array = related(dice, sizes, &arrays[other]);

@@ -96,7 +96,7 @@ fn array(dice: &mut Dice, sizes: Sizes) -> RawArray {
     let widths = widths(dice, sizes);
     let mut axes = axes_of_widths(dice, sizes, &widths);
     axes.iter_mut().for_each(|axis| declare(dice, axis));
-    let of = dice.pick(&[1, 1, 1, 1, 1, 1, 1, 3, 3, 3, 2, 2]);
+    let of = dice.pick(&[1, 1, 1, 1, 1, 1, 3, 3, 3, 3, 2, 2]);
     let cells = cells(dice, of, axes.iter().map(RawAxis::width).product());
     RawArray { of, count: axes.len() as u8, axes, cells }
 }

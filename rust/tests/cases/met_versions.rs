@@ -393,7 +393,7 @@ fn met_unused(step: &Step, a: &Shape, shapes: &Shapes, bytes: &[u8]) -> Vec<Thin
     let mended = |from: usize| {
         let mut mended = bytes.to_vec();
         mended.iter_mut().skip(4 + from).for_each(|byte| *byte = 0);
-        judge(&mended, shapes).err() != Some(4)
+        judge(&mended, shapes).err() != Some((4, 0))
     };
     let used = match step.operation {
         Operation::Rename => TWO.name * a.extent.axes.len(),

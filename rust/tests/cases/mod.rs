@@ -2,6 +2,8 @@
 //! with what they hold before. The submodules make them up, from a seed.
 
 pub mod answers;
+pub mod apart;
+pub mod axes;
 pub mod bundles;
 pub mod cells;
 pub mod dice;
@@ -11,6 +13,7 @@ pub mod json_reads;
 pub mod json_texts;
 pub mod json_values;
 pub mod met;
+pub mod met_axes;
 pub mod met_json;
 pub mod met_moves;
 pub mod met_reads;
@@ -60,7 +63,7 @@ pub const FUNCTIONS: [(Function, &str, u64); 13] = [
     (Function::Extent, "rma_extent", 24),
     (Function::Run, "rma_run", 46),
     (Function::Page, "rma_page", 64),
-    (Function::Stretch, "rma_stretch", 30),
+    (Function::Stretch, "rma_stretch", 40),
 ];
 
 /// The arguments of one call: slices that are only read, numbers, and lent buffers (`said` is the last), each in order.

@@ -1,6 +1,7 @@
-//! Recipes made up over a bundle: built step by step so that most pass and have values, with a loose step in some,
-//! and damaged afterwards in some.
+//! Recipes made up over a bundle: built step by step so that most pass and have values, with a loose step in some, with operands that
+//! differ on an axis that was drawn in others, and damaged afterwards in some.
 
+use super::apart;
 use super::dice::Dice;
 use super::faults::change_byte;
 use super::other_version;
@@ -11,7 +12,7 @@ use crate::paper::cell::Cell;
 use crate::paper::judge::{judge, Shapes};
 use crate::paper::listing::operand;
 use crate::paper::moves::carry_out;
-use crate::paper::recipe::Step;
+use crate::paper::recipe::{Step, MOST_STEPS};
 use crate::paper::version::Sizes;
 
 /// A recipe in the making: the shapes so far, and the arrays so far while every value is known.
@@ -23,11 +24,12 @@ struct Kitchen<'a> {
     most_cells: u128,
 }
 
-/// What a recipe should come to: a last step in truth values, a value that refuses.
+/// What a recipe should come to: a last step in truth values, a value that refuses, two operands that differ.
 #[derive(Clone, Copy)]
 pub struct Aim {
     pub truth: bool,
     pub refusing: bool,
+    pub apart: bool,
 }
 
 /// A recipe over the bundle that mostly comes to its aim.
@@ -40,10 +42,14 @@ pub fn recipe(dice: &mut Dice, bundle: &Bundle, aim: Aim) -> Vec<u8> {
         1..=3 => 7 + dice.index(10),
         _ => 1 + dice.index(6),
     };
-    let loose_at = if dice.one_in(3) { dice.index(count) } else { count };
+    let apart_at = if aim.apart { dice.index(count.min(1 + MOST_STEPS - apart::MOST)) } else { count };
+    let loose_at = if !aim.apart && dice.one_in(3) { dice.index(count) } else { count };
     let refusing_at = if aim.refusing { dice.index(count) } else { count };
-    for number in 0..count {
-        if number == loose_at {
+    let mut number = 0;
+    while number < count {
+        if number == apart_at {
+            apart::steps(dice, &kitchen.shapes).iter().for_each(|bytes| kitchen.add(bytes));
+        } else if number == loose_at {
             let shapes = &kitchen.shapes;
             let bytes = match dice.below(2) {
                 0 => steps::loose(dice, shapes),
@@ -53,9 +59,14 @@ pub fn recipe(dice: &mut Dice, bundle: &Bundle, aim: Aim) -> Vec<u8> {
         } else if number != refusing_at || !kitchen.add_refusing(dice) {
             kitchen.add_fitting(dice, aim.truth && number + 1 == count);
         }
+        number = kitchen.recipe.len() / sizes.step;
     }
-    let mut recipe = kitchen.recipe;
-    if dice.one_in(8) {
+    damaged(dice, sizes, kitchen.recipe, if aim.apart { 32 } else { 8 })
+}
+
+/// The recipe as it is, or one in so many with a fault in its bytes.
+fn damaged(dice: &mut Dice, sizes: Sizes, mut recipe: Vec<u8>, faulty: u64) -> Vec<u8> {
+    if dice.one_in(faulty) {
         damage(dice, sizes, &mut recipe);
     }
     if sizes.detail > 32 && dice.one_in(10) {
@@ -66,7 +77,7 @@ pub fn recipe(dice: &mut Dice, bundle: &Bundle, aim: Aim) -> Vec<u8> {
 
 /// A byte from 32 on of one step's detail set to something: past what version 1 has.
 fn far_down(dice: &mut Dice, sizes: Sizes, recipe: &mut [u8]) {
-    let seldom: Vec<usize> = (0..recipe.len()).step_by(sizes.step).filter(|&at| [2, 3, 7].contains(&recipe[at])).collect();
+    let seldom: Vec<usize> = (0..recipe.len()).step_by(sizes.step).filter(|&at| [2, 3, 4, 7].contains(&recipe[at])).collect();
     let any = sizes.step * dice.index(recipe.len() / sizes.step + 1);
     let at = dice.pick_if_any(&seldom).filter(|_| dice.one_in(2)).unwrap_or(any);
     let anywhere = 32 + dice.index(sizes.detail - 32);

@@ -3,7 +3,7 @@
 //! rows and odd bytes; every kind of start; and pages chained to the end, whose rows joined must be the TRUE cells, each once.
 
 use super::answers::paper_answers;
-use super::bundles::{any_mood, arrays, bundle_bytes};
+use super::bundles::{any_mood, arrays, bundle_bytes, deep_arrays};
 use super::cells::calm_mood;
 use super::dice::Dice;
 use super::faults::damaged;
@@ -11,6 +11,7 @@ use super::recipes::{of_other_steps, recipe, Aim};
 use super::{lent, said, version, Case, Function};
 use crate::paper::bundle::{read, Bundle};
 use crate::paper::listing::{true_cells, Plan};
+use crate::paper::version::{ONE, TWO};
 
 /// A bundle's bytes, what they say (as it was before any fault, if they can't be read), and a recipe over it.
 struct Meal {
@@ -19,13 +20,15 @@ struct Meal {
     recipe: Vec<u8>,
 }
 
-fn meal(dice: &mut Dice, truth: bool) -> Meal {
-    let refusing = dice.one_in(3);
-    let sizes = version(dice);
-    let raw = arrays(dice, sizes, if refusing { any_mood } else { calm_mood });
+/// Of forty meals, so many have operands that differ on an axis that was drawn: oftener in version 2, and oftener with many axes.
+fn meal(dice: &mut Dice, truth: bool, of_forty: u64) -> Meal {
+    let (refusing, apart) = (dice.one_in(3), dice.below(40) < of_forty);
+    let sizes = if apart { dice.pick(&[ONE, TWO, TWO]) } else { version(dice) };
+    let made = if apart && !dice.one_in(4) { deep_arrays } else { arrays };
+    let raw = made(dice, sizes, if refusing { any_mood } else { calm_mood });
     let sound = bundle_bytes(sizes, &raw);
     let bundle = read(&sound).expect("a sound bundle");
-    let mut recipe = recipe(dice, &bundle, Aim { truth, refusing });
+    let mut recipe = recipe(dice, &bundle, Aim { truth, refusing, apart });
     if dice.one_in(32) {
         recipe = of_other_steps(sizes, &recipe);
     }
@@ -35,19 +38,19 @@ fn meal(dice: &mut Dice, truth: bool) -> Meal {
 
 pub fn plan(dice: &mut Dice) -> Case {
     let truth = dice.one_in(2);
-    let meal = meal(dice, truth);
+    let meal = meal(dice, truth, 22);
     Case { function: Function::Plan, shared: vec![meal.bytes, meal.recipe], numbers: vec![], lent: vec![said(dice)] }
 }
 
 pub fn extent(dice: &mut Dice) -> Case {
     let truth = dice.one_in(2);
-    let meal = meal(dice, truth);
+    let meal = meal(dice, truth, 22);
     let lent = vec![lent(dice, meal.bundle.sizes.head()), said(dice)];
     Case { function: Function::Extent, shared: vec![meal.bytes, meal.recipe], numbers: vec![], lent }
 }
 
 pub fn run(dice: &mut Dice) -> Case {
-    let meal = meal(dice, false);
+    let meal = meal(dice, false, 6);
     let cells = Plan::of_recipe(&meal.bundle, &meal.recipe).map_or(4, |plan| plan.cells());
     let lent = vec![lent(dice, 9 * cells), said(dice)];
     Case { function: Function::Run, shared: vec![meal.bytes, meal.recipe], numbers: vec![], lent }
@@ -56,7 +59,7 @@ pub fn run(dice: &mut Dice) -> Case {
 /// One page from anywhere, or all pages from ordinality 1 until the end is named.
 pub fn pages(dice: &mut Dice) -> Vec<Case> {
     let truth = !dice.one_in(12);
-    let meal = meal(dice, truth);
+    let meal = meal(dice, truth, 6);
     let plan = Plan::of_recipe(&meal.bundle, &meal.recipe).ok();
     let last = plan.as_ref().and_then(|plan| plan.shapes.last());
     let (axes, cells) = last.map_or((2, 4), |shape| (shape.extent.axes.len(), shape.extent.cells() as usize));

@@ -48,7 +48,7 @@ pub fn fitting(dice: &mut Dice, shapes: &Shapes) -> Option<StepBytes> {
         3 => Some(step(sizes, 3, a, 0, 0, &reshaped(dice, shape))),
         4 => Some(step(sizes, 4, a, 0, 0, &amounts(dice, shape))),
         5 => Some(step(sizes, 5, a, 0, 0, &names(dice, sizes, shape))),
-        6 if dice.one_in(2) => patch(dice, shapes, 6).or_else(|| two_operands(dice, shapes, 6, a)),
+        6 if !dice.one_in(4) => patch(dice, shapes, 6).or_else(|| two_operands(dice, shapes, 6, a)),
         7 => patch(dice, shapes, 7),
         operation @ 6..=9 => two_operands(dice, shapes, operation, a),
         operation @ 10..=11 => Some(scalar_step(dice, sizes, operation, a, shape)),
@@ -168,7 +168,7 @@ fn names(dice: &mut Dice, sizes: Sizes, shape: &Shape) -> Vec<u8> {
 }
 
 /// The names as they stand in a detail.
-fn slots(sizes: Sizes, names: &[Name]) -> Vec<u8> {
+pub fn slots(sizes: Sizes, names: &[Name]) -> Vec<u8> {
     names.iter().flat_map(|name| name[..sizes.name].to_vec()).collect()
 }
 
@@ -229,13 +229,13 @@ fn with_b(dice: &mut Dice, sizes: Sizes, shape: &Shape, [operation, a, b]: [u8; 
 
 /// A step that is refused with a number drawn beforehand, if one is found in a few tries; else a loose one.
 pub fn aimed(dice: &mut Dice, shapes: &Shapes) -> StepBytes {
-    let number = dice.pick(&[5, 5, 6, 6, 7, 8, 8, 9, 9]);
+    let number = dice.pick(&[5, 5, 6, 6, 6, 7, 7, 8, 9, 9]);
     for _ in 0..12 {
         let a = operand(dice, shapes);
         let operation = dice.pick(&[6, 7, 7, 8, 9]);
         let mut list = candidates(dice, shapes, operation, a, near);
         list.push(loose(dice, shapes));
-        list.retain(|bytes| judge(bytes, shapes).err() == Some(number));
+        list.retain(|bytes| judge(bytes, shapes).is_err_and(|(refusal, _)| refusal == number));
         if !list.is_empty() {
             return list.swap_remove(dice.index(list.len()));
         }
@@ -255,7 +255,7 @@ pub fn of_alike(dice: &mut Dice, shapes: &Shapes) -> Option<StepBytes> {
     Some(list[dice.index(list.len())].clone())
 }
 
-fn pair_operator(dice: &mut Dice, of: Type) -> u8 {
+pub fn pair_operator(dice: &mut Dice, of: Type) -> u8 {
     match of {
         Type::Int => dice.pick(&[1, 1, 2, 2, 3, 4, 5, 6, 7, 8, 9, 10, 11]),
         Type::Float => dice.pick(&[1, 1, 2, 2, 3, 4, 6, 7, 8, 9, 10, 11]),

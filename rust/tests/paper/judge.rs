@@ -1,10 +1,10 @@
-//! Each step judged before any cell is worked out, in the order 4, 5, 7, 8, 6, 9: a question for each number.
-//! A step that passes has a shape: the type and extent of its result.
+//! Each step judged before any cell is worked out, in the order 4, 5, 7, 8, 6, 9: a question for each number; and where its operands
+//! differ, if that is 8. A step that passes has a shape: the type and extent of its result.
 
 use super::array::Shape;
 use super::bundle::Bundle;
 use super::cell::Type;
-use super::extent::{Extent, Proposed};
+use super::extent::{Axis, Extent, Proposed};
 use super::recipe::{Operation::*, Step};
 use super::version::Sizes;
 
@@ -32,27 +32,27 @@ impl Shapes {
     }
 }
 
-/// The step with the shape of its result, or the number of its refusal.
-pub fn judge(bytes: &[u8], shapes: &Shapes) -> Result<(Step, Shape), u32> {
-    let step = Step::of_bytes(shapes.sizes, bytes).ok_or(4u32)?;
-    let a = shapes.operand(step.a).ok_or(4u32)?;
-    let b = if step.uses_b() { Some(shapes.operand(step.b).ok_or(4u32)?) } else { None };
+/// The step with the shape of its result, or the number of its refusal and its ordinality: what differs first with 8, else 0.
+pub fn judge(bytes: &[u8], shapes: &Shapes) -> Result<(Step, Shape), (u32, u32)> {
+    let step = Step::of_bytes(shapes.sizes, bytes).ok_or((4, 0))?;
+    let a = shapes.operand(step.a).ok_or((4, 0))?;
+    let b = if step.uses_b() { Some(shapes.operand(step.b).ok_or((4, 0))?) } else { None };
     if !step.operator_known() || !step.unused_are_zero(a.extent.axes.len()) {
-        return Err(4);
+        return Err((4, 0));
     }
     if step.uses_axis() && !(1..=a.extent.axes.len()).contains(&usize::from(step.axis)) {
-        return Err(5);
+        return Err((5, 0));
     }
     if !types_fit(&step, a, b) {
-        return Err(7);
+        return Err((7, 0));
     }
-    if b.is_some_and(|b| differ(&step, &a.extent, &b.extent)) {
-        return Err(8);
+    if let Some(first) = b.and_then(|b| differences(&step, &a.extent, &b.extent).first().copied()) {
+        return Err((8, first));
     }
     if outside(&step, &a.extent, b.map(|b| &b.extent)) {
-        return Err(6);
+        return Err((6, 0));
     }
-    let extent = result_extent(&step, &a.extent, b.map(|b| &b.extent)).ok_or(9u32)?;
+    let extent = result_extent(&step, &a.extent, b.map(|b| &b.extent)).ok_or((9, 0))?;
     let of = result_type(&step, a.of);
     Ok((step, Shape { of, extent }))
 }
@@ -89,19 +89,39 @@ fn single_operator_takes(operator: u8, of: Type) -> bool {
     }
 }
 
-/// 8: axis count, then what each operation compares.
-pub fn differ(step: &Step, a: &Extent, b: &Extent) -> bool {
+/// 8: what differs of what each operation compares, axis by axis, and on an axis its name before its lower limit before its upper one.
+/// Each is a figure: 10 times the axis's index in A, and 1 for the name, 2 for the lower limit, 3 for the upper one. If the axis counts
+/// differ, 4 and no other, as no axis is compared.
+pub fn differences(step: &Step, a: &Extent, b: &Extent) -> Vec<u32> {
     match step.operation {
-        Update => a.names() != b.names(),
-        Place => a.axes.len() != b.axes.len() + 1 || without(&a.names(), step.axis_at()) != b.names(),
-        Glue => glue_differs(a, b, step.axis_at()),
-        _ => a != b,
+        Update => figures(&indexed(a), b, |_| false),
+        Place => figures(&without(&indexed(a), step.axis_at()), b, |_| false),
+        Glue => glue_differences(a, b, step.axis_at()),
+        _ => figures(&indexed(a), b, |_| true),
     }
 }
 
 /// All names, and limits but the gluing axis's.
-pub fn glue_differs(a: &Extent, b: &Extent, axis: usize) -> bool {
-    a.names() != b.names() || without(&a.axes, axis) != without(&b.axes, axis)
+pub fn glue_differences(a: &Extent, b: &Extent, axis: usize) -> Vec<u32> {
+    figures(&indexed(a), b, |index| index as usize != axis + 1)
+}
+
+/// The axes with their indexes, from 1.
+fn indexed(extent: &Extent) -> Vec<(u32, &Axis)> {
+    (1..).zip(&extent.axes).collect()
+}
+
+/// The figures of what differs in these axes of A and all of B; whether limits are compared is told for each index in A.
+fn figures(a: &[(u32, &Axis)], b: &Extent, limits: impl Fn(u32) -> bool) -> Vec<u32> {
+    if a.len() != b.axes.len() {
+        return vec![4];
+    }
+    let mut figures = vec![];
+    for (&(index, of_a), of_b) in a.iter().zip(&b.axes) {
+        let differs = [of_a.name != of_b.name, limits(index) && of_a.lower != of_b.lower, limits(index) && of_a.upper != of_b.upper];
+        figures.extend((1..).zip(differs).filter(|(_, differs)| *differs).map(|(kind, _)| 10 * index + kind));
+    }
+    figures
 }
 
 /// The list with that item left out.

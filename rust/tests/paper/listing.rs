@@ -21,7 +21,7 @@ impl Plan {
         let mut shapes = Shapes::of_bundle(bundle);
         let mut steps = vec![];
         for (number, bytes) in (1..).zip(steps_in(bundle.sizes, recipe)?) {
-            let (step, shape) = judge(bytes, &shapes).map_err(|refusal| refused(refusal, number))?;
+            let (step, shape) = judge(bytes, &shapes).map_err(|(refusal, ordinality)| refused_at(refusal, number, ordinality))?;
             steps.push(step);
             shapes.steps.push(shape);
         }

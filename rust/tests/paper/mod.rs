@@ -1,4 +1,4 @@
-//! Paper 01 and requests [1], [2], [5] and [6] of paper 02 in plain Rust, written from their words alone and sharing nothing with the
+//! Paper 01 and requests [1], [2], [3], [5] and [6] of paper 02 in plain Rust, written from their words alone and sharing nothing with the
 //! engine that is proved. An array is a map from coordinate to cell, and each operation is said over coordinates, as the paper says
 //! it. `face` answers the thirteen callable parts with it; bytes are met only in `bytes`, `bundle`, `pack`, `recipe`, `json_text` and
 //! `face`, and how many of them a version has is told by `version` alone.

@@ -5,9 +5,9 @@
 use super::array::Shape;
 use super::cell::CELL_BYTES;
 use super::extent::{Coordinate, Extent, Proposed};
-use super::judge::{glue_differs, glued_extent};
+use super::judge::{glue_differences, glued_extent};
 use super::pack::head_in;
-use super::refusal::{refused, Refusal};
+use super::refusal::{refused, refused_at, Refusal};
 use super::version::Sizes;
 
 /// A part of one side's cell buffer.
@@ -30,8 +30,8 @@ pub fn stretch(version: u32, left: (&[u8], &[u8]), right: (&[u8], &[u8]), axis: 
     if left.of != right.of {
         return Err(refused(7, 0));
     }
-    if glue_differs(&left.extent, &right.extent, axis) {
-        return Err(refused(8, 0));
+    if let Some(&first) = glue_differences(&left.extent, &right.extent, axis).first() {
+        return Err(refused_at(8, 0, first));
     }
     let glued = glued_extent(&left.extent, &right.extent, axis).ok_or(refused(9, 0))?;
     let owners: Vec<Owner> = glued.coordinates().iter().map(|at| owner(at, &left.extent, &right.extent, axis)).collect();
