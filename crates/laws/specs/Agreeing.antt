@@ -37,13 +37,13 @@ same-got d k m b e = by (eqb d 0) refl e
 -- ---- one axis
 
 -- nothing differs: the limits are the same, where they are compared
-axis-same : (t : Bool) (i : ℕ) (m n : Name) (a b : Axis) → t ≡ true → axisDiffers t i m a n b ≡ 0 → (a .lo ≡ b .lo) × (a .hi ≡ b .hi)
+axis-same : (t : Bool) (m n : Name) (a b : Axis) → t ≡ true → axisDiffers t m a n b ≡ 0 → (a .lo ≡ b .lo) × (a .hi ≡ b .hi)
 unfolding axisDiffers
-axis-same false i m n a b z e = absurd (no-both true refl (sym z))
-axis-same true i m n a b z e = by (sameName m n) (eqb (a .lo) (b .lo)) (eqb (a .hi) (b .hi)) refl refl e
+axis-same false m n a b z e = absurd (no-both true refl (sym z))
+axis-same true m n a b z e = by (sameName m n) (eqb (a .lo) (b .lo)) (eqb (a .hi) (b .hi)) refl refl e
   where
     by : (x y z : Bool) → eqb (a .lo) (b .lo) ≡ y → eqb (a .hi) (b .hi) ≡ z
-        → (if not x then 10 * i + 1 else (if true && not y then 10 * i + 2 else (if true && not z then 10 * i + 3 else 0))) ≡ 0
+        → _≡_ {A = ℕ} (if not x then 1 else (if true && not y then 2 else (if true && not z then 3 else 0))) 0
         → (a .lo ≡ b .lo) × (a .hi ≡ b .hi)
     by false y z p q h = absurd (omega (arith, h))
     by true false z p q h = absurd (omega (arith, h))
@@ -53,12 +53,12 @@ axis-same true i m n a b z e = by (sameName m n) (eqb (a .lo) (b .lo)) (eqb (a .
 -- ---- axes in step
 
 -- neither the first nor a later one
-neither : (d r : ℕ) → (if eqb d 0 then r else d) ≡ 0 → (d ≡ 0) × (r ≡ 0)
-neither d r e = by (eqb d 0) refl e
+neither : (i d r : ℕ) → (if eqb d 0 then r else 10 * i + d) ≡ 0 → (d ≡ 0) × (r ≡ 0)
+neither i d r e = by (eqb d 0) refl e
   where
-    by : (t : Bool) → eqb d 0 ≡ t → (if t then r else d) ≡ 0 → (d ≡ 0) × (r ≡ 0)
+    by : (t : Bool) → eqb d 0 ≡ t → (if t then r else 10 * i + d) ≡ 0 → (d ≡ 0) × (r ≡ 0)
     by true q h = (eqb-true d 0 q, h)
-    by false q h = absurd (eqb-false d 0 q h)
+    by false q h = absurd (eqb-false d 0 q (omega (arith, h)))
 
 -- from index s on, where limits are compared from there on
 all-same : (f : ℕ → Bool) (n s : ℕ) (M N : List Name) (E F : List Axis) → ((i : ℕ) → s ≤ i → f i ≡ true) → length E ≡ n → length F ≡ n
@@ -70,8 +70,8 @@ all-same f zero s M N (a ∷ E) F h l m e = absurd (omega (arith, l))
 all-same f (suc n) s M N [] F h l m e = absurd (omega (arith, l))
 all-same f (suc n) s M N (a ∷ E) [] h l m e = absurd (omega (arith, m))
 all-same f (suc n) s M N (a ∷ E) (b ∷ F) h l m e =
-    let r = neither _ _ e in
-    let c = axis-same (f s) s _ _ a b (h s (omega arith)) (r .0) in
+    let r = neither s (axisDiffers (f s) (nameAt 1 M) a (nameAt 1 N) b) _ e in
+    let c = axis-same (f s) _ _ a b (h s (omega arith)) (r .0) in
     let t = all-same f n (suc s) (drop 1 M) (drop 1 N) E F (λ i q. h i (omega (arith, q))) (omega (arith, l)) (omega (arith, m)) (r .1) in
     (c .0, c .1, t)
 
@@ -91,11 +91,11 @@ others-same k p (suc n) s M N [] F h l m e = absurd (omega (arith, l))
 others-same k p (suc n) s M N (a ∷ E) [] h l m e = absurd (omega (arith, m))
 others-same k zero (suc n) s M N (a ∷ E) (b ∷ F) h l m e =
     all-same (λ i. not (eqb i k)) n (suc s) (drop 1 M) (drop 1 N) E F (λ i q. ap not (ne-eqb i k (λ z. omega (arith, q, z, h))))
-    (omega (arith, l)) (omega (arith, m)) (neither (axisDiffers (not (eqb s k)) s (nameAt 1 M) a (nameAt 1 N) b) _ e .1)
+    (omega (arith, l)) (omega (arith, m)) (neither s (axisDiffers (not (eqb s k)) (nameAt 1 M) a (nameAt 1 N) b) _ e .1)
 others-same k (suc p) (suc n) s M N (a ∷ E) (b ∷ F) h l m e =
-    let r = neither _ _ e in
+    let r = neither s (axisDiffers (not (eqb s k)) (nameAt 1 M) a (nameAt 1 N) b) _ e in
     let t : not (eqb s k) ≡ true = ap not (ne-eqb s k (λ z. omega (arith, z, h))) in
-    let c = axis-same (not (eqb s k)) s _ _ a b t (r .0) in
+    let c = axis-same (not (eqb s k)) _ _ a b t (r .0) in
     (c .0, c .1, others-same k p n (suc s) (drop 1 M) (drop 1 N) E F (omega (arith, h)) (omega (arith, l)) (omega (arith, m)) (r .1))
 
 -- ---- the operations

@@ -1,6 +1,6 @@
 -- Two arrays compared, by their extents and the names that stand beside these: the paper's `agree`, by what the code compares, axis by
 -- axis from the first on.
-use Prim.Native.Nat.{ℕ, zero, suc, _+_, _-_, _≤_, _<_}
+use Prim.Native.Nat.{ℕ, zero, suc, _+_, _-_, _*_, _≤_, _<_}
 use mathlib.Core.Path.{_≡_, refl, sym, ap, ap₂, _∙_}
 use mathlib.Core.Bool.{Bool, true, false, not}
 use mathlib.Core.List.{List, [], _∷_, _++_}
@@ -84,10 +84,10 @@ module _ (c : Compared) (M N : List Name) (e f : Extent) (r s : ℕ) (k : Rank e
 
   -- the axis at j
   abbrev here : ℕ
-  here = axisDiffers (limitsIn c (indexIn c j)) (indexIn c j) (getD M j noName) (axisNo e j) (getD N j noName) (axisNo f j)
+  here = axisDiffers (limitsIn c (indexIn c j)) (getD M j noName) (axisNo e j) (getD N j noName) (axisNo f j)
 
   -- it, and those after it
-  axis-first : j < r → onward j ≡ (if eqb here 0 then onward (j + 1) else here)
+  axis-first : j < r → onward j ≡ (if eqb here 0 then onward (j + 1) else 10 * indexIn c j + here)
   unfolding inStep indicesIn
   axis-first b =
       let p : length (axesOf e) - j ≡ suc (length (axesOf e) - (j + 1)) = omega (arith, k .number) in
@@ -105,13 +105,14 @@ module _ (c : Compared) (M N : List Name) (e f : Extent) (r s : ℕ) (k : Rank e
       )
 
   -- it differs, or it doesn't
-  pub axis-found : j < r → (d : ℕ) → d ≡ here → (d ≡ 0 → ⊥) → d ≡ onward j
+  pub axis-found : j < r → (d : ℕ) → d ≡ here → (d ≡ 0 → ⊥) → 10 * indexIn c j + d ≡ onward j
   axis-found b d q h =
-      q ∙ sym (axis-first b ∙ ap (λ (t : Bool). if t then onward (j + 1) else here) (ne-eqb here 0 (λ z. h (q ∙ z))))
+      ap (λ (n : ℕ). 10 * indexIn c j + n) q
+      ∙ sym (axis-first b ∙ ap (λ (t : Bool). if t then onward (j + 1) else 10 * indexIn c j + here) (ne-eqb here 0 (λ z. h (q ∙ z))))
 
   pub axis-passed : j < r → (d : ℕ) → d ≡ here → d ≡ 0 → onward (j + 1) ≡ onward j
   axis-passed b d q h =
-      sym (axis-first b ∙ ap (λ (t : Bool). if t then onward (j + 1) else here) (eq-eqb here 0 (sym q ∙ h)))
+      sym (axis-first b ∙ ap (λ (t : Bool). if t then onward (j + 1) else 10 * indexIn c j + here) (eq-eqb here 0 (sym q ∙ h)))
 
   -- none left
   pub none-differs : r ≤ j → 0 ≡ onward j

@@ -31,19 +31,20 @@ enum Compared {
     OtherLimits(AxisIndex),
 }
 
-// Limits are compared on A's axis of index i.
-fn limits_in(c: Compared, i: usize) -> bool
-    ensures { λ r. ⌜ r ≡ limitsIn c i ⌝ }
+// Limits are compared on the axis that stands at j, counted from 0.
+fn limits_in(c: Compared, j: usize) -> bool
+    requires { ⌜ j < mostAxes ⌝ }
+    ensures { λ r. ⌜ r ≡ limitsIn c (indexIn c j) ⌝ }
 {
     match c {
         Compared::Names => return false,
         Compared::OtherNames(_) => return false,
         Compared::Limits => return true,
-        Compared::OtherLimits(k) => return i != k.0 as usize,
+        Compared::OtherLimits(k) => return j + 1 != k.0 as usize,
     }
 }
 
-// The index in A of the axis that stands at j, counted from 0: the one left out counts too.
+// The index in A of the axis that stands at j: the one left out counts too.
 fn index_in(c: Compared, j: usize) -> usize
     requires { ⌜ j < mostAxes ⌝ }
     ensures { λ r. ⌜ (r ≡ indexIn c j) × (r ≤ mostAxes + 1) ⌝ }
@@ -61,23 +62,21 @@ fn index_in(c: Compared, j: usize) -> usize
     }
 }
 
-// The first difference of two axes, A's of index i; limits, where they are compared.
-fn axis_differs(limits: bool, i: usize, m: Name, a: Axis, n: Name, b: Axis) -> u32
-    requires { ⌜ i ≤ mostAxes + 1 ⌝ }
-    ensures { λ r. ⌜ r ≡ axisDiffers limits i m a n b ⌝ }
+// What two axes differ in first: their names, their lower or their upper limits, where these are compared; 0 for nothing.
+fn axis_differs(limits: bool, m: Name, a: Axis, n: Name, b: Axis) -> u32
+    ensures { λ r. ⌜ (r ≡ axisDiffers limits m a n b) × (r ≤ 3) ⌝ }
 {
-    let tens = 10 * i as u32;
     if !same_name(m, n) {
-        return tens + 1;
+        return 1;
     }
     if !limits {
         return 0;
     }
     if a.lo != b.lo {
-        return tens + 2;
+        return 2;
     }
     if a.hi != b.hi {
-        return tens + 3;
+        return 3;
     }
     0
 }
@@ -92,10 +91,9 @@ fn first_difference(c: Compared, m: [Name; AXES], e: Extent, n: [Name; AXES], f:
     }
     let mut j = 0;
     while j < rank {
-        let i = index_in(c, j);
-        let d = axis_differs(limits_in(c, i), i, m[j], e.axes[j], n[j], f.axes[j]);
+        let d = axis_differs(limits_in(c, j), m[j], e.axes[j], n[j], f.axes[j]);
         if d != 0 {
-            return d;
+            return 10 * index_in(c, j) as u32 + d;
         }
         j += 1;
     }

@@ -6,7 +6,7 @@ use mathlib.Core.Bool.{Bool, true, false, not, _&&_, _||_}
 use mathlib.Core.List.{List, [], _∷_, _++_}
 use mathlib.Core.Logic.{_⊎_, inl, inr}
 use native.Mathlib.Omega.{arith}
-use borrow.Author.Tests.{eqb-true, eq-eqb, ne-eqb}
+use borrow.Author.Tests.{eqb-true, eqb-false, eq-eqb, ne-eqb}
 use lib.Dec.{eqb}
 use lib.ListN.{length, take, drop}
 use Rattle.paper.specs.declared.Name.{Name}
@@ -28,27 +28,26 @@ use Rattle.laws.specs.Alike.{sameLimits}
 -- ---- one axis, and axes in step
 
 -- nothing differs exactly if the name is the same, and the limits where they are compared
-axis-agrees : (t : Bool) (i : ℕ) (m : Name) (a : Axis) (n : Name) (b : Axis)
-    → eqb (axisDiffers t i m a n b) 0 ≡ (sameName m n && (not t || sameLimits a b))
+axis-agrees : (t : Bool) (m : Name) (a : Axis) (n : Name) (b : Axis)
+    → eqb (axisDiffers t m a n b) 0 ≡ (sameName m n && (not t || sameLimits a b))
 unfolding axisDiffers
-axis-agrees t i m a n b = by t (sameName m n) (eqb (a .lo) (b .lo)) (eqb (a .hi) (b .hi))
+axis-agrees t m a n b = by t (sameName m n) (eqb (a .lo) (b .lo)) (eqb (a .hi) (b .hi))
   where
     by : (t x y z : Bool)
-        → eqb (if not x then 10 * i + 1 else (if t && not y then 10 * i + 2 else (if t && not z then 10 * i + 3 else 0))) 0
-        ≡ (x && (not t || (y && z)))
-    by t false y z = ne-eqb (10 * i + 1) 0 (λ e. omega (arith, e))
+        → eqb (if not x then 1 else (if t && not y then 2 else (if t && not z then 3 else 0))) 0 ≡ (x && (not t || (y && z)))
+    by t false y z = refl
     by false true y z = refl
-    by true true false z = ne-eqb (10 * i + 2) 0 (λ e. omega (arith, e))
-    by true true true false = ne-eqb (10 * i + 3) 0 (λ e. omega (arith, e))
+    by true true false z = refl
+    by true true true false = refl
     by true true true true = refl
 
 -- neither the first nor a later one
-first-agrees : (d r : ℕ) → eqb (if eqb d 0 then r else d) 0 ≡ (eqb d 0 && eqb r 0)
-first-agrees d r = by (eqb d 0) refl
+first-agrees : (i d r : ℕ) → eqb (if eqb d 0 then r else 10 * i + d) 0 ≡ (eqb d 0 && eqb r 0)
+first-agrees i d r = by (eqb d 0) refl
   where
-    by : (t : Bool) → eqb d 0 ≡ t → eqb (if t then r else d) 0 ≡ (t && eqb r 0)
+    by : (t : Bool) → eqb d 0 ≡ t → eqb (if t then r else 10 * i + d) 0 ≡ (t && eqb r 0)
     by true e = refl
-    by false e = e
+    by false e = ne-eqb (10 * i + d) 0 (λ z. eqb-false d 0 e (omega (arith, z)))
 
 -- names alone
 names-agree : (I : List ℕ) (M N : List Name) (E F : List Axis) → length I ≡ length M → length M ≡ length N
@@ -62,8 +61,8 @@ names-agree (i ∷ I) (m ∷ M) [] E F l k = absurd (omega (arith, k))
 names-agree (i ∷ I) (m ∷ M) (n ∷ N) E F l k =
     let a = axisAt 1 E in
     let b = axisAt 1 F in
-    first-agrees (axisDiffers false i m a n b) (inStep (λ i. false) I M (drop 1 E) N (drop 1 F))
-    ∙ ap₂ (λ (x y : Bool). x && y) (axis-agrees false i m a n b ∙ and-true (sameName m n))
+    first-agrees i (axisDiffers false m a n b) (inStep (λ i. false) I M (drop 1 E) N (drop 1 F))
+    ∙ ap₂ (λ (x y : Bool). x && y) (axis-agrees false m a n b ∙ and-true (sameName m n))
     (names-agree I M N (drop 1 E) (drop 1 F) (omega (arith, l)) (omega (arith, k)))
 
 -- limits from index s on, where f says so
@@ -87,8 +86,8 @@ both-agree f (suc n) s (x ∷ M) [] E F j k l m = absurd (omega (arith, k))
 both-agree f (suc n) s (x ∷ M) (y ∷ N) [] F j k l m = absurd (omega (arith, l))
 both-agree f (suc n) s (x ∷ M) (y ∷ N) (a ∷ E) [] j k l m = absurd (omega (arith, m))
 both-agree f (suc n) s (x ∷ M) (y ∷ N) (a ∷ E) (b ∷ F) j k l m =
-    first-agrees (axisDiffers (f s) s x a y b) (inStep f (from (suc s) n) M E N F)
-    ∙ ap₂ (λ (v w : Bool). v && w) (axis-agrees (f s) s x a y b)
+    first-agrees s (axisDiffers (f s) x a y b) (inStep f (from (suc s) n) M E N F)
+    ∙ ap₂ (λ (v w : Bool). v && w) (axis-agrees (f s) x a y b)
     (both-agree f n (suc s) M N E F (omega (arith, j)) (omega (arith, k)) (omega (arith, l)) (omega (arith, m)))
     ∙ and-crossed (sameName x y) (not (f s) || sameLimits a b) (alike sameName M N) (limitsFrom f (suc s) E F)
 
@@ -205,33 +204,34 @@ joined-indices : (n : ℕ) (I J : List ℕ) → Indices n I → Indices n J → 
 joined-indices n [] J h k = k
 joined-indices n (i ∷ I) J h k = (h .0, h .1, joined-indices n I J (h .2) k)
 
-axis-figure : (n i : ℕ) → 1 ≤ i → i ≤ n → (t : Bool) (x : Name) (a : Axis) (y : Name) (b : Axis)
-    → (axisDiffers t i x a y b ≡ 0) ⊎ OfAxis n (axisDiffers t i x a y b)
+-- of an axis: its name, its lower limit, its upper limit, or nothing
+axis-kind : (t : Bool) (x : Name) (a : Axis) (y : Name) (b : Axis) → let d : ℕ = axisDiffers t x a y b in
+    (d ≡ 0) ⊎ ((d ≡ 1) ⊎ ((d ≡ 2) ⊎ (d ≡ 3)))
 unfolding axisDiffers
-axis-figure n i one last t x a y b = by (sameName x y) (t && not (eqb (a .lo) (b .lo))) (t && not (eqb (a .hi) (b .hi)))
+axis-kind t x a y b = by (sameName x y) (t && not (eqb (a .lo) (b .lo))) (t && not (eqb (a .hi) (b .hi)))
   where
-    by : (p q r : Bool) → let d : ℕ = if not p then 10 * i + 1 else (if q then 10 * i + 2 else (if r then 10 * i + 3 else 0)) in
-        (d ≡ 0) ⊎ OfAxis n d
-    by false q r = inr (record { index = i; one = one; last = last; kind = inl refl })
-    by true true r = inr (record { index = i; one = one; last = last; kind = inr (inl refl) })
-    by true false true = inr (record { index = i; one = one; last = last; kind = inr (inr refl) })
+    by : (p q r : Bool) → let d : ℕ = if not p then 1 else (if q then 2 else (if r then 3 else 0)) in
+        (d ≡ 0) ⊎ ((d ≡ 1) ⊎ ((d ≡ 2) ⊎ (d ≡ 3)))
+    by false q r = inr (inl refl)
+    by true true r = inr (inr (inl refl))
+    by true false true = inr (inr (inr refl))
     by true false false = inl refl
+
+-- the axis of index i, or a later one
+first-figure : (n i d r : ℕ) → 1 ≤ i → i ≤ n → (d ≡ 0) ⊎ ((d ≡ 1) ⊎ ((d ≡ 2) ⊎ (d ≡ 3))) → (r ≡ 0) ⊎ OfAxis n r
+    → let e : ℕ = if eqb d 0 then r else 10 * i + d in (e ≡ 0) ⊎ OfAxis n e
+first-figure n i d r one last (inl z) c = rw z c
+first-figure n i d r one last (inr (inl z)) c = inr (rw z (record { index = i; one = one; last = last; kind = inl refl }))
+first-figure n i d r one last (inr (inr (inl z))) c = inr (rw z (record { index = i; one = one; last = last; kind = inr (inl refl) }))
+first-figure n i d r one last (inr (inr (inr z))) c = inr (rw z (record { index = i; one = one; last = last; kind = inr (inr refl) }))
 
 step-figure : (n : ℕ) (f : ℕ → Bool) (I : List ℕ) (M N : List Name) (E F : List Axis) → Indices n I
     → (inStep f I M E N F ≡ 0) ⊎ OfAxis n (inStep f I M E N F)
 unfolding inStep
 step-figure n f [] M N E F h = inl refl
 step-figure n f (i ∷ I) M N E F h =
-    either (axis-figure n i (h .0) (h .1) (f i) (nameAt 1 M) (axisAt 1 E) (nameAt 1 N) (axisAt 1 F))
+    first-figure n i _ _ (h .0) (h .1) (axis-kind (f i) (nameAt 1 M) (axisAt 1 E) (nameAt 1 N) (axisAt 1 F))
     (step-figure n f I (drop 1 M) (drop 1 N) (drop 1 E) (drop 1 F) (h .2))
-  where
-    either : {d r : ℕ} → (d ≡ 0) ⊎ OfAxis n d → (r ≡ 0) ⊎ OfAxis n r
-        → ((if eqb d 0 then r else d) ≡ 0) ⊎ OfAxis n (if eqb d 0 then r else d)
-    either {d} {r} c e = by (eqb d 0)
-      where
-        by : (t : Bool) → ((if t then r else d) ≡ 0) ⊎ OfAxis n (if t then r else d)
-        by true = e
-        by false = c
 
 -- of A's axes, whatever is compared
 all-figure : (n : ℕ) (f : ℕ → Bool) (I : List ℕ) (M N : List Name) (E F : List Axis) → Indices n I

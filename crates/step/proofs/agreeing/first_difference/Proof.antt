@@ -1,6 +1,6 @@
 -- `step::agreeing::first_difference` meets its contract.
 -- As many axes; then the loop keeps the first difference of the axes left equal to the whole.
-use Prim.Native.Nat.{ℕ, _+_, _-_, _≤_}
+use Prim.Native.Nat.{ℕ, _+_, _-_, _*_, _≤_, _<_}
 use mathlib.Core.Bool.{Bool}
 use mathlib.Core.List.{List}
 use mathlib.Core.Path.{_≡_, ap, sym, _∙_}
@@ -49,29 +49,33 @@ module _ (c : tie.Else1 Inv-loop μ-loop) where
   second-room : rank ≤ length (start .args .t4)
   second-room = omega (arith, full-second start, c .before .before .rank-of .ensures .few)
 
--- what differs on the axis that the loop is at
-module _ (c : tie.After-axis-differs Inv-loop μ-loop) where
-  abbrev turn : tie.In-loop Inv-loop μ-loop
-  turn = c .before .before .before .before .before .before .before
-
+-- the axis that the loop is at
+module _ (c : tie.In-loop Inv-loop μ-loop) where
   abbrev many : tie.Else1 Inv-loop μ-loop
-  many = turn .before .before
+  many = c .before .before
 
   abbrev j : ℕ
-  j = turn .before .loop .j
+  j = c .before .loop .j
 
-  told : let a = start many .args in
-      let i = indexIn (a .c) j in
+  few : j < mostAxes
+  few = omega (arith, c .loop-test .taken, many .before .before .rank-of .ensures .few)
+
+-- what it differs in
+module _ (c : tie.After-axis-differs Inv-loop μ-loop) where
+  abbrev turn : tie.In-loop Inv-loop μ-loop
+  turn = c .before .before .before .before .before .before
+
+  told : let a = start (many turn) .args in
       c .axis-differs .result
-      ≡ axisDiffers (limitsIn (a .c) i) i (getD (a .t2) j noName) (axisNo (a .t3) j) (getD (a .t4) j noName) (axisNo (a .t5) j)
+      ≡ axisDiffers (limitsIn (a .c) (indexIn (a .c) (j turn))) (getD (a .t2) (j turn) noName) (axisNo (a .t3) (j turn))
+      (getD (a .t4) (j turn) noName) (axisNo (a .t5) (j turn))
   told =
-      let a = start many .args in
+      let a = start (many turn) .args in
+      let i = j turn in
       let l = c .before .before .before .before .before in
-      let differs : Bool → ℕ → ℕ =
-      λ t i. axisDiffers t i (getD (a .t2) j noName) (axisNo (a .t3) j) (getD (a .t4) j noName) (axisNo (a .t5) j) in
-      c .axis-differs .ensures
-      ∙ ap (λ (t : Bool). differs t (l .before .index-in .result)) (l .limits-in .ensures)
-      ∙ ap (λ (i : ℕ). differs (limitsIn (a .c) i) i) (l .before .index-in .ensures .0)
+      c .axis-differs .ensures .0
+      ∙ ap (λ (t : Bool). axisDiffers t (getD (a .t2) i noName) (axisNo (a .t3) i) (getD (a .t4) i noName) (axisNo (a .t5) i))
+      (l .limits-in .ensures)
 
 returns : tie.Need-returns Inv-loop μ-loop
 returns c =
@@ -85,29 +89,42 @@ loop-holds c =
     count-same (a .c) (a .t2) (a .t4) (a .t3) (a .t5)
     (sym (c .before .rank-of2 .ensures .number) ∙ same c ∙ c .before .before .rank-of .ensures .number)
 
-index-in-requires : tie.Need-index-in-requires Inv-loop μ-loop
-index-in-requires c κs = omega (arith, c .loop-test .taken, c .before .before .before .before .rank-of .ensures .few)
+limits-in-requires : tie.Need-limits-in-requires Inv-loop μ-loop
+limits-in-requires c κs = few c
 
-axis-differs-requires : tie.Need-axis-differs-requires Inv-loop μ-loop
-axis-differs-requires c κs = c .before .before .before .before .before .index-in .ensures .1
+index-in-requires : tie.Need-index-in-requires Inv-loop μ-loop
+index-in-requires c κs = few (turn (c .before))
+
+-- the figure: its index is at most one past the most axes
+cast-result : tie.Need-cast-result Inv-loop μ-loop
+cast-result c = omega (arith, c .index-in .ensures .1)
+
+mul-result : tie.Need-mul-result Inv-loop μ-loop
+mul-result c = omega (arith, c .index-in .ensures .1)
+
+add-result : tie.Need-add-result Inv-loop μ-loop
+add-result c = omega (arith, c .index-in .ensures .1, c .before .before .axis-differs .ensures .1)
 
 returns-2 : tie.Need-returns-2 Inv-loop μ-loop
 returns-2 c =
-    let p = c .before in
+    let d = c .before .before in
+    let p = turn d in
     let m = many p in
     let a = start m .args in
-    axis-found (a .c) (a .t2) (a .t4) (a .t3) (a .t5) _ _ (m .before .before .rank-of .ensures) (m .before .rank-of2 .ensures) (same m)
-    (first-room m) (second-room m) (j p) (turn p .loop-test .taken) _ (told p) (c .if2 .taken)
-    ∙ turn p .before .loop .inv
+    ap (λ (i : ℕ). 10 * i + d .axis-differs .result) (c .index-in .ensures .0)
+    ∙ axis-found (a .c) (a .t2) (a .t4) (a .t3) (a .t5) _ _ (m .before .before .rank-of .ensures) (m .before .rank-of2 .ensures) (same m)
+    (first-room m) (second-room m) (j p) (p .loop-test .taken) _ (told d) (c .before .if2 .taken)
+    ∙ p .before .loop .inv
 
 loop-again : tie.Need-loop-again Inv-loop μ-loop
 loop-again c =
-    let p = c .before in
+    let d = c .before in
+    let p = turn d in
     let m = many p in
     let a = start m .args in
     axis-passed (a .c) (a .t2) (a .t4) (a .t3) (a .t5) _ _ (m .before .before .rank-of .ensures) (m .before .rank-of2 .ensures) (same m)
-    (first-room m) (second-room m) (j p) (turn p .loop-test .taken) _ (told p) (omega (arith, c .if2 .left))
-    ∙ turn p .before .loop .inv
+    (first-room m) (second-room m) (j p) (p .loop-test .taken) _ (told d) (omega (arith, c .if2 .left))
+    ∙ p .before .loop .inv
 
 returns-3 : tie.Need-returns-3 Inv-loop μ-loop
 returns-3 c =
@@ -121,7 +138,7 @@ pub first-difference-spec : {M : Type 1} → statement M
 first-difference-spec =
     tie.close
     (tie.spec
-    Inv-loop μ-loop (λ c κs. search needs) (λ c κs. search needs) returns loop-holds index-in-requires
-    (λ c κs. search needs) (λ c. search needs) (λ c. search needs) (λ c. search needs) (λ c. search needs)
-    (λ c. search needs) (λ c. search needs) (λ c. search needs) (λ c. search needs) axis-differs-requires returns-2
+    Inv-loop μ-loop (λ c κs. search needs) (λ c κs. search needs) returns loop-holds limits-in-requires
+    (λ c. search needs) (λ c. search needs) (λ c. search needs) (λ c. search needs) (λ c. search needs) (λ c. search needs)
+    (λ c. search needs) (λ c. search needs) (λ c κs. search needs) index-in-requires cast-result mul-result add-result returns-2
     (λ c. search needs) (λ c. omega arith) loop-again returns-3)
