@@ -1,13 +1,14 @@
 //! The examples in hex of docs/FORMAT.md, read out of the page and put to the engine: the bundle is read, each operation's step is run over
 //! it and leaves the cells that the page prints, the rows and the answer of a page are those printed, so are a plan and the head of a result,
 //! and a head packs to its bundle; and so for the example in version 2. The table of JSON texts is read too, each text put to the engine in
-//! both versions. What the page's tables say of both versions is looked up too, and that every refusal has a row.
+//! both versions, and the steps that say what 8 says. What the page's tables say of both versions is looked up too, and that every refusal
+//! has a row.
 
 use std::collections::BTreeMap;
 use std::fs;
 use std::path::PathBuf;
 
-use rovgrint::{raw, read_json, Axis, Bundle, Cell, Head, Kind, Recipe, Row, Version};
+use rovgrint::{raw, read_json, Axis, Bundle, Cell, Head, Kind, Operator, Recipe, Row, Version};
 
 fn page() -> String {
     let path = PathBuf::from(env!("CARGO_MANIFEST_DIR")).join("../docs/FORMAT.md");
@@ -172,6 +173,32 @@ fn table_of_refusals() {
     let (_, section) = page.split_once("\n## Refusals\n").expect("the section");
     let numbers = section.lines().filter_map(|line| line.strip_prefix("| ")?.split(" |").next()?.parse::<u32>().ok());
     assert_eq!(numbers.collect::<Vec<u32>>(), (1..=16).collect::<Vec<u32>>());
+}
+
+/// The steps of the section "What 8 says", put to the engine: each answers as its row prints.
+#[test]
+fn what_8_says() {
+    let (page, blocks) = (page(), blocks());
+    let (_, section) = page.split_once("\n### What 8 says\n").expect("the section");
+    let bundle = Bundle::read(&blocks["bundle"]).expect("the page's bundle");
+    let steps = [
+        ("pair of arrays 1 and 3", bundle.recipe().pair(1, 3, Operator::Plus)),
+        ("pair of arrays 1 and 2", bundle.recipe().pair(1, 2, Operator::Plus)),
+        ("glue of arrays 1 and 2 along `x`", bundle.recipe().glue(1, 2, 1)),
+        ("glue of arrays 1 and 2 along `y`", bundle.recipe().glue(1, 2, 2)),
+        ("place of array 3 into array 1, on `x`", bundle.recipe().place(1, 3, 1, 1)),
+        ("update of array 1 with array 2", bundle.recipe().update(1, 2)),
+    ];
+    let rows: Vec<&str> = section.lines().skip_while(|line| !line.starts_with("| Step |")).skip(2).collect();
+    assert_eq!(rows.len(), steps.len(), "a row for each of them, and none behind them");
+    for (row, (words, recipe)) in rows.iter().zip(steps) {
+        let printed = row.strip_prefix(&format!("| {words} | ")).unwrap_or_else(|| panic!("no row {words}"));
+        let figures = match bundle.plan(&recipe) {
+            Ok(_) => "done".to_string(),
+            Err(refusal) => refusal.figures().map(|figure| figure.to_string()).join(", "),
+        };
+        assert_eq!(printed.split(':').next(), Some(&figures[..]), "{words}");
+    }
 }
 
 /// The figures of the table of versions.
