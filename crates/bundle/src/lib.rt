@@ -1,5 +1,7 @@
 // Reading a bundle: the first refusal in the paper's order, or the arrays' types, extents and maxima and where their cells lie.
 // A refusal with number 0 is none.
+#![tactic(auto)]
+
 ghost use Rattle.std.specs.Prelude.{◌≡◌, ◌≤◌, length, replicate};
 ghost use Rattle.paper.specs.declared.Version.TheVariants.{One};
 ghost use Rattle.paper.specs.Limits.{most_arrays, sizes_of};

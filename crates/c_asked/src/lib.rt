@@ -1,4 +1,6 @@
 // What a caller asks, from bytes: the heads of arrays, the coordinate of a reference, the walking place, a total by its number.
+#![tactic(auto)]
+
 ghost use Rattle.std.specs.Prelude.{◌≡◌, ◌+◌, ◌≤◌, ◌<◌, length, drop};
 ghost use Rattle.paper.specs.Limits.{limit_bytes, sizes_of};
 ghost use Rattle.paper.specs.Numbers.{signed_at};

@@ -1,5 +1,7 @@
 // What a call tells: the bytes of its answer, or of its refusal's place and ordinality, at the beginning of a buffer that the caller lends.
 // Where the buffer is shorter, its bytes are the first of the answer's; where it is longer, the bytes after the answer stay.
+#![tactic(auto)]
+
 ghost use Rattle.std.specs.Prelude.{◌≡◌, ◌≤◌, length};
 ghost use Rattle.paper.specs.Refusals.{got, refusal};
 ghost use Rattle.paper.specs.Cells.{encode};

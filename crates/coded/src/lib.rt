@@ -1,5 +1,7 @@
 // Coded operators, for the loop over cells: one number for type and operator, operands as mark and word, of cells that were judged, and
 // the cells built in the arm of the code's match. A pair code is 16 * (type - 1) + operator, a single code 48 + 4 * operator + type.
+#![tactic(auto)]
+
 ghost use Rattle.std.specs.Prelude.{◌≡◌, ◌≤◌, ◌<◌};
 ghost use Rattle.paper.specs.Limits.{INT, FLOAT, BOOLEAN};
 ghost use Rattle.coded.specs.Codes.{standing, NoNan, Judged, answered, pair_code_of, single_code_of};

@@ -1,5 +1,7 @@
 // Numbers and positions in decimal, how many bytes they take, and the lines that the program prints of a refusal and of a listing.
 // Each writer writes into `out` from the byte `at` on and answers the byte after what it wrote; the rest of `out` stays.
+#![tactic(auto)]
+
 ghost use Rattle.std.specs.Prelude.{◌≡◌, [], ◌∷◌, ◌+◌, ◌*◌, ◌<◌, ◌≤◌, pos, length};
 ghost use Rattle.paper.specs.Limits.{limit_bytes};
 ghost use Rattle.paper.specs.Numbers.{position};

@@ -1,5 +1,7 @@
 // The printed examples of the report and the papers, run. Standard input has them as a script, a line a command, that says what to print
 // and what to call; what the calls give is printed beside it. A new case is a line of the script and one of what it must print.
+#![tactic(auto)]
+
 mod ask;
 mod obey;
 

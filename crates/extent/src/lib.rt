@@ -1,5 +1,7 @@
 // An extent judged as the paper does: names, limits, number of cells, inside its maximum; and one extent inside another, by one loop that
 // is told what is asked of each two axes. An extent's axes are the first `rank`, never more than there is room for; names stand apart.
+#![tactic(auto)]
+
 ghost use Rattle.std.specs.Prelude.{◌≡◌, ◌+◌, ◌-◌, ◌*◌, ◌≤◌};
 ghost use Rattle.paper.specs.Limits.{most_axes, most_cells, reach};
 ghost use Rattle.paper.specs.Axes.{good_limits, width, axis_within, axis_at, on_axis};

@@ -1,5 +1,7 @@
 // What is due in the value of `data` for an extent, one bracket or cell after the other: a bracket, what is due for each position of the
 // first axis, the closing bracket. It is kept as the levels that are open and the positions that each has left.
+#![tactic(auto)]
+
 ghost use Rattle.std.specs.Prelude.{List, ◌≡◌, ◌≤◌, ◌<◌, length};
 ghost use Rattle.paper.specs.declared.Axis.{Axis};
 ghost use Rattle.paper.specs.Limits.{most_axes};

@@ -1,4 +1,6 @@
 // The brackets that are open in a JSON text, up to sixteen levels as bits, and what a byte begins there. Of the text only one byte is seen.
+#![tactic(auto)]
+
 ghost use Rattle.std.specs.Prelude.{◌≡◌, false, true, ℕ, ◌-◌, ◌/◌};
 ghost use Rattle.paper.specs.Grammar.{among, blank};
 ghost use Rattle.json_levels.specs.Parts.{Standing, StandingAt, Turned, TurnedAt, Open, parts_at, outermost, so, array?, Other};

@@ -1,5 +1,7 @@
 // A JSON text read into the cells of an array whose type and extent the caller names (request [5]). The text is read once, each cell stored
 // in a buffer of the reader's own; the caller's is written when no refusal is left, so that every refusal leaves it as it was.
+#![tactic(auto)]
+
 ghost use Rattle.std.specs.Prelude.{◌≡◌, length};
 ghost use Rattle.paper.specs.Limits.{sizes_of};
 ghost use Rattle.paper.specs.Answers.{axes_of, names_for, json_said, json_exact};

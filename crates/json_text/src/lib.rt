@@ -1,4 +1,5 @@
 // The parts of a JSON text, read from a byte on: where each ends, or where the text stops being JSON.
+#![tactic(auto)]
 
 pub mod bytes;
 pub mod cells;

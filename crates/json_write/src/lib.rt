@@ -1,5 +1,7 @@
 // An array of a bundle as JSON (request [2]). The writer of brackets calls itself for the next axis, as the report's F does; the number of
 // axes left falls to the cells. The text is measured first, so that nothing is written where it doesn't fit.
+#![tactic(auto)]
+
 ghost use Rattle.std.specs.Prelude.{[], ◌∷◌, ◌≡◌, ◌+◌, ◌*◌, ◌^◌, ◌<◌, ◌≤◌, length};
 ghost use Rattle.paper.specs.Limits.{most_cells, cell_bytes};
 ghost use Rattle.paper.specs.Axes.{cells};

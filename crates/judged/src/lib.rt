@@ -1,5 +1,7 @@
 // An array's cells judged: eight at a time while all are cells, without a branch on what they hold, so that blanks among them cost no time;
 // then one after the other up to the first that is none.
+#![tactic(auto)]
+
 ghost use Rattle.std.specs.Prelude.{◌≡◌, ◌+◌, ◌*◌, ◌≤◌, true, length, drop};
 ghost use Rattle.paper.specs.Limits.{cell_bytes};
 ghost use Rattle.paper.specs.Numbers.{part};

@@ -1,5 +1,7 @@
 // Moved cells laid down in the work area as they lie in their array: a run of cells by one copy, a cell by its mark and its word, or blanks
 // as zeros.
+#![tactic(auto)]
+
 ghost use Rattle.std.specs.Prelude.{◌≡◌, ◌+◌, ◌*◌, ◌≤◌, length};
 ghost use Rattle.paper.specs.Limits.{cell_bytes};
 ghost use Rattle.paper.specs.Numbers.{part};

@@ -1,5 +1,7 @@
 // The rows of a page. A row is written for each TRUE cell from a start ordinality on, until the row buffer has no room for another; the
 // answer tells how many were written and where to go on.
+#![tactic(auto)]
+
 ghost use Rattle.std.specs.Prelude.{◌≡◌, ◌+◌, ◌-◌, ◌*◌, ◌≤◌, length, take};
 ghost use Rattle.std.proofs.Math.Seq.{paste};
 ghost use Rattle.paper.specs.Limits.{BOOLEAN, most_axes, limit_bytes, cell_bytes};

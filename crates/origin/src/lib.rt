@@ -1,5 +1,7 @@
 // Where each cell of a moved result comes from: a cell of A, a cell of B, or none. Cells are counted from 0 in row-major order. Around an
 // axis they go in blocks, so that an axis left out, put in or glued is a matter of counting.
+#![tactic(auto)]
+
 ghost use Rattle.std.specs.Prelude.{◌≡◌, ◌+◌, ◌*◌, ◌≤◌, ◌<◌, length, drop};
 ghost use Rattle.paper.specs.Limits.{most_cells};
 ghost use Rattle.paper.specs.Axes.{cells, offset, at_offset, axis_at, without, put_in};

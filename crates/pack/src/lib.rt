@@ -1,5 +1,7 @@
 // Packing: types, extents, maxima and cells are judged as reading does, then written as a bundle of a version.
 // Nothing is written before every test has passed: a refusal leaves the output buffer untouched.
+#![tactic(auto)]
+
 ghost use Rattle.paper.specs.Limits.{sizes_of};
 ghost use Rattle.pack.specs.Laid.{shapes_of};
 ghost use Rattle.pack.specs.Laying.{PackedAs, PackedInto};

@@ -1,5 +1,7 @@
 // Places in an extent: whether a coordinate lies inside, its ordinality, the coordinate of an ordinality, and where a coordinate lies in
 // an array. A coordinate's positions are distances above -1,000,000, the first as many as the extent has axes.
+#![tactic(auto)]
+
 ghost use Rattle.std.specs.Prelude.{◌≡◌, List, ℕ, ◌+◌, ◌-◌, ◌*◌, ◌≤◌};
 ghost use Rattle.paper.specs.declared.Name.{Name};
 ghost use Rattle.paper.specs.Limits.{reach};

@@ -1,5 +1,7 @@
 // Positions. A position is carried as its distance above -1,000,000, so that no signed number is made: 32 bits of two's complement come
 // in and go out as a u32.
+#![tactic(auto)]
+
 ghost use Rattle.std.specs.Prelude.{◌≡◌};
 ghost use Rattle.std.specs.Int.{w32};
 ghost use Rattle.std.proofs.Common.{to_z, of_z};

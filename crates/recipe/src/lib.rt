@@ -1,5 +1,7 @@
 // A recipe judged as the paper does: its length, then each step in turn. The plan keeps every array that a step can name, the bundle's
 // and the results: its type, extent and maximum, where its cells lie, and how many they are.
+#![tactic(auto)]
+
 pub mod operands;
 pub mod steps;
 

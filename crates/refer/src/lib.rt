@@ -1,4 +1,6 @@
 // References and walks: an array of a bundle chosen by its number, the cell at a coordinate, and the cell at a walking place.
+#![tactic(auto)]
+
 ghost use Rattle.std.specs.Prelude.{◌≡◌, ◌+◌, ◌*◌, ◌≤◌, length, take, map};
 ghost use Rattle.std.specs.Int.{w32};
 ghost use Rattle.std.proofs.Common.{of_z};

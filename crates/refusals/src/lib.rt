@@ -1,5 +1,7 @@
 // The refusal that a failed test gives, its number, place and ordinality together; none, where every test holds; and the test of a
 // number's range.
+#![tactic(auto)]
+
 ghost use Rattle.std.specs.Prelude.{◌≡◌};
 ghost use Rattle.paper.specs.Refusals.{refusal, between};
 

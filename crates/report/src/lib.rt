@@ -1,5 +1,7 @@
 // The text that the program `rests` prints of a bundle and a recipe: `too long`, the refusal, or the rows of the last result. One page
 // call with a row buffer for every cell writes all rows, and each row's line is read from its bytes there.
+#![tactic(auto)]
+
 ghost use Rattle.std.specs.Prelude.{◌≡◌, ◌+◌, ◌*◌, ◌≤◌, length, take};
 ghost use Rattle.paper.specs.Limits.{most_axes, most_cells, limit_bytes};
 ghost use Rattle.paper.specs.Numbers.{text};

@@ -1,5 +1,7 @@
 // The program `rests`: what paper 01, "Eleven hours, whole", says that it prints. It reads `roster.rma` and `recipe.bin` from the current
 // folder and prints the text that `report` makes of them. A missing file counts as empty. It is run here on that paper's example.
+#![tactic(auto)]
+
 ghost use Rattle.io.specs.Counts.{IsPrefixLen};
 
 use libc::STDOUT_FILENO;

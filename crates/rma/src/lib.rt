@@ -1,5 +1,7 @@
 // The engine for other languages: a call a public part, with numbers and byte slices only. A call returns the number of its refusal, 0
 // for none, and writes its answer's bytes, or the refusal's place and ordinality, to `said`: as many as there is room for.
+#![tactic(auto)]
+
 ghost use Rattle.std.specs.Prelude.{◌≡◌};
 ghost use Rattle.paper.specs.Cells.{encode};
 ghost use Rattle.paper.specs.Json.{write_json};

@@ -1,5 +1,7 @@
 // A moved result by rows: runs of cells that come from cells side by side, or that are all empty; lines of up to three such runs; and
 // bands of lines that are alike, each line's cells coming from as many cells after those of the line before.
+#![tactic(auto)]
+
 pub mod sides;
 
 ghost use Rattle.std.specs.Prelude.{◌≡◌, ◌+◌, ◌-◌, ◌≤◌, ◌<◌};

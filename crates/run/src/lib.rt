@@ -1,5 +1,7 @@
 // The plan, run and page calls: the bundle and the recipe tested, the work area and the row buffer tested, then the values of all steps,
 // then the rows. No row is written before every value is known.
+#![tactic(auto)]
+
 ghost use Rattle.std.specs.Prelude.{◌≡◌, ◌≤◌, length, replicate};
 ghost use Rattle.paper.specs.declared.PageAnswer.TheVariants.{Refused};
 ghost use Rattle.paper.specs.Limits.{most_steps, most_cells};

@@ -1,5 +1,7 @@
 // New extents from old, by value: with the limits or amounts of a step's detail, with an axis removed, and two glued. An extent is built
 // axis by axis, so that nothing stands past its last axis. Names follow on their own.
+#![tactic(auto)]
+
 ghost use Rattle.std.specs.Prelude.{◌≡◌, [], map, ◌*◌, length, drop};
 ghost use Rattle.paper.specs.Limits.{pair_bytes, limit_bytes};
 ghost use Rattle.paper.specs.Axes.{without, star};

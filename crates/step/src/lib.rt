@@ -1,5 +1,7 @@
 // One step of a recipe in parts, each against one definition of the paper: the operation that its bytes name, the bytes that it does not
 // use, its types, what two arrays differ in first, what lies inside A, and the type and extent of its result.
+#![tactic(auto)]
+
 pub mod agreeing;
 pub mod operation;
 pub mod tests;

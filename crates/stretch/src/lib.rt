@@ -1,5 +1,7 @@
 // A glued array read without being built: the stretch from a cell up to where the other side begins is a part of the left or of the
 // right cell buffer. The version told is judged, then each side, then what gluing asks, then the ordinality; cells aren't.
+#![tactic(auto)]
+
 ghost use Rattle.std.specs.Prelude.{◌*◌, ◌≤◌, ◌≡◌, length};
 ghost use Rattle.paper.specs.Limits.{most_cells, cell_bytes, sizes_of};
 ghost use Rattle.paper.specs.Refusals.{got};

@@ -1,5 +1,7 @@
 // The six totals of a bundle array. Each goes over the cells in row-major order and skips the empty ones; the loop carries the total of
 // the cells before, by value.
+#![tactic(auto)]
+
 ghost use Rattle.std.specs.Prelude.{◌≡◌, ℕ};
 ghost use Rattle.std.specs.Float.{nan};
 ghost use Rattle.paper.specs.Operators.{answered};

@@ -1,6 +1,8 @@
 // The values of a recipe's steps, one after the other in the work area, nine bytes a cell. Operations 1 to 8 move runs of cells, a
 // band of lines at a time (lay); 9 to 12 work cells out, first in a quick loop that ends at a cell that refuses, then in the loop over
 // steps and cells, which begins where that ended and which a label leaves at the first cell that refuses.
+#![tactic(auto)]
+
 mod bands;
 
 ghost use Rattle.std.specs.Prelude.{◌≡◌, ◌+◌, ◌<◌};

@@ -1,4 +1,6 @@
 // The versions of the bundle: what hangs on each, and which one a number tells of.
+#![tactic(auto)]
+
 ghost use Rattle.std.specs.Prelude.{◌≡◌};
 ghost use Rattle.paper.specs.Limits.{sizes_of};
 ghost use Rattle.paper.specs.Bundle.{version_told};
