@@ -22,7 +22,7 @@ fn axis_at(s: &[u8], at: usize) -> Axis
 }
 
 // An extent with the names of its axes, and its maximum.
-#[derive(Drop)]
+#[derive(Clone, Copy)]
 pub struct Bounds {
     pub names: [Name; AXES],
     pub extent: Extent,

@@ -25,7 +25,7 @@ pub mod axes;
 pub mod mark;
 
 // An array's cells judged: how many, or the refusal.
-#[derive(Drop)]
+#[derive(Clone, Copy)]
 pub struct Counted {
     pub refusal: Refusal,
     pub cells: usize,

@@ -25,7 +25,7 @@ use totals::total;
 use versions::sizes;
 
 // The forms of the arrays to be packed, and how many.
-#[derive(Drop)]
+#[derive(Clone, Copy)]
 pub struct Forms {
     pub count: usize,
     pub forms: [Form; paper::ARRAYS],

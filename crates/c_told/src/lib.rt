@@ -20,7 +20,7 @@ use paper::{
 pub const MOST: usize = 4 * LIMIT_BYTES;
 
 // What a call tells: the number of its refusal, 0 for none, and the first `long` of these bytes.
-#[derive(Drop)]
+#[derive(Clone, Copy)]
 pub struct Reply {
     pub number: u32,
     pub long: usize,

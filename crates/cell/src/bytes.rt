@@ -11,7 +11,7 @@ ghost use Rattle.cell.specs.Reads.{told};
 use paper::Cell;
 
 // What nine bytes are: a cell, or no cell.
-#[derive(Drop)]
+#[derive(Clone, Copy)]
 pub enum Got {
     Is(Cell),
     Bad,

@@ -9,14 +9,14 @@ ghost use Rattle.cell.specs.Totals.{onward, after, counted};
 use crate::floats::is_finite;
 use paper::Cell;
 
-#[derive(Drop)]
+#[derive(Clone, Copy)]
 pub struct Mean {
     pub sum: f64,
     pub count: u32,
 }
 
 // What one cell more does: the sum goes on, or isn't finite.
-#[derive(Drop)]
+#[derive(Clone, Copy)]
 pub enum Added {
     On(Mean),
     NoFit,

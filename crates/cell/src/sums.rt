@@ -14,7 +14,7 @@ const SIGN: u64 = 9223372036854775808;
 
 const HALF: u64 = 4294967296;
 
-#[derive(Drop)]
+#[derive(Clone, Copy)]
 pub struct Exact {
     pub high: u64,
     pub low: u64,

@@ -127,7 +127,7 @@ pub fn good_extent(names: [Name; AXES], e: Extent) -> usize
 
 // What is asked of each two axes: that the first lies inside the maximum's, whose limits are in range; that the second lies inside the
 // first.
-#[derive(Drop)]
+#[derive(Clone, Copy)]
 enum Asked {
     Within,
     Covers,

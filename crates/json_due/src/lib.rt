@@ -13,7 +13,7 @@ use extent::{axis_of, rank_of, width_of};
 use paper::{AXES, AxisIndex, Extent};
 
 // What is due next.
-#[derive(Drop)]
+#[derive(Clone, Copy)]
 pub enum Wanted {
     Nothing,
     Opening,
@@ -22,7 +22,7 @@ pub enum Wanted {
 }
 
 // That, how many levels are open, and how many positions each has left after it, the first axis first.
-#[derive(Drop)]
+#[derive(Clone, Copy)]
 pub struct Cursor {
     pub wanted: Wanted,
     pub level: usize,

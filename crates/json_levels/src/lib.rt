@@ -14,7 +14,7 @@ const LEVELS: u32 = 16;
 
 // What may come next: the object; what follows an opening bracket; what follows a value, or the object where no level is open; a value;
 // a member.
-#[derive(Drop)]
+#[derive(Clone, Copy)]
 pub enum Next {
     Object,
     First,
@@ -24,7 +24,7 @@ pub enum Next {
 }
 
 // That, how many levels are open, and a bit for each, the innermost lowest: 1 for an array, 0 for an object.
-#[derive(Drop)]
+#[derive(Clone, Copy)]
 pub struct Levels {
     pub next: Next,
     pub depth: u32,
@@ -32,7 +32,7 @@ pub struct Levels {
 }
 
 // What a byte begins: nothing that may come; after a comma; a bracket; a name; a string; a number by its first byte; a word.
-#[derive(Drop)]
+#[derive(Clone, Copy)]
 pub enum Begun {
     Nothing,
     Comma,
@@ -48,7 +48,7 @@ pub enum Begun {
 }
 
 // What the byte begins, and the levels after it.
-#[derive(Drop)]
+#[derive(Clone, Copy)]
 pub struct Turn {
     pub begun: Begun,
     pub levels: Levels,

@@ -17,7 +17,7 @@ use json_text::names::is_data;
 use paper::{CELL_BYTES, Extent};
 
 // Before `data`; in its value or after it; after a misfit; after a byte that ends it all.
-#[derive(Drop)]
+#[derive(Clone, Copy)]
 pub enum Stage {
     Before,
     Within,
@@ -26,7 +26,7 @@ pub enum Stage {
 }
 
 // That, the place of the misfit or of that byte, the number of cells stored, and what is due.
-#[derive(Drop)]
+#[derive(Clone, Copy)]
 pub struct Fit {
     pub stage: Stage,
     pub place: usize,
@@ -35,7 +35,7 @@ pub struct Fit {
 }
 
 // What begins: nothing that may come; no token; the name `data` of the outermost object; another token.
-#[derive(Drop)]
+#[derive(Clone, Copy)]
 enum Sign {
     Nothing,
     Comma,

@@ -11,7 +11,7 @@ use json_text::numbers::blanks_end;
 use paper::Extent;
 
 // The number of cells that were stored; or the place of the byte that 15 or 16 names.
-#[derive(Drop)]
+#[derive(Clone, Copy)]
 pub enum Found {
     Cells(usize),
     NotJson(usize),

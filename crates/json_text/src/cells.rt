@@ -12,14 +12,14 @@ use cell::bytes::{Got, signed};
 use paper::Cell;
 
 // Where the digits end, and their number; from CAP on, CAP.
-#[derive(Drop)]
+#[derive(Clone, Copy)]
 struct Digits {
     end: usize,
     n: u64,
 }
 
 // Whether a whole number without fraction or exponent stands there, and if so the number; from CAP on, CAP.
-#[derive(Drop)]
+#[derive(Clone, Copy)]
 struct Natural {
     whole: bool,
     n: u64,

@@ -9,7 +9,7 @@ pub mod strings;
 pub mod words;
 
 // Where a part ends; or, not sound, the byte with which the text stops being JSON.
-#[derive(Drop)]
+#[derive(Clone, Copy)]
 pub struct Ended {
     pub at: usize,
     pub sound: bool,

@@ -70,7 +70,7 @@ fn escape_end(s: &[u8], at: usize) -> Ended
 }
 
 // How many bytes follow the first of a character, 0 if no character begins with it; and the next of them: from, to.
-#[derive(Drop)]
+#[derive(Clone, Copy)]
 struct Lead(usize, u8, u8);
 
 // A character of several bytes, by its first.

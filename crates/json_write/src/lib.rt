@@ -112,7 +112,7 @@ fn put_cell(out: &mut [u8], at: usize, c: Cell) -> usize
 }
 
 // Where the next byte goes, and the index of the next cell.
-#[derive(Drop)]
+#[derive(Clone, Copy)]
 struct Pen {
     at: usize,
     cell: usize,

@@ -16,7 +16,7 @@ use std::num::wrapping_sub_u64;
 // ---- cells without a branch
 
 // What was seen of some cells: their marks, what should be 0 of their numbers, and whether each number fits its type.
-#[derive(Drop)]
+#[derive(Clone, Copy)]
 pub struct Look {
     pub marks: u64,
     pub left: u64,

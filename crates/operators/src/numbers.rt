@@ -5,13 +5,13 @@ ghost use Rattle.operators.specs.Told.{told_pair, told_single};
 
 use paper::{PairOp, SingleOp};
 
-#[derive(Drop)]
+#[derive(Clone, Copy)]
 pub enum PairGot {
     Is(PairOp),
     Unknown,
 }
 
-#[derive(Drop)]
+#[derive(Clone, Copy)]
 pub enum SingleGot {
     Is(SingleOp),
     Unknown,

@@ -21,7 +21,7 @@ use positions::position_at;
 use step::StepHead;
 
 // Nowhere: the cell is empty. Else so many cells after the first of A, or of B.
-#[derive(Drop)]
+#[derive(Clone, Copy)]
 pub enum Origin {
     Nowhere,
     FromA(usize),
@@ -29,7 +29,7 @@ pub enum Origin {
 }
 
 // Where a coordinate is found in an extent: so many cells after the first, or outside.
-#[derive(Drop)]
+#[derive(Clone, Copy)]
 pub enum Found {
     After(usize),
     Outside,

@@ -12,7 +12,7 @@ use refusals::{in_range, none, refuse};
 use versions::sizes;
 
 // One array judged: the byte after its cells, and the number of its bytes in the bundle.
-#[derive(Drop)]
+#[derive(Clone, Copy)]
 pub struct FormJudged {
     pub refusal: Refusal,
     pub end: usize,
@@ -20,7 +20,7 @@ pub struct FormJudged {
 }
 
 // All of them: the number of the bundle's bytes.
-#[derive(Drop)]
+#[derive(Clone, Copy)]
 pub struct Verdict {
     pub refusal: Refusal,
     pub long: usize,

@@ -91,7 +91,7 @@ fn put_axes(v: Version, d: &mut [u8], at: usize, names: [Name; AXES], e: Extent,
 }
 
 // Where an array's cells end among the cells, and its bytes in the bundle.
-#[derive(Drop)]
+#[derive(Clone, Copy)]
 pub struct Ends {
     pub from: usize,
     pub at: usize,

@@ -13,7 +13,7 @@ ghost use Rattle.place.specs.Positions.{positions_of, Counted};
 
 use paper::{Axis, Extent, Ordinality, Place};
 
-#[derive(Drop)]
+#[derive(Clone, Copy)]
 pub struct Coordinate {
     pub at: [u32; paper::AXES],
 }

@@ -6,7 +6,7 @@ use cell::bytes::word;
 use paper::CELL_BYTES;
 
 // Where an operand's cells lie: in the bundle or in the work area, from a byte on; or one scalar stands for all.
-#[derive(Drop)]
+#[derive(Clone, Copy)]
 pub struct Source {
     pub which: u8,
     pub at: usize,
@@ -19,7 +19,7 @@ pub const IN_WORK: u8 = 1;
 pub const SCALAR: u8 = 2;
 
 // Operations 9 to 12 as the loop over cells wants them: one code for type and operator, and two operands.
-#[derive(Drop)]
+#[derive(Clone, Copy)]
 pub struct Pairing {
     pub code: u8,
     pub scalar: u64,
@@ -28,7 +28,7 @@ pub struct Pairing {
 }
 
 // A cell as it lies: its mark and its word.
-#[derive(Drop)]
+#[derive(Clone, Copy)]
 pub struct Raw {
     pub mark: u8,
     pub bits: u64,

@@ -19,7 +19,7 @@ use step::StepHead;
 use versions::sizes;
 
 // What a step can name by an operand's number: an array, and whether its cells lie in the bundle or in the work area; or nothing.
-#[derive(Drop)]
+#[derive(Clone, Copy)]
 pub struct Operand {
     pub found: bool,
     pub which: u8,
@@ -28,7 +28,7 @@ pub struct Operand {
 
 // The bundle's version and the number of its arrays; the steps planned, the first `count` of these; the number of cells of all their
 // results; and what steps can name: nothing at 0, then the arrays, and the results behind the most arrays that a bundle has.
-#[derive(Drop)]
+#[derive(Clone, Copy)]
 pub struct Plan {
     pub refusal: Refusal,
     pub version: Version,

@@ -23,7 +23,7 @@ use step::tests::{fits_in, result_extent, result_kind, result_names, types_fit};
 use step::unused::{Used, axis_in, unused_zero, used_by};
 
 // A step that passed its tests, and its result, whose maximum is `*` everywhere; or the refusal.
-#[derive(Drop)]
+#[derive(Clone, Copy)]
 pub struct Stepped {
     pub refusal: Refusal,
     pub step: StepHead,

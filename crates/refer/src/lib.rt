@@ -26,7 +26,7 @@ use refusals::refuse;
 pub mod walk;
 
 // An array chosen: its head, or the refusal (number 0: none).
-#[derive(Drop)]
+#[derive(Clone, Copy)]
 pub struct Chosen {
     pub refusal: Refusal,
     pub head: Head,

@@ -7,7 +7,7 @@ use crate::walk_step;
 use paper::{Ordinality, WalkAnswer};
 
 // Where a walk is: the ordinality of the cell to be seen next.
-#[derive(Drop)]
+#[derive(Clone, Copy)]
 pub struct WalkingPlace {
     pub place: Ordinality,
 }

@@ -22,14 +22,14 @@ use sides::{Lines, least, lines_of, side_around, side_by_side};
 use step::StepHead;
 
 // Cells that come from the cells from an origin on, side by side; or blanks.
-#[derive(Drop)]
+#[derive(Clone, Copy)]
 pub struct Run {
     pub from: Origin,
     pub length: usize,
 }
 
 // Lines of so many cells; each comes from `a` cells later in A than the line before, and `b` in B.
-#[derive(Drop)]
+#[derive(Clone, Copy)]
 pub struct Pattern {
     pub line: usize,
     pub lines: usize,
@@ -38,7 +38,7 @@ pub struct Pattern {
 }
 
 // Lines alike. A line is three runs, of which some may have no cell; the next line's come from `a` cells later in A, `b` in B.
-#[derive(Drop)]
+#[derive(Clone, Copy)]
 pub struct Band {
     pub lines: usize,
     pub a: usize,

@@ -15,7 +15,7 @@ use origin::{Found, cells_after, found_at};
 use paper::{Axis, Extent};
 
 // Lines of so many cells; each is found `stride` cells later than the line before.
-#[derive(Drop)]
+#[derive(Clone, Copy)]
 pub struct Lines {
     pub line: usize,
     pub lines: usize,

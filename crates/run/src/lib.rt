@@ -27,7 +27,7 @@ use refusals::{none, refuse};
 use values::run_steps;
 
 // A page, and how many positions each of its rows has.
-#[derive(Drop)]
+#[derive(Clone, Copy)]
 pub struct PageRows {
     pub answer: PageAnswer,
     pub axes: usize,

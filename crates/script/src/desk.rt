@@ -26,7 +26,7 @@ pub const STEPS: usize = paper::STEPS * WHOLE_STEP;
 pub const BUNDLE: usize = 40000;
 
 // The version told, how many heads, bytes of cells and of steps there are, and how long the bundle is.
-#[derive(Drop)]
+#[derive(Clone, Copy)]
 pub struct Desk {
     pub version: u32,
     pub heads: usize,

@@ -27,7 +27,7 @@ pub const TRUTH: u8 = 5;
 pub const NAME: u8 = 6;
 
 // A word as far as it was read.
-#[derive(Drop)]
+#[derive(Clone, Copy)]
 pub struct Word {
     kind: u8,
     minus: bool,
@@ -37,7 +37,7 @@ pub struct Word {
 }
 
 // A line: how many words, and where the next line begins.
-#[derive(Drop)]
+#[derive(Clone, Copy)]
 pub struct Line {
     pub count: usize,
     pub next: usize,

@@ -22,7 +22,7 @@ use positions::{moved_by, position_at};
 pub mod names;
 
 // What of each axis is made anew from the detail.
-#[derive(Drop)]
+#[derive(Clone, Copy)]
 pub enum Change {
     Limits,
     Moved,

@@ -15,7 +15,7 @@ use shape::removed;
 
 // What is compared of each two axes: their names; names, where A's axis of an index was left out; names and limits; names, and limits
 // but for the axis of an index.
-#[derive(Drop)]
+#[derive(Clone, Copy)]
 enum Compared {
     Names,
     OtherNames(AxisIndex),

@@ -11,7 +11,7 @@ use paper::{Operation, Version};
 
 // A step's operation, operands and axis index, the byte of the recipe at which its detail begins, and the version that the detail has the
 // bytes of.
-#[derive(Drop)]
+#[derive(Clone, Copy)]
 pub struct StepHead {
     pub operation: Operation,
     pub a: u8,

@@ -10,7 +10,7 @@ ghost use Rattle.step.specs.Told.{told_operation};
 use operators::numbers::{PairGot, SingleGot, pair_op, single_op};
 use paper::{Hand, Move, Operation, Work};
 
-#[derive(Drop)]
+#[derive(Clone, Copy)]
 pub enum OperationGot {
     Is(Operation),
     Unknown,

@@ -17,7 +17,7 @@ use versions::sizes;
 
 // Operand B and the axis index used or not; of the detail all bytes from `from` on are unused, and with a scalar those between the
 // operator and it.
-#[derive(Drop)]
+#[derive(Clone, Copy)]
 pub struct Used {
     pub b: bool,
     pub axis: bool,

@@ -164,7 +164,7 @@ fn mean_next(m: Mean, c: Cell) -> Added
 }
 
 // The running sum of all filled cells, or the ordinality of the cell whose addition fails (0: none).
-#[derive(Drop)]
+#[derive(Clone, Copy)]
 struct Ran {
     mean: Mean,
     bad: usize,

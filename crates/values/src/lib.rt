@@ -29,7 +29,7 @@ use rows::band_of;
 use step::StepHead;
 
 // A step in its turn: what it names, and its result.
-#[derive(Drop)]
+#[derive(Clone, Copy)]
 pub struct Turn {
     pub step: StepHead,
     pub a: Operand,
@@ -38,7 +38,7 @@ pub struct Turn {
 }
 
 // How many cells of a step are there, and how to work out the others.
-#[derive(Drop)]
+#[derive(Clone, Copy)]
 pub struct Begun {
     pub count: usize,
     pub pairing: Pairing,

@@ -9,7 +9,7 @@ ghost use Rattle.versions.specs.Told.{told_sizes};
 use paper::{HEAD_BYTES, LIMITS_BYTES, Sizes, Version};
 
 // The version that a number tells of, or none.
-#[derive(Drop)]
+#[derive(Clone, Copy)]
 pub enum Told {
     Is(Version),
     Unknown,
