@@ -50,7 +50,7 @@ pub fn mean_with(m: Mean, x: f64) -> Added
 
 // The sum, once all cells went in; empty where none did.
 pub fn mean_sum(m: Mean) -> Cell
-    ensures* { λ r. ⌜ ((k : ℕ) → got r ≡ onward (λ r. r.sum) k m []) ⌝ }
+    ensures { (k : ℕ) → got result ≡ onward (λ r. r.sum) k m [] }
 {
     if m.count == 0 {
         Cell::Empty

@@ -2,7 +2,7 @@
 use Rattle.std.proofs.Common.{lit<, rules}
 use Rattle.paper.specs.Limits.{limit_bytes}
 use Rattle.paper.specs.Numbers.{le_bytes}
-use Rattle.cell.proofs.Runs.{Room, stores_at, length-stores, byte_fits, place-fits, next-in}
+use Rattle.cell.proofs.Runs.{Room, stores_at, stores_at-spliced, length-stores, byte_fits, place-fits, next-in}
 use Rattle.cell.proofs.bytes.put4.Statement.{statement}
 use Rattle.cell.proofs.bytes.put4.Tie as tie
 
@@ -20,4 +20,4 @@ put4-spec =
     (λ c. next-in (room c) (le_bytes 2 c.args.n) (lit< tt)) (λ c. byte_fits _) (λ c. place-fits (room c) 3 (lit< tt))
     (λ c. next-in (room c) (le_bytes 3 c.args.n) (lit< tt))
     (λ c. length-stores (le_bytes 4 c.args.n) c.args.d.now c.args.at)
-    (λ c. stores_at (le_bytes 4 c.args.n) c.args.d.now c.args.at c.requires))
+    (λ c. stores_at-spliced (le_bytes 4 c.args.n) c.args.d.now c.args.at c.requires))

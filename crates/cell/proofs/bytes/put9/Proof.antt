@@ -2,7 +2,7 @@
 use Rattle.std.proofs.Common.{◌∷◌, lit<, rules}
 use Rattle.paper.specs.Limits.{cell_bytes}
 use Rattle.paper.specs.Numbers.{le_bytes}
-use Rattle.cell.proofs.Runs.{Room, stores_at, length-stores, byte_fits, place-fits, next-in}
+use Rattle.cell.proofs.Runs.{Room, stores_at, stores_at-spliced, length-stores, byte_fits, place-fits, next-in}
 use Rattle.cell.proofs.bytes.put9.Statement.{statement}
 use Rattle.cell.proofs.bytes.put9.Tie as tie
 
@@ -25,4 +25,4 @@ put9-spec =
     (λ c. next-in (room c) (c.args.mark ∷ le_bytes 6 c.args.n) (lit< tt)) (λ c. byte_fits _) (λ c. place-fits (room c) 8 (lit< tt))
     (λ c. next-in (room c) (c.args.mark ∷ le_bytes 7 c.args.n) (lit< tt))
     (λ c. length-stores (c.args.mark ∷ le_bytes 8 c.args.n) c.args.d.now c.args.at)
-    (λ c. stores_at (c.args.mark ∷ le_bytes 8 c.args.n) c.args.d.now c.args.at c.requires))
+    (λ c. stores_at-spliced (c.args.mark ∷ le_bytes 8 c.args.n) c.args.d.now c.args.at c.requires))

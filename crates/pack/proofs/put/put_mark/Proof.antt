@@ -6,7 +6,7 @@ use mathlib.Core.Path.{ap, ◌∙◌}
 use mathlib.Core.List.{[], ◌∷◌}
 use native.Mathlib.Omega.{arith}
 use lib.ListN.{length-set}
-use Rattle.cell.proofs.Runs.{stores_at}
+use Rattle.cell.proofs.Runs.{stores_at-spliced}
 use Rattle.laws.specs.Put.{put}
 use Rattle.pack.specs.Put.{mark-bytes}
 
@@ -14,7 +14,7 @@ returns : tie.Need-returns
 returns c =
     let s = c.before.before in
     let z = c.sizes.result in
-    stores_at (82 ∷ 77 ∷ 65 ∷ z.version ∷ 0 ∷ s.args.count ∷ []) s.args.d.now 0 s.requires
+    stores_at-spliced (82 ∷ 77 ∷ 65 ∷ z.version ∷ 0 ∷ s.args.count ∷ []) s.args.d.now 0 s.requires
     ∙ ap (put s.args.d.now 0) (mark-bytes s.args.v z c.sizes.ensures s.args.count)
 
 pub put-mark-spec : {M : Type 1} → statement M
