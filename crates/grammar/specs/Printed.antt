@@ -360,6 +360,7 @@ end_read (b ∷ bs) (space h m) = R.Blanks.more h (end_read bs m)
 
 -- what follows `[`: a blank, the closing bracket, or what a value and more items are
 unmapped : (f : Rule → Rule) (r : Rule) (rs : List Rule) → OneOf r (map f rs) → (q : Rule) × OneOf q rs × (f q ≡ r)
+unmapped f r [] o = elim o [ ]
 unmapped f r (q ∷ rs) o = go (first-or r (f q) (map f rs) o) (unmapped f r rs)
   where
     go : (r ≡ f q) ⊎ OneOf r (map f rs) → (OneOf r (map f rs) → (p : Rule) × OneOf p rs × (f p ≡ r))
