@@ -96,6 +96,7 @@ unfolding apart_rules
 apart-one c r rs b o e h = go (among c b) refl
   where
     clash : (rs : List Rule) → OneOf r rs → apart_rules c rs ≡ true → among c b ≡ true → among r.byte b ≡ false
+    clash [] o f g = elim o [ ]
     clash (q ∷ qs) here f g = bytes_apart c q.byte b (and_left (apart c q.byte) (apart_rules c qs) f) g
     clash (q ∷ qs) (there p) f g = clash qs p (and_right (apart c q.byte) (apart_rules c qs) f) g
 
@@ -107,6 +108,7 @@ apart-one c r rs b o e h = go (among c b) refl
 pub chosen-it : (r : Rule) (rs : List Rule) (b : ℕ) → distinct rs ≡ true → OneOf r rs → among r.byte b ≡ true
     → chosen rs b ≡ some r.rest
 unfolding distinct chosen
+chosen-it r [] b e o h = elim o [ ]
 chosen-it r (q ∷ rs) b e here h = rw h
 chosen-it r (q ∷ rs) b e (there o) h =
     rw (apart-one q.byte r rs b o (and_left (apart_rules q.byte rs) (distinct rs) e) h)

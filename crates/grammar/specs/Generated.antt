@@ -37,6 +37,7 @@ end-blanks R.Blanks.none = nothing
 end-blanks (R.Blanks.more h w) = space h (end-blanks w)
 
 map-one : (f : Rule → Rule) (r : Rule) (rs : List Rule) → OneOf r rs → OneOf (f r) (map f rs)
+map-one f r [] o = elim o [ ]
 map-one f r (q ∷ rs) here = here
 map-one f r (q ∷ rs) (there o) = there (map-one f r rs o)
 

@@ -19,6 +19,7 @@ AllOf P [] = Unit {0}
 AllOf P (q ∷ rs) = P q × AllOf P rs
 
 pub each : (P : Rule → Type 0) (rs : List Rule) → AllOf P rs → (r : Rule) → OneOf r rs → P r
+each P [] p r o = elim o [ ]
 each P (q ∷ rs) p r here = p.0
 each P (q ∷ rs) p r (there o) = each P rs p.1 r o
 

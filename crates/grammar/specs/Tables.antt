@@ -171,6 +171,7 @@ rules-orderly (at more_members n) = refl
 
 pub rule-orderly : (l : Bool) (r : Rule) (rs : List Rule) → OneOf r rs → in_order l rs ≡ true → orderly l r.rest ≡ true
 unfolding in_order
+rule-orderly l r [] o e = elim o [ ]
 rule-orderly l r (q ∷ rs) here e = and_left (orderly l q.rest) (in_order l rs) e
 rule-orderly l r (q ∷ rs) (there o) e = rule-orderly l r rs o (and_right (orderly l q.rest) (in_order l rs) e)
 
