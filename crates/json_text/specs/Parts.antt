@@ -158,7 +158,7 @@ module _ (l h b : ℕ) (i : l ≤ b) (j : b ≤ h) where
   chooses r rs o false true c d e f = rw (among-outside r.byte d) (f e)
   chooses r rs o false false c d e f = absurd (no_none _ e)
 
-  pub chosen_by : (rs : List Rule) (o : Option (List Part)) → chosen_by rs l h ≡ some o → chosen rs b ≡ o
+  pub chosen-chosen_by : (rs : List Rule) (o : Option (List Part)) → chosen_by rs l h ≡ some o → chosen rs b ≡ o
   unfolding chosen
-  chosen_by [] o e = some_one _ _ e
-  chosen_by (r ∷ rs) o e = chooses r rs o _ _ refl refl e (chosen_by rs o)
+  chosen-chosen_by [] o e = some_one _ _ e
+  chosen-chosen_by (r ∷ rs) o e = chooses r rs o _ _ refl refl e (chosen-chosen_by rs o)

@@ -263,8 +263,8 @@ later-none : (i : ℕ) (f : Found) → i ≡ 0 → later i f ≡ f
 later-none i (After j) h = let e : j + i ≡ j = omega arith in ap After e
 later-none i Outside h = refl
 
-one_line : (G E : List Axis) (k : ℕ) → k < cells G → Lined G E k (one_line G k)
-one_line G E k h = record {
+one_line-lined : (G E : List Axis) (k : ℕ) → k < cells G → Lined G E k (one_line G k)
+one_line-lined G E k h = record {
   some = omega arith;
   long = omega arith;
   room = omega arith;
@@ -275,7 +275,7 @@ one_line G E k h = record {
 }
 
 pub one-lined : (G E : List Axis) (k : ℕ) {l : Lines} → l ≡ one_line G k → k < cells G → Lined G E k l
-one-lined G E k e h = rw e (one_line G E k h)
+one-lined G E k e h = rw e (one_line-lined G E k h)
 
 -- lines of all the axes after
 pub lined_on : (G X E Y : List Axis) (k n : ℕ) → length E ≡ length G → 0 < cells X → k % cells X ≡ 0 → SideBySide G E (k / cells X) n
