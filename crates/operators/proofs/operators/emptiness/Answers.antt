@@ -1,0 +1,8 @@
+-- `operators::operators::emptiness` meets its contract. Assumes nothing.
+use Rattle.std.proofs.Common.{rules}
+use Rattle.paper.specs.Operators.{single_cell}
+use Rattle.operators.proofs.operators.emptiness.Goals as goal
+
+pub returns : goal.returns
+unfolding single_cell
+returns c = search rules

@@ -1,0 +1,22 @@
+-- `operators::operators::negate` meets its contract: each arm is given which cell c is. Assumes nothing.
+use Rattle.std.proofs.Common.{rules, sym, ap, ◌∙◌, to_z-of_z, w64, SFits}
+use borrow.Author.Rules.{sfits_of}
+use Rattle.operators.proofs.Arms.{signed-last}
+use Rattle.paper.specs.Operators.{single_cell, signed}
+use Rattle.paper.specs.declared.SingleOp.TheVariants.{Negate}
+use Rattle.operators.proofs.operators.negate.Goals as goal
+
+pub returns-in-Int : goal.returns-in-Int
+unfolding single_cell signed
+returns-in-Int c =
+    let k = c in
+    let fx : SFits w64 k.in-Int.x = sfits_of (search rules) in
+    simp to_z-of_z at c.int_neg.ensures ∙ sym (ap (single_cell Negate) k.in-Int.is)
+
+pub returns-in-Float : goal.returns-in-Float
+unfolding single_cell signed
+returns-in-Float c = sym (ap (single_cell Negate) c.in-Float.is)
+
+pub returns-in_default : goal.returns-in_default
+unfolding single_cell signed
+returns-in_default c = signed-last _ _ c.args.c c.in_default.in_default-own.keys3
