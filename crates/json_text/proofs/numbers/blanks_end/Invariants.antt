@@ -1,0 +1,12 @@
+-- `json_text::numbers::blanks_end`: what its loops keep.
+use Rattle.std.proofs.Common.{◌-◌, length, sym, ◌∙◌, arith, rules}
+use borrow.Author.Tests.{not-true, not-false}
+use Rattle.paper.specs.Grammar.{blank}
+use Rattle.json_text.specs.Numbers.{Passing, passing, passed-end, passed-other, passed_on}
+use Rattle.json_text.proofs.numbers.blanks_end.Given as goal
+
+abbrev pub invariant-loop-i : goal.invariant-loop-i
+invariant-loop-i l = Passing blank l.s l.at l.i
+
+abbrev pub decreases-loop-i : goal.decreases-loop-i
+decreases-loop-i l = length l.s - l.i

@@ -1,0 +1,13 @@
+-- `json_text::strings::hex_end`: what its loops keep.
+use Rattle.std.proofs.Common.{◌-◌, ◌∷◌, sym, ◌∙◌, rules}
+use borrow.Author.Tests.{not-false, not-true}
+use Rattle.paper.specs.Grammar.{one, hex_digit}
+use Rattle.json_text.specs.Parts.{Going, going, going-as, all_read, byte-missing, byte-out, byte-in}
+use Rattle.json_text.specs.Strings.{hexes, hexes-next, hexes-none}
+use Rattle.json_text.proofs.strings.hex_end.Given as goal
+
+abbrev pub invariant-loop-left : goal.invariant-loop-left
+invariant-loop-left l = Going l.s (hexes 4) l.at (hexes l.left) l.i
+
+abbrev pub decreases-loop-left : goal.decreases-loop-left
+decreases-loop-left l = l.left
