@@ -38,7 +38,7 @@ LiesFrom z i (h ∷ hs) e = (h.at ≡ i + (type_bytes + axes_in h * z.axis)) × 
 lies_more : (z : Sizes) (i : ℕ) (hs : List Head) (at : ℕ) (h : Head) → LiesFrom z i hs at → h.at ≡ at + (type_bytes + axes_in h * z.axis)
     → LiesFrom z i (hs ++ (h ∷ [])) (h.at + cells_in h.form * cell_bytes)
 lies_more z i [] at h l a = (subst (λ (j : ℕ). h.at ≡ j + (type_bytes + axes_in h * z.axis)) (sym l) a, refl)
-lies_more z i (x ∷ hs) at h l a = (l.0, lies_more z _ hs at h l.1 a)
+lies_more z i (x ∷ hs) at h l a = (l.0, lies_more z (x.at + cells_in x.form * cell_bytes) hs at h l.1 a)
 
 lies-said : (z : Sizes) (bs : List ℕ) (i : ℕ) (hs : List Head) (e : ℕ) → LiesFrom z i hs e
     → map head_said hs ≡ lying_from z i (map (array_at bs) hs)

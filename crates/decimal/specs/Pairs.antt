@@ -6,7 +6,7 @@ use Rattle.std.proofs.Math.Nat.{div-div-eq-div-mul}
 use mir.Val.{bool_byte}
 use Rattle.paper.specs.Rests.{digits}
 use Rattle.laws.specs.Put.{put, put_byte}
-use Rattle.cell.proofs.Runs.{stores_at}
+use Rattle.cell.proofs.Runs.{stores_at-spliced}
 use Rattle.decimal.specs.Digits.{digit, digits-one, digits_more}
 
 -- the last two digits, the last four, the last eight
@@ -38,7 +38,7 @@ pub pair-stored : (d : List ℕ) (at x : ℕ) → at + 2 ≤ length d
 pair-stored d at x h =
     let e : x % 100 / 10 ≡ x / 10 % 10 = omega arith in
     let f : x % 100 % 10 ≡ x % 10 = omega arith in
-    rw (e, f) (stores_at (pair x) d at h)
+    rw (e, f) (stores_at-spliced (pair x) d at h)
 
 -- ---- one digit or two
 
@@ -56,7 +56,7 @@ pub small-stored : {b : Bool} (d : List ℕ) (at x : ℕ) → leb 10 x ≡ b →
 small-stored {b = true} d at x e h l =
     let f = digits-two x (leb-true 10 x e) h in
     let g : x / 10 ≡ x / 10 % 10 = omega arith in
-    rw (g, f) (stores_at (pair x) d at (rw f at l))
+    rw (g, f) (stores_at-spliced (pair x) d at (rw f at l))
 small-stored {b = false} d at x e h l =
     let f = digits-one x (leb-false 10 x e) in
     rw (add-zero, set-set, f) (put_byte d at (digit x) (omega (arith, ap length f)))

@@ -12,7 +12,7 @@ use Rattle.paper.specs.Bundle.{axes_bytes}
 use Rattle.paper.specs.Answers.{axes_of, shape_of}
 use Rattle.laws.specs.Sizes.{Fits}
 use Rattle.laws.specs.Put.{put, length-put, after}
-use Rattle.cell.proofs.Runs.{stores_at}
+use Rattle.cell.proofs.Runs.{stores_at-spliced}
 use Rattle.pack.specs.Put.{AxesRoom, axes-length}
 
 abbrev pub head_of : Sizes → Shape → List ℕ
@@ -64,7 +64,7 @@ module _ {z : Sizes} (f : Fits z) {form : Form} {at : ℕ} {d : List ℕ} (q : H
       → HeadPut z form at d (at + type_bytes + n * z.axis) y
   head-put m {n} e {y} p =
       let t : List ℕ = form.kind ∷ n ∷ [] in
-      let u = after d at t _ _ y (at + type_bytes) (omega (arith, q.room)) refl (stores_at t d at (omega (arith, q.room))) p in
+      let u = after d at t _ _ y (at + type_bytes) (omega (arith, q.room)) refl (stores_at-spliced t d at (omega (arith, q.room))) p in
       record { named = m; end = ap (λ (j : ℕ). at + type_bytes + j * z.axis) e ∙ (omega (arith, its-long m)); bytes = u ∙ rw e }
 
 -- ---- a whole head
