@@ -1,0 +1,13 @@
+-- `json_levels::more_turn` meets its contract: each byte by its rule.
+use Rattle.std.proofs.Common.{rules, eq-eqb, ne_eqb}
+use Rattle.json_levels.specs.Begins.{told, none_after, standing-open}
+use Rattle.json_levels.proofs.more_turn.Goals as goal
+
+pub returns-then-depth-eq0 : goal.returns-then-depth-eq0
+returns-then-depth-eq0 c = told _ c.nothing.ensures (none_after c.args.depth c.args.bits c.args.b c.if-depth-eq0.true c.requires.1)
+
+pub more_items-requires : goal.more_items-requires
+more_items-requires c = (standing-open c.args.depth c.args.bits c.if-depth-eq0.false c.requires.0, eq-eqb _ 1 c.if-bits-eq1.true, c.requires.1)
+
+pub more_members-requires : goal.more_members-requires
+more_members-requires c = (standing-open c.args.depth c.args.bits c.if-depth-eq0.false c.requires.0, ne_eqb _ 1 c.if-bits-eq1.false, c.requires.1)
