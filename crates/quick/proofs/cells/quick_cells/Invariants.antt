@@ -1,0 +1,10 @@
+-- `quick::cells::quick_cells`: what its loops keep.
+use Rattle.std.proofs.Common.{◌-◌, sym, arith, rules, length-take-le}
+use Rattle.quick.specs.Cells.{Upto, Turn, begins, counted, all-counted, place-there, first-there, second-there, no_nan, one_more}
+use Rattle.quick.proofs.cells.quick_cells.Given as goal
+
+abbrev pub invariant-loop-off : goal.invariant-loop-off
+invariant-loop-off l = Upto l.bundle l.initial.work l.base l.q l.n l.off l.work
+
+abbrev pub decreases-loop-off : goal.decreases-loop-off
+decreases-loop-off l = l.end - l.off
