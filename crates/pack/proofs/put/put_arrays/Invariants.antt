@@ -1,0 +1,13 @@
+-- `pack::put::put_arrays`: what its loops keep.
+use Rattle.std.proofs.Common.{ℕ, ◌+◌, ◌-◌, ◌≤◌, ◌≡◌, ◌∷◌, add-one, arith, rules, length, get_or, take, drop}
+use Rattle.laws.specs.Loops.{length-mapped, length-first, drop-first-cons}
+use Rattle.paper.specs.declared.Form.{Form}
+use Rattle.paper.specs.Limits.{most_arrays, sizes_of}
+use Rattle.pack.specs.Laying.{Laying, laying-start, laying-room, laying-more, laying-end}
+use Rattle.pack.proofs.put.put_arrays.Given as goal
+
+abbrev pub invariant-loop-i : goal.invariant-loop-i
+invariant-loop-i l = Laying (sizes_of l.v) (take l.count l.forms) l.cells l.initial.d l.d l.from l.at l.i
+
+abbrev pub decreases-loop-i : goal.decreases-loop-i
+decreases-loop-i l = l.count - l.i
