@@ -1,0 +1,20 @@
+-- `step::agreeing::index_in` meets its contract: an axis that was left out counts, once it is passed.
+use Rattle.std.proofs.Common.{arith, rules, lt-ltb, le-ltb}
+use Rattle.step.proofs.agreeing.index_in.Goals as goal
+
+pub returns-in-Names : goal.returns-in-Names
+returns-in-Names c = (rw c.in-Names.is, omega (arith, c.requires))
+
+pub returns-then-j-k : goal.returns-then-j-k
+returns-then-j-k c =
+    (rw (c.in-OtherNames.is, lt-ltb _ _ c.if-j-k.true), omega (arith, c.requires))
+
+pub returns-in-OtherNames : goal.returns-in-OtherNames
+returns-in-OtherNames c =
+    (rw (c.in-OtherNames.is, le-ltb _ _ c.if-j-k.false), omega (arith, c.requires))
+
+pub returns-in-Limits : goal.returns-in-Limits
+returns-in-Limits c = (rw c.in-Limits.is, omega (arith, c.requires))
+
+pub returns-in-OtherLimits : goal.returns-in-OtherLimits
+returns-in-OtherLimits c = (rw c.in-OtherLimits.is, omega (arith, c.requires))
