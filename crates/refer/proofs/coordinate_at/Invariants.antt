@@ -1,0 +1,15 @@
+-- `refer::coordinate_at`: what its loops keep.
+use Rattle.std.proofs.Common.{length, take, get_or, length-set, map, ◌≡◌, refl, arith, rules, w32, SFits, ◌-◌, ◌≤◌}
+use Rattle.refer.specs.Places.{coordinate-more, coordinate-end}
+use Rattle.paper.specs.Limits.{most_axes}
+use Rattle.paper.specs.Numbers.{distance}
+use borrow.Author.Rules.{sfits_of}
+use mir.ValLaws.{to_z-of_z}
+use lib.IntN.{pos}
+use Rattle.refer.proofs.coordinate_at.Given as goal
+
+abbrev pub invariant-loop-i : goal.invariant-loop-i
+invariant-loop-i l = (l.i ≤ length l.zs) × (length l.at ≡ most_axes) × (take l.i l.at ≡ take l.i (map distance l.zs))
+
+abbrev pub decreases-loop-i : goal.decreases-loop-i
+decreases-loop-i l = length l.zs - l.i

@@ -1,0 +1,6 @@
+-- `refer::outside` meets its contract.
+use Rattle.std.proofs.Common.{rules}
+use Rattle.refer.proofs.outside.Goals as goal
+
+pub returns : goal.returns
+returns c = rw c.refuse.ensures
