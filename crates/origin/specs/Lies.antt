@@ -21,7 +21,7 @@ use Rattle.laws.specs.Glue.{glued-first, glued-second}
 use Rattle.origin.specs.declared.Origin.TheVariants.{FromB}
 use Rattle.origin.specs.Origins.{Moving, origin_at, Lies}
 use Rattle.origin.specs.Asks.{slice-asks, glue-asks}
-use Rattle.origin.specs.Shifts.{cells-shifted, shifted_back}
+use Rattle.origin.specs.Shifts.{cells-shifted, shifted-back}
 
 -- what covers an extent has its coordinates
 between_ends : (E F : List Axis) (p : List ℕ) → Inside E (map (λ a. a.lo) F) → Inside E (map (λ a. a.hi) F) → Inside F p
@@ -70,7 +70,7 @@ module _ {st : Step} {E F G : List Axis} {k : ℕ} where
   shift-own M h =
       let s : Sound (shifted E st.detail) = rw M.axes at M.result.sound in
       let l : k < cells E = omega (arith, ap cells M.axes, cells-shifted E st.detail M.first.sound s) in
-      record { lt = l; is = rw M.axes (shifted_back E st.detail k M.first.sound s l) }
+      record { lt = l; is = rw M.axes (shifted-back E st.detail k M.first.sound s l) }
 
   -- ---- every move
 

@@ -34,11 +34,11 @@ cells-shifted (a ∷ E) d s t =
     let w : moved a.hi z + 1 - moved a.lo z ≡ width a = omega (arith, moved_by a.hi z t.1) in
     ap₂ ◌*◌ w (cells-shifted E (drop limit_bytes d) s.2 t.2)
 
-pub shifted_back : (E : List Axis) (d : List ℕ) (k : ℕ) → Sound E → Sound (shifted E d) → k < cells E
+pub shifted-back : (E : List Axis) (d : List ℕ) (k : ℕ) → Sound E → Sound (shifted E d) → k < cells E
     → shifted_back (at_offset (shifted E d) k) d ≡ at_offset E k
 unfolding each_anew cells at_offset shifted_back
-shifted_back [] d k s t h = refl
-shifted_back (a ∷ E) d k s t h =
+shifted-back [] d k s t h = refl
+shifted-back (a ∷ E) d k s t h =
     let z = signed_at 0 d in
     let E' = shifted E (drop limit_bytes d) in
     let c = cells-shifted E (drop limit_bytes d) s.2 t.2 in
@@ -47,4 +47,4 @@ shifted_back (a ∷ E) d k s t h =
     let y = moved a.lo z + k / cells E in
     let p : distance (position y -ℤ z) ≡ x = moved_back y x z (omega (arith, moved_by a.lo z (omega arith))) in
     ap (λ (m : ℕ). distance (position (moved a.lo z + k / m) -ℤ z) ∷ shifted_back (at_offset E' (k % m)) (drop limit_bytes d)) c
-    ∙ ap₂ (λ (x : ℕ) (l : List ℕ). x ∷ l) p (shifted_back E (drop limit_bytes d) (k % cells E) s.2 t.2 (mod-lt k n))
+    ∙ ap₂ (λ (x : ℕ) (l : List ℕ). x ∷ l) p (shifted-back E (drop limit_bytes d) (k % cells E) s.2 t.2 (mod-lt k n))
