@@ -1,0 +1,14 @@
+-- `totals::float_run`: what its loops keep.
+use Rattle.std.proofs.Common.{◌≡◌, refl, List, arith, rules, ℕ, ◌+◌, ◌-◌, ◌≤◌, ◌<◌}
+use Rattle.paper.specs.declared.Cell.{Cell}
+use Rattle.paper.specs.Limits.{most_cells}
+use Rattle.paper.specs.Totals.{Numbered, filled_from}
+use Rattle.totals.specs.Cells.{cells_at, one_at, in_front, filled_left, filled_next, filled_none}
+use Rattle.totals.specs.Sums.{Going, MeanNext, going_next, going-fails}
+use Rattle.totals.proofs.float_run.Given as goal
+
+abbrev pub invariant-loop-i : goal.invariant-loop-i
+invariant-loop-i l = (l.i ≤ l.n) × Going l.mean (filled_from 1 (cells_at l.s l.at l.kind l.n)) (filled_left l.s l.at l.kind l.n l.i) l.i
+
+abbrev pub decreases-loop-i : goal.decreases-loop-i
+decreases-loop-i l = l.n - l.i

@@ -1,0 +1,12 @@
+-- `totals::int_sum`: what its loops keep.
+use Rattle.std.proofs.Common.{arith, rules, ◌-◌, ◌≤◌}
+use Rattle.paper.specs.Totals.{filled_from}
+use Rattle.totals.specs.Cells.{cells_at, one_at, filled_left, filled_next, filled_none}
+use Rattle.totals.specs.Sums.{Gone, gone-start, gone-next, gone-end}
+use Rattle.totals.proofs.int_sum.Given as goal
+
+abbrev pub invariant-loop-i : goal.invariant-loop-i
+invariant-loop-i l = (l.i ≤ l.n) × Gone l.t (filled_from 1 (cells_at l.s l.at l.kind l.n)) (filled_left l.s l.at l.kind l.n l.i) l.i
+
+abbrev pub decreases-loop-i : goal.decreases-loop-i
+decreases-loop-i l = l.n - l.i

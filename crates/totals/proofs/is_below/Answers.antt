@@ -1,0 +1,20 @@
+-- `totals::is_below` meets its contract.
+use Rattle.std.proofs.Common.{rules}
+use Rattle.paper.specs.Totals.{holds}
+use Rattle.totals.proofs.is_below.Goals as goal
+
+pub lt-answer-requires : goal.lt-answer-requires
+unfolding holds
+lt-answer-requires c = search rules
+
+pub is_truth-requires : goal.is_truth-requires
+unfolding holds
+is_truth-requires c = search rules
+
+pub returns-in-Is : goal.returns-in-Is
+unfolding holds
+returns-in-Is c = rw (← c.lt-answer.ensures, c.in-Is.is) c.is_truth.ensures
+
+pub returns-in-Refused : goal.returns-in-Refused
+unfolding holds
+returns-in-Refused c = rw (← c.lt-answer.ensures, c.in-Refused.is)
