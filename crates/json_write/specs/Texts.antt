@@ -1,6 +1,6 @@
 -- The text of an array as its writer builds it: the axes that are left, from a cell on, as items with a comma after each but the last.
 use Prim.Native.Nat.{ℕ, zero, suc, ◌+◌, ◌-◌, ◌*◌, ◌≤◌, ◌<◌}
-use Rattle.std.specs.Prelude.{◌≡◌, drop, get_or}
+use Rattle.std.specs.Prelude.{◌≡◌, take, drop, get_or}
 use Rattle.std.proofs.Math.Path.{refl}
 use Rattle.std.proofs.Common.{sym, ap, ◌∙◌, arith, mul-one, length-append, length-drop, drop_of_length-le, drop-cons, drop_at}
 use mathlib.Core.List.{List, [], ◌∷◌, ◌++◌, map, append-nil, map-append}
@@ -73,9 +73,13 @@ module _ (f : ℕ → Cell) where
     layers-items (suc n) i =
         let e : suc n * cells E ≡ cells E + n * cells E = suc-mul n (cells E) ∙ (omega arith) in
         let l : length (map f (from i (cells E))) ≡ cells E = length-map (from i (cells E)) f ∙ length_from i (cells E) in
-        rw (e, from-split, map-append, take_at, drop_at)
-        (commas-on (axes_on i) (map (brackets E) (layers n (cells E) (map f (from (i + cells E) (n * cells E))))) n
-        (simp (length-map, length-layers)) (layers-items n (i + cells E)))
+        let p : List Cell = map f (from i (cells E)) in
+        let q : List Cell = map f (from (i + cells E) (n * cells E)) in
+        let both : map f (from i (suc n * cells E)) ≡ p ++ q =
+        ap (λ (m : ℕ). map f (from i m)) e ∙ ap (map f) (from-split i (cells E) (n * cells E)) ∙ map-append f (from i (cells E)) (from (i + cells E) (n * cells E)) in
+        ap (λ (cs : List Cell). commas (brackets E (take (cells E) cs) ∷ map (brackets E) (layers n (cells E) (drop (cells E) cs)))) both
+        ∙ rw (take_at p q (cells E) l, drop_at p q (cells E) l)
+        (commas-on (axes_on i) (map (brackets E) (layers n (cells E) q)) n (simp (length-map, length-layers)) (layers-items n (i + cells E)))
 
   -- one axis; and one with others after it
   pub brackets-one : (a : Axis) (i : ℕ) → axes_on (a ∷ []) i ≡ row_of (width a) cell_on 1 i
