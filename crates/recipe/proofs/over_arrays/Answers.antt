@@ -1,0 +1,17 @@
+-- `recipe::over_arrays` meets its contract: one array after the other.
+use Rattle.std.proofs.Common.{◌-◌, ap, ◌∙◌, arith, rules}
+use Rattle.paper.specs.declared.Refusal.{Refusal}
+use Rattle.recipe.specs.Whole.{empty_plan, Begun, begun-none, begun_more}
+use Rattle.recipe.proofs.over_arrays.Goals as goal
+
+pub loop-plan-init : goal.loop-plan-init
+loop-plan-init c =
+    let R = c.args.reading in
+    begun-none R _ (c.empty_plan-plan.ensures ∙ ap (λ (x : Refusal). empty_plan x R.version) c.none.ensures)
+
+pub loop-plan-preserved : goal.loop-plan-preserved
+loop-plan-preserved c =
+    begun_more c.args.reading c.loop-plan.plan _ c.requires c.loop-plan.invariant c.loop-plan-test.true
+
+pub returns : goal.returns
+returns c = let l = c.loop-plan in (l.invariant, omega (arith, l.invariant.turns, c.loop-plan-test.false))
