@@ -1,0 +1,14 @@
+-- `c_asked::refer_bytes`: what its loops keep.
+use Rattle.std.proofs.Common.{arith, ◌≡◌, refl, ◌∙◌, rules, w32, SFits, ◌-◌}
+use borrow.Author.Rules.{sfits_of}
+use mir.ValLaws.{to_z-of_z}
+use Rattle.paper.specs.Limits.{most_axes, limit_bytes}
+use Rattle.paper.specs.Numbers.{signed_at}
+use Rattle.c_asked.specs.Pieces.{Filling, filling-starts, filling-more, filling-ends}
+use Rattle.c_asked.proofs.refer_bytes.Given as goal
+
+abbrev pub invariant-loop-i : goal.invariant-loop-i
+invariant-loop-i l = Filling (signed_at 0) limit_bytes l.at most_axes l.n l.i l.zs
+
+abbrev pub decreases-loop-i : goal.decreases-loop-i
+decreases-loop-i l = l.n - l.i
