@@ -1,0 +1,15 @@
+-- `values::bands::lay_lines`: what its loops keep.
+use Rattle.std.proofs.Common.{ℕ, ◌+◌, ◌-◌, ◌*◌, ◌≤◌, List, length, arith, rules}
+use Rattle.paper.specs.Limits.{cell_bytes}
+use Rattle.rows.specs.declared.Band.{Band}
+use Rattle.rows.specs.Bands.{line_of}
+use Rattle.values.specs.Done.{CellsDone}
+use Rattle.values.specs.Moved.{Laying, LineAt, LinesLaid, lines-room, lines-few, run-asks, run-leaves, no_line, line-laid, all_lines, next-line, line-begins}
+use Rattle.values.proofs.bands.lay_lines.Given as goal
+
+abbrev pub invariant-loop-r : goal.invariant-loop-r
+invariant-loop-r l =
+    LinesLaid l.bundle l.initial.work l.at l.a l.b l.band l.r l.place l.x l.y l.work
+
+abbrev pub decreases-loop-r : goal.decreases-loop-r
+decreases-loop-r l = l.lines - l.r
