@@ -30,17 +30,32 @@ use Rattle.paper.specs.declared.StretchAnswer.TheVariants as Stretch
 
 -- ---- answers that are enums
 
+-- figures made an answer again
+back : {A X : Type 0} → (X → A) → (Refusal → A) → Res X → A
+back Got Refused (got x) = Got x
+back Got Refused (refused r) = Refused r
+
 -- an answer is fixed by its figures, where these, made an answer again, give it back
 fixed : {A X : Type 0} (said : A → Res X) (Got : X → A) (Refused : Refusal → A)
-    → ((a : A) → elim (said a) [ got x ↦ Got x | refused r ↦ Refused r ] ≡ a) → (a b : A) → said a ≡ said b → a ≡ b
+    → ((a : A) → back Got Refused (said a) ≡ a) → (a b : A) → said a ≡ said b → a ≡ b
 fixed said Got Refused h a b e = sym (h a) ∙ (rw e (h b))
 
 -- of packing, of a run and of writing JSON
+number-again : (a : NumberAnswer) → back Number.Got Number.Refused (number_said a) ≡ a
+unfolding back
+number-again (Number.Got x) = refl
+number-again (Number.Refused r) = refl
+
 pub number-one : (a b : NumberAnswer) → number_said a ≡ number_said b → a ≡ b
-number-one = fixed number_said Number.Got Number.Refused (λ a. elim a [ Number.Got x ↦ refl | Number.Refused r ↦ refl ])
+number-one = fixed number_said Number.Got Number.Refused number-again
+
+reference-again : (a : ReferenceAnswer) → back Reference.Got Reference.Refused (reference_said a) ≡ a
+unfolding back
+reference-again (Reference.Got x) = refl
+reference-again (Reference.Refused r) = refl
 
 pub reference-one : (a b : ReferenceAnswer) → reference_said a ≡ reference_said b → a ≡ b
-reference-one = fixed reference_said Reference.Got Reference.Refused (λ a. elim a [ Reference.Got x ↦ refl | Reference.Refused r ↦ refl ])
+reference-one = fixed reference_said Reference.Got Reference.Refused reference-again
 
 -- of reading JSON: an answer is fixed by its figures where 15 and 16 are told by answers of their own
 json-back : Res ℕ → JsonAnswer
@@ -59,8 +74,13 @@ json-again (Json.Refused r) h = rw (ne_eqb r.number 15 h.0, ne_eqb r.number 16 h
 pub json-one : (a b : JsonAnswer) → json_exact a → json_exact b → json_said a ≡ json_said b → a ≡ b
 json-one a b h k e = sym (json-again a h) ∙ (ap json-back e ∙ json-again b k)
 
+seen-again : (a : WalkAnswer) → back WalkCase.Got WalkCase.Refused (seen_said a) ≡ a
+unfolding back
+seen-again (WalkCase.Got x) = refl
+seen-again (WalkCase.Refused r) = refl
+
 seen_one : (a b : WalkAnswer) → seen_said a ≡ seen_said b → a ≡ b
-seen_one = fixed seen_said WalkCase.Got WalkCase.Refused (λ a. elim a [ WalkCase.Got x ↦ refl | WalkCase.Refused r ↦ refl ])
+seen_one = fixed seen_said WalkCase.Got WalkCase.Refused seen-again
 
 -- a walk's answer and the walking place after it
 pub walk-one : (a b : Walk) → walk_said a ≡ walk_said b → a ≡ b
@@ -69,17 +89,37 @@ walk-one a b e =
     let q : a.place.0 ≡ b.place.0 = ap (λ (w : Walked). w.place) e in
     λ i. record { answer = p i; place = record { 0 = q i } }
 
+total-again : (a : TotalAnswer) → back Total.Got Total.Refused (total_said a) ≡ a
+unfolding back
+total-again (Total.Got x) = refl
+total-again (Total.Refused r) = refl
+
 pub total-one : (a b : TotalAnswer) → total_said a ≡ total_said b → a ≡ b
-total-one = fixed total_said Total.Got Total.Refused (λ a. elim a [ Total.Got x ↦ refl | Total.Refused r ↦ refl ])
+total-one = fixed total_said Total.Got Total.Refused total-again
+
+plan-again : (a : PlanAnswer) → back Plan.Got Plan.Refused (plan_said a) ≡ a
+unfolding back
+plan-again (Plan.Got x) = refl
+plan-again (Plan.Refused r) = refl
 
 pub plan-one : (a b : PlanAnswer) → plan_said a ≡ plan_said b → a ≡ b
-plan-one = fixed plan_said Plan.Got Plan.Refused (λ a. elim a [ Plan.Got x ↦ refl | Plan.Refused r ↦ refl ])
+plan-one = fixed plan_said Plan.Got Plan.Refused plan-again
+
+page-again : (a : PageAnswer) → back Page.Got Page.Refused (page_said a) ≡ a
+unfolding back
+page-again (Page.Got x) = refl
+page-again (Page.Refused r) = refl
 
 pub page-one : (a b : PageAnswer) → page_said a ≡ page_said b → a ≡ b
-page-one = fixed page_said Page.Got Page.Refused (λ a. elim a [ Page.Got x ↦ refl | Page.Refused r ↦ refl ])
+page-one = fixed page_said Page.Got Page.Refused page-again
+
+stretch-again : (a : StretchAnswer) → back Stretch.Got Stretch.Refused (stretch_said a) ≡ a
+unfolding back
+stretch-again (Stretch.Got x) = refl
+stretch-again (Stretch.Refused r) = refl
 
 pub stretch-one : (a b : StretchAnswer) → stretch_said a ≡ stretch_said b → a ≡ b
-stretch-one = fixed stretch_said Stretch.Got Stretch.Refused (λ a. elim a [ Stretch.Got x ↦ refl | Stretch.Refused r ↦ refl ])
+stretch-one = fixed stretch_said Stretch.Got Stretch.Refused stretch-again
 
 -- ---- extents and readings
 
