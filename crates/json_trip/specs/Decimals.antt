@@ -69,6 +69,7 @@ run_more (b ∷ ds) d (next h k r) p q = next h k (run_more ds d r p q)
 
 number-on : (ds : List ℕ) (d : ℕ) → Number ds → 0 < number_of 0 ds → 48 ≤ d → d ≤ 57 → Number (ds ++ (d ∷ []))
 unfolding number_of
+number-on [] d x4 h p q = elim x4 [ ]
 number-on (b ∷ []) d nought h p q = absurd (omega arith)
 number-on (b ∷ ds) d (other l g r) h p q = other l g (run_more ds d r p q)
 
@@ -123,15 +124,18 @@ run-natural b ds c bs r s =
     rw (run_of (b ∷ ds) c bs r s, eqb-suc-zero (length ds), at-end (b ∷ ds) c bs, whole c s)
 
 number-run : (ds : List ℕ) → Number ds → Run ds
+number-run [] x' = elim x' [ ]
 number-run (b ∷ ds) nought = next {b = 48} (omega arith) (omega arith) end
 number-run (b ∷ ds) (other p q r) = let l : 48 ≤ b = omega arith in next l q r
 
 pub number-natural : (ds : List ℕ) (c : ℕ) (bs : List ℕ) → Number ds → Stops c → natural (ds ++ (c ∷ bs)) ≡ some (number_of 0 ds)
+number-natural [] c bs n s = elim n [ ]
 number-natural (b ∷ ds) c bs n s = run-natural b ds c bs (number-run (b ∷ ds) n) s
 
 -- a number does not begin with another letter
 pub begins-not : (w : ℕ) (v : List ℕ) (ds bs : List ℕ) → Number ds → w < 48 → begins (w ∷ v) (ds ++ bs) ≡ false
 unfolding alike
+begins-not w v [] bs n h = elim n [ ]
 begins-not w v (b ∷ ds) bs n h = rw (ne_eqb b w (λ e. below b ds w n h e))
   where
     below : (b : ℕ) (ds : List ℕ) (w : ℕ) → Number (b ∷ ds) → w < 48 → b ≡ w → ⊥
@@ -140,6 +144,7 @@ begins-not w v (b ∷ ds) bs n h = rw (ne_eqb b w (λ e. below b ds w n h e))
 
 pub begins-no-letter : (w : ℕ) (v : List ℕ) (ds bs : List ℕ) → Number ds → 57 < w → begins (w ∷ v) (ds ++ bs) ≡ false
 unfolding alike
+begins-no-letter w v [] bs n h = elim n [ ]
 begins-no-letter w v (b ∷ ds) bs n h = rw (ne_eqb b w (λ e. above b ds w n h e))
   where
     above : (b : ℕ) (ds : List ℕ) (w : ℕ) → Number (b ∷ ds) → 57 < w → b ≡ w → ⊥

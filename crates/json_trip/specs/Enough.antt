@@ -56,6 +56,7 @@ pub data Among (k : Token) : List Token → Type 0 where
 pub fitted-token : (t : ℕ) (ds : List Due) (ks : List Token) (r : Refusal) → Ends ks → fitted t ds ks ≡ refused r
     → (k : Token) × Among k ks × (refusal misfit16 0 k.place ≡ r)
 unfolding fitted
+fitted-token t (d ∷ ds) [] r e f = elim e [ ]
 fitted-token t [] ks r e f = absurd (none-refused [] r f)
 fitted-token t (d ∷ ds) (k ∷ ks) r e f = go (fits t d k.text) refl f (λ h g. fitted-token t ds ks r h g) e
   where
@@ -87,6 +88,7 @@ quote-brace (b ∷ bs) p q =
 -- what follows `data` ends so too
 data-ends : (ks : List Token) (k : Token) (js : List Token) → Ends ks → data_in ks ≡ some (k, js) → Ends js
 unfolding data_in
+data-ends [] k js e f = elim e [ ]
 data-ends (x ∷ ks) k js e f = go (is_data x) refl f (data-ends ks k js) e
   where
     its-quote : is_data x ≡ true → begins (text "\"") x.text ≡ true
