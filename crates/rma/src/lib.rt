@@ -46,8 +46,7 @@ fn count_told(bundle: &[u8]) -> Reply
     of_number(reading.count as u32)
 }
 
-#[unsafe(no_mangle)]
-pub extern "C" fn rma_read(bundle: &[u8], said: &mut [u8]) -> u32
+pub fn rma_read(bundle: &[u8], said: &mut [u8]) -> u32
     ensures { record { number = result; said = said.new }
         ≡ spoken number_bytes (count_of bundle.now) said.old }
 {
@@ -71,8 +70,7 @@ fn array_told(bundle: &[u8], array: u32) -> Reply
     of_numbers(0, c_told::MOST, form.kind as u32, rank, cells, at)
 }
 
-#[unsafe(no_mangle)]
-pub extern "C" fn rma_array(bundle: &[u8], array: u32, said: &mut [u8]) -> u32
+pub fn rma_array(bundle: &[u8], array: u32, said: &mut [u8]) -> u32
     ensures { record { number = result; said = said.new }
         ≡ spoken array_bytes (array_told bundle.now array) said.old }
 {
@@ -94,14 +92,7 @@ fn pack_heads(version: u32, heads: &[u8], cells: &[u8], out: &mut [u8]) -> Numbe
 }
 
 // The bundle of the arrays that `heads` describes, with their cells, in `out`: its length.
-#[unsafe(no_mangle)]
-pub extern "C" fn rma_pack(
-    version: u32,
-    heads: &[u8],
-    cells: &[u8],
-    out: &mut [u8],
-    said: &mut [u8],
-) -> u32
+pub fn rma_pack(version: u32, heads: &[u8], cells: &[u8], out: &mut [u8], said: &mut [u8]) -> u32
     ensures { (record { number = result; said = said.new }
         ≡ spoken number_bytes (pack_heads version heads.now cells.now out.old).answer said.old)
         × (out.new ≡ (pack_heads version heads.now cells.now out.old).buffer) }
@@ -112,8 +103,7 @@ pub extern "C" fn rma_pack(
 // ---- one array
 
 // The cell at a coordinate.
-#[unsafe(no_mangle)]
-pub extern "C" fn rma_refer(bundle: &[u8], array: u32, coordinate: &[u8], said: &mut [u8]) -> u32
+pub fn rma_refer(bundle: &[u8], array: u32, coordinate: &[u8], said: &mut [u8]) -> u32
     ensures { record { number = result; said = said.new }
         ≡ spoken encode (reference bundle.now array (coordinate_in coordinate.now)) said.old }
 {
@@ -121,8 +111,7 @@ pub extern "C" fn rma_refer(bundle: &[u8], array: u32, coordinate: &[u8], said: 
 }
 
 // The cell at the walking place, or the end; the place is moved forward where it stands.
-#[unsafe(no_mangle)]
-pub extern "C" fn rma_walk(bundle: &[u8], array: u32, place: &mut [u8], said: &mut [u8]) -> u32
+pub fn rma_walk(bundle: &[u8], array: u32, place: &mut [u8], said: &mut [u8]) -> u32
     ensures { (record { number = result; said = said.new }
         ≡ spoken seen_bytes (paper_walk bundle.now array (place_in place.old)).answer said.old)
         × (place.new
@@ -132,8 +121,7 @@ pub extern "C" fn rma_walk(bundle: &[u8], array: u32, place: &mut [u8], said: &m
 }
 
 // A total, by its number: filled, TRUE, smallest, largest, sum, average.
-#[unsafe(no_mangle)]
-pub extern "C" fn rma_total(bundle: &[u8], array: u32, which: u32, said: &mut [u8]) -> u32
+pub fn rma_total(bundle: &[u8], array: u32, which: u32, said: &mut [u8]) -> u32
     ensures { record { number = result; said = said.new }
         ≡ spoken total_bytes (total_asked bundle.now array which) said.old }
 {
@@ -141,8 +129,7 @@ pub extern "C" fn rma_total(bundle: &[u8], array: u32, which: u32, said: &mut [u
 }
 
 // The array as JSON, in `out`: the text's length.
-#[unsafe(no_mangle)]
-pub extern "C" fn rma_write_json(bundle: &[u8], array: u32, out: &mut [u8], said: &mut [u8]) -> u32
+pub fn rma_write_json(bundle: &[u8], array: u32, out: &mut [u8], said: &mut [u8]) -> u32
     ensures { (record { number = result; said = said.new }
         ≡ spoken number_bytes (write_json bundle.now array out.old).answer said.old)
         × (out.new ≡ (write_json bundle.now array out.old).buffer) }
@@ -165,8 +152,7 @@ fn json_by_head(version: u32, head: &[u8], text: &[u8], cells: &mut [u8]) -> Jso
 }
 
 // JSON read into `cells`, of the type and extent that `head` names: the number of cells. A byte place that is refused never wraps.
-#[unsafe(no_mangle)]
-pub extern "C" fn rma_read_json(
+pub fn rma_read_json(
     version: u32,
     head: &[u8],
     text: &[u8],
@@ -184,8 +170,7 @@ pub extern "C" fn rma_read_json(
 // ---- a recipe
 
 // What a run will need and give: the number of cells of all results, and the last one's type, axis count and number of cells.
-#[unsafe(no_mangle)]
-pub extern "C" fn rma_plan(bundle: &[u8], recipe: &[u8], said: &mut [u8]) -> u32
+pub fn rma_plan(bundle: &[u8], recipe: &[u8], said: &mut [u8]) -> u32
     ensures { record { number = result; said = said.new }
         ≡ spoken foreseen_bytes (paper_plan bundle.now recipe.now) said.old }
 {
@@ -193,13 +178,7 @@ pub extern "C" fn rma_plan(bundle: &[u8], recipe: &[u8], said: &mut [u8]) -> u32
 }
 
 // The head of the last result, in `extent`: its length.
-#[unsafe(no_mangle)]
-pub extern "C" fn rma_extent(
-    bundle: &[u8],
-    recipe: &[u8],
-    extent: &mut [u8],
-    said: &mut [u8],
-) -> u32
+pub fn rma_extent(bundle: &[u8], recipe: &[u8], extent: &mut [u8], said: &mut [u8]) -> u32
     ensures { (record { number = result; said = said.new }
         ≡ spoken number_bytes (last_extent bundle.now recipe.now extent.old).answer said.old)
         × (extent.new ≡ (last_extent bundle.now recipe.now extent.old).buffer) }
@@ -208,8 +187,7 @@ pub extern "C" fn rma_extent(
 }
 
 // The results of all steps in the work area: the number of their cells.
-#[unsafe(no_mangle)]
-pub extern "C" fn rma_run(bundle: &[u8], recipe: &[u8], work: &mut [u8], said: &mut [u8]) -> u32
+pub fn rma_run(bundle: &[u8], recipe: &[u8], work: &mut [u8], said: &mut [u8]) -> u32
     ensures { (record { number = result; said = said.new }
         ≡ spoken number_bytes (paper_run bundle.now recipe.now work.old).answer said.old)
         × (work.new ≡ (paper_run bundle.now recipe.now work.old).buffer) }
@@ -218,8 +196,7 @@ pub extern "C" fn rma_run(bundle: &[u8], recipe: &[u8], work: &mut [u8], said: &
 }
 
 // The same, and the rows of TRUE cells from `start` on: how many, and where to go on.
-#[unsafe(no_mangle)]
-pub extern "C" fn rma_page(
+pub fn rma_page(
     bundle: &[u8],
     recipe: &[u8],
     work: &mut [u8],
@@ -278,8 +255,7 @@ fn stretch_heads(
 
 // The stretch from an ordinality on: its side, 1 for the left and 2 for the right, and the bytes of that side's cells from and up to
 // which it lies.
-#[unsafe(no_mangle)]
-pub extern "C" fn rma_stretch(
+pub fn rma_stretch(
     version: u32,
     left_head: &[u8],
     left: &[u8],

@@ -1,0 +1,8 @@
+-- `rma::rma_read` meets its contract: the number of arrays is said.
+use Rattle.std.proofs.Common.{refl, rules}
+use Rattle.c_told.specs.Given.{number_bytes}
+use Rattle.c_told.specs.Replies.{speaks}
+use Rattle.rma.proofs.rma_read.Goals as goal
+
+pub returns : goal.returns
+returns c = speaks number_bytes _ _ _ _ _ c.count_told.ensures refl c.give.ensures

@@ -1,0 +1,9 @@
+-- `rma::rma_refer` meets its contract: the cell is said.
+use Rattle.std.proofs.Common.{rules}
+use Rattle.paper.specs.Cells.{encode}
+use Rattle.c_told.specs.Replies.{speaks}
+use Rattle.rma.proofs.rma_refer.Goals as goal
+
+pub returns : goal.returns
+returns c = speaks encode _ _ _ _ _ c.of_reference.ensures
+    c.refer_bytes.ensures c.give.ensures

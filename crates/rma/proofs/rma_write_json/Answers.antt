@@ -1,0 +1,10 @@
+-- `rma::rma_write_json` meets its contract: the writer’s answer is said, and the buffer is as the writer leaves it.
+use Rattle.std.proofs.Common.{rules}
+use Rattle.c_told.specs.Given.{number_bytes}
+use Rattle.c_told.specs.Replies.{speaks}
+use Rattle.rma.proofs.rma_write_json.Goals as goal
+
+pub returns : goal.returns
+returns c =
+    let w = c.write.ensures in
+    (speaks number_bytes _ _ _ _ _ c.of_counted.ensures w.0 c.give.ensures, w.1)
