@@ -17,7 +17,7 @@ use Rattle.bundle.specs.Axes.{length-each}
 use Rattle.pack.specs.Heads.{head_length}
 use Rattle.pack.specs.Laid.{shapes_of, shapes-few}
 use Rattle.c_asked.specs.declared.Forms.{Forms}
-use Rattle.c_asked.specs.Asked.{pieces, each_piece, head_count, shape_in, heads_in, side_shape, side_in}
+use Rattle.c_asked.specs.Asked.{pieces, each_piece, head_count, shape_in, heads_in, side_shape}
 use Rattle.c_asked.specs.Pieces.{each-length}
 
 -- the form that the first bytes describe

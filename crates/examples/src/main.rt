@@ -2,20 +2,38 @@
 // and what to call; what the calls give is printed beside it. A new case is a line of the script and one of what it must print.
 #![tactic(auto)]
 
+ghost use Rattle.std.specs.Io.{ReadsAtMost};
+
 mod ask;
 mod obey;
 
 use crate::obey::obey;
-use libc::STDIN_FILENO;
 use script::desk::{BUNDLE, CELLS, HEADS, STEPS, blank};
 use script::line::{ARGS, read_line};
 use script::parts::first;
+use std::io;
+use std::io::Read;
 
 // Room for the script.
 const SCRIPT: usize = 24576;
 
+// Reads until `buf` is full or the input ends; answers how many bytes.
+fn read_full(reader: &mut impl Read, buf: &mut [u8]) -> io::Result<usize>
+    ensures { ReadsAtMost result buf.new }
+{
+    let mut n: usize = 0;
+    while n < buf.len() {
+        let more = reader.read(&mut buf[n..])?;
+        if more == 0 {
+            break;
+        }
+        n += more;
+    }
+    Ok(n)
+}
+
 // Each line of the script in turn.
-fn follow(script: &[u8]) {
+fn follow(rt: &impl Print, script: &[u8]) -> io::Result<()> {
     let mut args = [0u64; ARGS];
     let mut kinds = [0u8; ARGS];
     let mut heads = [0u8; HEADS];
@@ -27,6 +45,7 @@ fn follow(script: &[u8]) {
     while at < script.len() {
         let line = read_line(script, at, &mut args, &mut kinds);
         desk = obey(
+            rt,
             desk,
             &script[at..],
             line.next - at,
@@ -37,13 +56,14 @@ fn follow(script: &[u8]) {
             &mut cells,
             &mut steps,
             &mut bundle,
-        );
+        )?;
         at = line.next;
     }
+    Ok(())
 }
 
-fn main() {
+fn main(rt: HostRuntime) -> io::Result<()> {
     let mut script = [0u8; SCRIPT];
-    let n = io::read_full(STDIN_FILENO, &mut script);
-    follow(first(&script, n));
+    let n = read_full(&mut rt.stdin(), &mut script)?;
+    follow(&rt, first(&script, n))
 }

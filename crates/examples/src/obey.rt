@@ -29,6 +29,7 @@ use script::make::make;
 use script::parts::{first, first_lent};
 use script::say::say;
 use script::sent::{hear, keep};
+use std::io;
 
 // The bytes of a work area at most.
 const WORK: usize = 900;
@@ -36,13 +37,14 @@ const WORK: usize = 900;
 // ---- questions
 
 // "TEXT: the line but for its first byte and its end.
-fn say_text(rest: &[u8], line: usize) {
+fn say_text(rt: &impl Print, rest: &[u8], line: usize) -> io::Result<()> {
     if 2 <= line {
         if line <= rest.len() {
             let end = line - 1;
-            say(&rest[1..end]);
+            say(rt, &rest[1..end])?;
         }
     }
+    Ok(())
 }
 
 // A line but for its end.
@@ -54,18 +56,31 @@ fn line_of(rest: &[u8], line: usize) -> &[u8] {
 }
 
 // Of the recipe.
-fn ask_recipe(command: u8, bundle: &[u8], steps: &[u8], args: &[u64; ARGS]) {
+fn ask_recipe(
+    rt: &impl Print,
+    command: u8,
+    bundle: &[u8],
+    steps: &[u8],
+    args: &[u64; ARGS],
+) -> io::Result<()> {
     let mut work = [0u8; WORK];
     let room = arg_length(args, 1, WORK);
     match command {
-        b'v' => ask::show_run(bundle, steps, &mut work),
-        b'u' => ask::show_area(bundle, steps, first_lent(&mut work, room)),
-        b'p' => ask::show_page(bundle, steps, arg32(args, 2), first_lent(&mut work, room)),
-        _ => (),
+        b'v' => ask::show_run(rt, bundle, steps, &mut work),
+        b'u' => ask::show_area(rt, bundle, steps, first_lent(&mut work, room)),
+        b'p' => ask::show_page(
+            rt,
+            bundle,
+            steps,
+            arg32(args, 2),
+            first_lent(&mut work, room),
+        ),
+        _ => Ok(()),
     }
 }
 
 fn question(
+    rt: &impl Print,
     command: u8,
     desk: Desk,
     n: usize,
@@ -73,19 +88,21 @@ fn question(
     kinds: &[u8; ARGS],
     steps: &[u8],
     bundle: &[u8],
-) {
+) -> io::Result<()> {
     let arrays = first(bundle, desk.bundle);
-    ask_array(command, desk.version, arrays, n, args, kinds);
-    ask_recipe(command, arrays, first(steps, desk.steps), args);
+    ask_array(rt, command, desk.version, arrays, n, args, kinds)?;
+    ask_recipe(rt, command, arrays, first(steps, desk.steps), args)?;
     if command == b'k' {
-        keep(desk.version, arrays, args);
+        keep(rt, desk.version, arrays, args)?;
     }
+    Ok(())
 }
 
 // ---- a line
 
 // A command, by its first byte: `rest` is the script from there on, of which the line has so many bytes and n words.
 pub fn obey(
+    rt: &impl Print,
     desk: Desk,
     rest: &[u8],
     line: usize,
@@ -96,19 +113,21 @@ pub fn obey(
     cells: &mut [u8],
     steps: &mut [u8],
     bundle: &mut [u8],
-) -> Desk {
+) -> io::Result<Desk> {
     if rest.len() == 0 {
-        return desk;
+        return Ok(desk);
     }
     let command = rest[0];
     if command == b'"' {
-        say_text(rest, line);
-        return desk;
+        say_text(rt, rest, line)?;
+        return Ok(desk);
     }
     if command == b'h' {
-        hear(desk.version, heads, line_of(rest, line), args);
-        return desk;
+        hear(rt, desk.version, heads, line_of(rest, line), args)?;
+        return Ok(desk);
     }
-    question(command, desk, n, args, kinds, steps, bundle);
-    make(command, desk, n, args, kinds, heads, cells, steps, bundle)
+    question(rt, command, desk, n, args, kinds, steps, bundle)?;
+    make(
+        rt, command, desk, n, args, kinds, heads, cells, steps, bundle,
+    )
 }

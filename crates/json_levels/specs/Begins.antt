@@ -1,7 +1,7 @@
 -- What each byte begins at each spot: the table's rule for it, and the levels after it.
 use Rattle.std.specs.Prelude.{ℕ, zero, suc, ◌+◌, ◌-◌, ◌*◌, ◌/◌, ◌%◌, ◌≤◌, ◌<◌, ◌≡◌, Bool, ◌&&◌}
 use Rattle.std.proofs.Math.Path.{refl, ap}
-use Rattle.std.proofs.Common.{sym, ap₂, ◌∙◌, subst, add-one}
+use Rattle.std.proofs.Common.{sym, ◌∙◌, subst, add-one}
 use Rattle.std.proofs.Math.Bool.{true, false}
 use mathlib.Core.List.{List, [], ◌∷◌, ◌++◌, map, append_assoc}
 use Rattle.std.proofs.Math.Option
@@ -10,11 +10,11 @@ use native.Mathlib.Omega.{arith}
 use borrow.Author.Tests.{eqb-true, eq-eqb, ne_eqb, eqb-false}
 use Rattle.std.proofs.Math.Dec.{eqb}
 use Rattle.paper.specs.Refusals.{if◌then◌else◌}
-use Rattle.paper.specs.Grammar.{Part, Rule, Bytes, among, blank, these, digit, optional, rules, values, before, nested, at, levels_inside}
-use Rattle.paper.specs.Grammar.{value, items, more_items, object, members, member, more_members}
+use Rattle.paper.specs.Grammar.{Part, Rule, among, blank, these, digit, optional, rules, values, before, nested, at, levels_inside}
+use Rattle.paper.specs.Grammar.{value, items, more_items, members, member}
 use Rattle.paper.specs.Machine.{chosen, settled, move, step}
 use Rattle.paper.specs.JsonRead.{outer}
-use Rattle.json_text.specs.Bytes.{in-range, above-range, not_byte}
+use Rattle.json_text.specs.Bytes.{in-range, not_byte}
 use Rattle.json_text.specs.Kinds.{digit-from, digit-to, digit_not}
 use Rattle.json_levels.specs.declared.Levels.{Levels}
 use Rattle.json_levels.specs.declared.Next.{Next}
@@ -22,7 +22,7 @@ use Rattle.json_levels.specs.declared.Turn.{Turn}
 use Rattle.json_levels.specs.declared.Begun.{Begun}
 use Rattle.json_levels.specs.declared.Next.TheVariants.{Object, First, More, Value, Member}
 use Rattle.json_levels.specs.declared.Begun.TheVariants.{Nothing, Comma, Bracket, Name, Text, Minus, Zero, Digit, True, False, Null}
-use Rattle.json_levels.specs.Parts.{array?, more_of, first_of, inside, more, around, parts_at, room, Open, StandingAt, head_of, comes}
+use Rattle.json_levels.specs.Parts.{array?, more_of, inside, more, around, parts_at, room, Open, StandingAt, head_of, comes}
 use Rattle.json_levels.specs.Parts.{FirstByte, NoName, AtSpot, Behind, so, TurnedAt, Turned, Standing, outermost, Other}
 
 -- what is made is such

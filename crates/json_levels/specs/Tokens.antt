@@ -1,24 +1,22 @@
 -- The token that begins with a byte: none with a comma; else one, which is a name `data` of the outermost object exactly if a name begins
 -- there in the first level and spells so.
 use Rattle.std.specs.Prelude.{ℕ, zero, suc, ◌+◌, ◌/◌, ◌-◌, ◌<◌, ◌≡◌, refl, Bool, true, false, ◌&&◌, ◌||◌, List, [], ◌∷◌, ◌++◌, eqb, length, get_or}
-use Rattle.std.proofs.Common.{sym, ap, ◌∙◌, arith, add-one, drop-cons}
-use Rattle.std.proofs.Math.Option.{Option, none, some}
+use Rattle.std.proofs.Common.{sym, ap, ◌∙◌, add-one, drop-cons}
+use Rattle.std.proofs.Math.Option.{none}
 use Rattle.std.proofs.Math.ListN.{drop}
 use Rattle.paper.specs.Refusals.{if◌then◌else◌, between}
 use Rattle.paper.specs.Numbers.{text, alike}
 use Rattle.paper.specs.Grammar.{Part, Spot, Bytes, among, blank, these, optional, at, levels_inside}
 use Rattle.paper.specs.Grammar.{value, object, member, more_items, more_members}
-use Rattle.paper.specs.Machine.{settled, move, step}
+use Rattle.paper.specs.Machine.{settled, move}
 use Rattle.paper.specs.JsonRead.{Token, outer, token_of, begins, spells, is_data}
 use Rattle.laws.specs.Tests.{no_none}
-use Rattle.json_text.specs.Kinds.{no_true}
 use Rattle.json_text.specs.Bytes.{not_byte}
 use Rattle.json_levels.specs.declared.Levels.{Levels}
 use Rattle.json_levels.specs.declared.Next.{Next}
 use Rattle.json_levels.specs.declared.Next.TheVariants.{Object, First, More, Value, Member}
 use Rattle.json_levels.specs.declared.Turn.{Turn}
 use Rattle.json_levels.specs.declared.Begun.{Begun}
-use Rattle.json_levels.specs.declared.Begun.TheVariants as Begun
 use Rattle.json_levels.specs.Parts.{array?, first_of, more_of, inside, more, around, parts_at, parts_of, comes, FirstByte, NoName}
 use Rattle.json_levels.specs.Parts.{TurnedAt, Turned, outermost}
 

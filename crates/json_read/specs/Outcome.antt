@@ -1,11 +1,11 @@
 -- What reading comes to, from what is left of the text: before `data`, in its value with what is due, after a misfit, after a second
 -- `data`.
-use Rattle.std.specs.Prelude.{ℕ, ◌+◌, ◌≡◌, Bool, true, false, List, [], ◌∷◌, ◌++◌, length}
+use Rattle.std.specs.Prelude.{ℕ, ◌+◌, ◌≡◌, true, false, List, [], ◌∷◌, ◌++◌, length}
 use Rattle.std.proofs.Math.Path.{refl}
-use Rattle.std.proofs.Common.{sym, ap, ◌∙◌, append_assoc}
+use Rattle.std.proofs.Common.{sym, ap, append_assoc}
 use Rattle.std.proofs.Math.Option.{Option, none, some}
 use Rattle.paper.specs.declared.Cell.{Cell}
-use Rattle.paper.specs.Refusals.{Res, got, refused, ◌>>=◌, ◌>>◌, if◌then◌else◌, refusal, present, not_json15, misfit16}
+use Rattle.paper.specs.Refusals.{Res, got, refused, ◌>>=◌, ◌>>◌, refusal, present, not_json15, misfit16}
 use Rattle.paper.specs.Grammar.{start}
 use Rattle.paper.specs.Machine.{given}
 use Rattle.paper.specs.JsonRead.{Token, is_data, data_in, second_in, unless15, data_of, Due, fits, fitted}

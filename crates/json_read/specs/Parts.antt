@@ -1,10 +1,9 @@
 -- The rest of what a byte began, and where blanks may stand.
-use Rattle.std.specs.Prelude.{ℕ, zero, suc, ◌+◌, ◌-◌, ◌≤◌, ◌<◌, ◌≡◌, Bool, true, false, length, drop, get_or}
+use Rattle.std.specs.Prelude.{ℕ, zero, suc, ◌+◌, ◌≤◌, ◌<◌, ◌≡◌, true, false, length, get_or}
 use Rattle.std.proofs.Math.Path.{refl}
 use Rattle.std.proofs.Common.{sym, ap, ◌∙◌, subst, arith}
 use mathlib.Core.List.{List, [], ◌∷◌, ◌++◌}
 use Rattle.std.proofs.Math.Option.{none, some}
-use Rattle.paper.specs.Refusals.{if◌then◌else◌}
 use Rattle.paper.specs.Numbers.{text}
 use Rattle.paper.specs.Grammar.{Part, Spot, Digits, among, blank, these, optional, rules, chars, colon, number, at, word, unsigned}
 use Rattle.paper.specs.Grammar.{after_zero, after_digit}
@@ -15,14 +14,13 @@ use Rattle.json_text.specs.declared.Ended.{Ended}
 use Rattle.json_text.specs.Words.{letters}
 use Rattle.json_text.specs.Bytes.{not_byte}
 use Rattle.json_levels.specs.Tokens.{among-more, among_none}
-use Rattle.json_text.specs.Left.{left, stops, reached, Ends, left_end, left-stops}
+use Rattle.json_text.specs.Left.{left, reached, Ends, left_end, left-stops}
 use Rattle.json_text.specs.Numbers.{Moves, moved-left, Stays, PassedOver, NumberEnds, ended}
 use Rattle.json_levels.specs.declared.Begun.{Begun}
 use Rattle.json_levels.specs.declared.Begun.TheVariants.{Nothing, Comma, Bracket, Name, Text, Minus, Zero, Digit, True, False, Null}
-use Rattle.json_levels.specs.declared.Levels.{Levels}
 use Rattle.json_levels.specs.declared.Next.{Next}
 use Rattle.json_levels.specs.declared.Next.TheVariants.{Object, First, More, Value, Member}
-use Rattle.json_levels.specs.Parts.{array?, first_of, more_of, inside, more, around, parts_at, parts_of, head_of, AtSpot, Behind}
+use Rattle.json_levels.specs.Parts.{first_of, inside, more, around, parts_at, head_of, AtSpot, Behind}
 
 -- what was begun ends so, before what is behind it
 pub record BegunEnds (s : List ℕ) (g : Begun) (i : ℕ) (e : Ended) : Type 0 where

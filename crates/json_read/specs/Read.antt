@@ -1,9 +1,9 @@
 -- The form judged, the text read, the caller's buffer filled: together the paper's reading.
-use Rattle.std.specs.Prelude.{ℕ, ◌+◌, ◌*◌, ◌^◌, ◌≤◌, ◌<◌, ◌≡◌, Bool, not, ◌&&◌, eqb, take}
+use Rattle.std.specs.Prelude.{ℕ, ◌+◌, ◌*◌, ◌≤◌, ◌<◌, ◌≡◌, Bool, not, ◌&&◌, eqb, take}
 use Rattle.std.proofs.Math.Path.{refl, sym, ap, subst}
-use Rattle.std.proofs.Common.{ap₂, ◌∙◌}
+use Rattle.std.proofs.Common.{◌∙◌}
 use Rattle.std.proofs.Math.Bool.{true, false}
-use mathlib.Core.List.{List, [], ◌∷◌, ◌++◌}
+use mathlib.Core.List.{List, ◌++◌}
 use native.Mathlib.Omega.{arith}
 use borrow.Author.Tests.{le-leb, lt-leb, leb-true}
 use Rattle.std.proofs.Math.Dec.{leb}
@@ -21,7 +21,7 @@ use Rattle.paper.specs.Refusals.{Res, got, refused, ◌>>=◌, ◌>>◌, ensure,
 use Rattle.paper.specs.Refusals.{not_json15, misfit16}
 use Rattle.paper.specs.Numbers.{part, over}
 use Rattle.paper.specs.Axes.{cells, good_extent}
-use Rattle.paper.specs.Cells.{is_type, cells_bytes}
+use Rattle.paper.specs.Cells.{is_type}
 use Rattle.paper.specs.Bundle.{After, version_told, names_fit}
 use Rattle.paper.specs.JsonRead.{Token, data_of, due, fitted, cells_as, cells_in, fill_with, read_json}
 use Rattle.paper.specs.Answers.{axes_of, names_for, unless, json_said, json_exact}

@@ -1,9 +1,9 @@
 -- The loop over a text: after each token, what reading comes to is what is left of it comes to, with the cells that are stored.
-use Rattle.std.specs.Prelude.{ℕ, zero, suc, ◌+◌, ◌-◌, ◌*◌, ◌≤◌, ◌<◌, ◌≡◌, Bool, true, false, ◌&&◌, ◌⊎◌, eqb, length, take, drop, get_or}
+use Rattle.std.specs.Prelude.{ℕ, zero, suc, ◌+◌, ◌*◌, ◌≤◌, ◌<◌, ◌≡◌, Bool, true, false, ◌⊎◌, eqb, length, take, drop, get_or}
 use Rattle.std.proofs.Math.Path.{refl, ap, subst}
-use Rattle.std.proofs.Common.{sym, ap₂, ◌∙◌, inl, inr, arith, eqb-true, length-append, drop_of_length-le}
+use Rattle.std.proofs.Common.{sym, ◌∙◌, inl, inr, arith, eqb-true, length-append, drop_of_length-le}
 use mathlib.Core.List.{List, [], ◌∷◌, ◌++◌, append-nil, append_assoc}
-use Rattle.std.proofs.Math.Option.{Option, none, some}
+use Rattle.std.proofs.Math.Option.{none, some}
 use Rattle.paper.specs.declared.Axis.{Axis}
 use Rattle.paper.specs.declared.Cell.{Cell}
 use Rattle.paper.specs.Limits.{most_cells, cell_bytes}
@@ -11,37 +11,33 @@ use Rattle.paper.specs.Refusals.{Res, got, refused, ◌>>=◌, refusal, not_json
 use Rattle.paper.specs.Numbers.{concat}
 use Rattle.paper.specs.Axes.{cells}
 use Rattle.paper.specs.Cells.{encode, cells_bytes}
-use Rattle.paper.specs.Grammar.{Part, among, blank, start, levels_inside, at, object}
+use Rattle.paper.specs.Grammar.{Part, among, blank, start}
 use Rattle.paper.specs.Machine.{complete, fault_from, settled, step}
-use Rattle.paper.specs.JsonRead.{Token, token_of, tokens_from, data_of, Due, opening, closing, cell, due, fitted}
+use Rattle.paper.specs.JsonRead.{token_of, tokens_from, data_of, Due, opening, closing, cell, due, fitted}
 use Rattle.laws.specs.Limits.{Sound}
 use Rattle.json_text.specs.Kinds.{no_true}
 use Rattle.json_text.specs.declared.Ended.{Ended}
-use Rattle.json_text.specs.Left.{Rest, left, stops, reached, preceded, left_end, left-stops, left-token}
+use Rattle.json_text.specs.Left.{Rest, left, reached, left_end, left-stops, left-token}
 use Rattle.json_text.specs.Numbers.{PassedOver}
 use Rattle.json_levels.specs.declared.Levels.{Levels}
 use Rattle.json_levels.specs.declared.Next.{Next}
-use Rattle.json_levels.specs.declared.Next.TheVariants as Next
 use Rattle.json_levels.specs.declared.Turn.{Turn}
 use Rattle.json_levels.specs.declared.Begun.{Begun}
-use Rattle.json_levels.specs.declared.Begun.TheVariants as Begun
 use Rattle.json_levels.specs.Parts.{parts_at, parts_of, more, Standing, StandingAt, head_of, comes, Turned}
 use Rattle.json_levels.specs.Tokens.{tokens-at}
 use Rattle.json_due.specs.declared.Cursor.{Cursor}
 use Rattle.json_due.specs.declared.Wanted.{Wanted}
-use Rattle.json_due.specs.declared.Wanted.TheVariants as Wanted
-use Rattle.json_due.specs.Due.{rest_of, rest_by, Stands, cells_due, first_due, first-reached, rest-nothing, rest-opening, rest-closing}
+use Rattle.json_due.specs.Due.{rest_of, cells_due, first-reached, rest-nothing, rest-opening, rest-closing}
 use Rattle.json_due.specs.Due.{rest-value}
 use Rattle.json_read.specs.declared.fit.Stage.{Stage}
 use Rattle.json_read.specs.declared.fit.Stage.TheVariants.{Before, Within, Wrong, Stopped}
 use Rattle.json_read.specs.declared.fit.Fit.{Fit}
 use Rattle.json_read.specs.declared.scan.Found.{Found}
-use Rattle.json_read.specs.declared.scan.Found.TheVariants as Found
-use Rattle.json_read.specs.Outcome.{Phase, before, within, wrong, twice, outcome, with, Alive, all_left, with_none, with-more}
+use Rattle.json_read.specs.Outcome.{before, within, outcome, with, Alive, all_left, with_none, with-more}
 use Rattle.json_read.specs.Outcome.{stopped}
 use Rattle.json_read.specs.Outcome.{done, done-before, done-over, done-short, done-wrong}
 use Rattle.json_read.specs.Parts.{BegunEnds, parts_stay}
-use Rattle.json_read.specs.Fit.{phase_by, phase_of, Counts, Ready, waiting, stopping, TokenMet}
+use Rattle.json_read.specs.Fit.{phase_by, phase_of, Counts, Ready, waiting, TokenMet}
 
 unfoldable pub stopped? : Stage → Bool
 stopped? Before = false

@@ -3,7 +3,7 @@ use Rattle.std.specs.Prelude.{◌≡◌, ℕ, ◌<◌, ◌≤◌, Bool, true, fa
 use Rattle.std.proofs.Common.{sym, ap, ◌∙◌, subst, arith, eqb-true, le-leb, leb-true, leb-false}
 use Rattle.std.proofs.lemmas.Bool.{eqb-false}
 use Rattle.paper.specs.Grammar.{among, blank, digit}
-use Rattle.json_text.specs.Bytes.{in-range, below-range, above-range, not_byte}
+use Rattle.json_text.specs.Bytes.{in-range, below-range, not_byte}
 
 -- false is not true
 pub no_true : {A : Type 0} → false ≡ true → A

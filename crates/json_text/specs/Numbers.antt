@@ -1,15 +1,14 @@
 -- Numbers from a byte on: digits passed over, a digit that is due, and how what is left after a number follows from its parts.
-use Rattle.std.specs.Prelude.{◌≡◌, ℕ, zero, suc, ◌+◌, ◌-◌, ◌<◌, ◌≤◌, Bool, true, false, List, [], ◌∷◌, ◌++◌, length, drop, ◌≢◌, nat_le, slice_index, slice_index_or, refl}
+use Rattle.std.specs.Prelude.{◌≡◌, ℕ, ◌+◌, ◌<◌, ◌≤◌, Bool, true, false, List, [], ◌∷◌, ◌++◌, length, drop, ◌≢◌, nat_le, slice_index, slice_index_or, refl}
 use Rattle.std.proofs.Common.{sym, ap, ◌∙◌, leb-true, leb-false}
-use Rattle.std.proofs.Math.Option.{Option, none, some, map}
+use Rattle.std.proofs.Math.Option.{none, some}
 use native.Mathlib.Omega.{arith}
 use Rattle.paper.specs.Refusals.{if◌then◌else◌}
-use Rattle.paper.specs.Grammar.{Bytes, Part, Spot, Digits, Rule, among, blank, digit, these, ends, optional, rules, fraction, power}
-use Rattle.paper.specs.Grammar.{one, chars, escape, number, colon, at, unsigned, after_zero, after_digit, after_fraction, after_e}
+use Rattle.paper.specs.Grammar.{Bytes, Part, Spot, Digits, Rule, among, digit, these, ends, optional, rules, fraction, power}
+use Rattle.paper.specs.Grammar.{one, number, at, unsigned, after_zero, after_digit, after_fraction, after_e}
 use Rattle.paper.specs.Grammar.{after_exponent}
-use Rattle.paper.specs.Grammar.{value, items, more_items, object, members, member, more_members}
 use Rattle.paper.specs.Machine.{given, chosen, settled, move, step, complete}
-use Rattle.paper.specs.JsonRead.{Token, outer, token_of}
+use Rattle.paper.specs.JsonRead.{token_of}
 use Rattle.json_text.specs.declared.Ended.{Ended}
 use Rattle.json_text.specs.Left.{left, stops, reached, left_end, left-stops, left-byte, left-settled}
 use Rattle.json_text.specs.Bytes.{in-range, not_byte}

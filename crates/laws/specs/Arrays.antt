@@ -4,7 +4,7 @@ use Rattle.std.proofs.Common.{ap}
 use native.Mathlib.Omega.{arith}
 use Rattle.std.proofs.Math.ListN.{get_or}
 use Rattle.paper.specs.declared.Cell.TheVariants.{Empty}
-use Rattle.paper.specs.Axes.{cells, inside, offset, ordinality, Array, cell_no, at}
+use Rattle.paper.specs.Axes.{inside, offset, ordinality, Array, cell_no, at}
 use Rattle.laws.specs.Places.{Inside, true-inside}
 
 module _ (A : Array) where

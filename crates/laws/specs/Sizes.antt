@@ -1,5 +1,5 @@
 -- What laws and loops need of a version's sizes: how they hang together, and that there is room for them.
-use Rattle.std.specs.Prelude.{ℕ, ◌+◌, ◌*◌, ◌≤◌, ◌≡◌, refl}
+use Rattle.std.specs.Prelude.{◌+◌, ◌*◌, ◌≤◌, ◌≡◌, refl}
 use Rattle.std.proofs.Common.{arith}
 use Rattle.paper.specs.declared.Version.{Version}
 use Rattle.paper.specs.declared.Version.TheVariants.{One, Two}

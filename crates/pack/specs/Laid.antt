@@ -17,7 +17,7 @@ use Rattle.paper.specs.declared.Form.{Form}
 use Rattle.paper.specs.Limits.{most_arrays, most_axes, most_cells, half_name, limits_bytes, type_bytes, cell_bytes}
 use Rattle.paper.specs.Refusals.{got, refused, ◌>>◌, if◌then◌else◌, refusal, ensure, between, bad_bytes1, small_output14}
 use Rattle.paper.specs.Numbers.{concat, none?}
-use Rattle.paper.specs.Axes.{cells, good_extent, axis_within, within, Shape, Array}
+use Rattle.paper.specs.Axes.{good_extent, axis_within, within, Shape, Array}
 use Rattle.paper.specs.Cells.{is_type, cell_of, cells_bytes}
 use Rattle.paper.specs.Bundle.{mark, names_fit, array_of, pack_array, axes_bytes, array_bytes, bundle_bytes, pack_arrays, packed}
 use Rattle.paper.specs.Answers.{axes_of, shape_of}

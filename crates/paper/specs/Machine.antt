@@ -1,8 +1,8 @@
 -- The grammar read byte by byte: the parts still to come, and where a text stops being the beginning of an object.
-use Rattle.std.specs.Prelude.{ℕ, ◌+◌, Bool, true, false, ◌&&◌, not, List, [], ◌∷◌, ◌++◌}
+use Rattle.std.specs.Prelude.{ℕ, ◌+◌, Bool, true, false, List, [], ◌∷◌, ◌++◌}
 use Rattle.std.proofs.Math.Option.{Option, none, some, map}
 use Rattle.paper.specs.Refusals.{if◌then◌else◌}
-use Rattle.paper.specs.Grammar.{Part, Rule, Bytes, among, blank, optional, rules, start}
+use Rattle.paper.specs.Grammar.{Part, Rule, among, blank, optional, rules, start}
 
 -- what is made of something that may not be there
 abbrev pub given : {A B : Type 0} → Option A → B → (A → B) → B

@@ -1,5 +1,5 @@
 -- JSON's grammar as RFC 8259 prints it, and UTF-8's as RFC 3629 does. `X a r` says: the text a is an X and then the text r.
-use Rattle.std.specs.Prelude.{ℕ, zero, suc, ◌≡◌, true, List, [], ◌∷◌, ◌++◌}
+use Rattle.std.specs.Prelude.{ℕ, suc, ◌≡◌, true, List, [], ◌∷◌, ◌++◌}
 use Rattle.paper.specs.Numbers.{text}
 use Rattle.paper.specs.Grammar.{Bytes, among, range, these, blank, digit, hex_digit, plain, further, levels_inside}
 

@@ -1,11 +1,10 @@
 -- Paper 02, request [5], "Read what agencies send back": the report's examples and both sides of each line that the request draws,
 -- computed from the definitions as one table under one claim.
-use Rattle.std.specs.Prelude.{ℕ, ◌*◌, ◌≡◌, refl, Bool, true, false, List, [], ◌∷◌, ◌++◌, map, ℤ, pos, negsuc, length, replicate}
+use Rattle.std.specs.Prelude.{ℕ, ◌≡◌, refl, Bool, true, false, List, [], ◌∷◌, ◌++◌, map, pos, replicate}
 use Prim.Native.String.{String}
 use Rattle.paper.specs.declared.Cell.{Cell}
 use Rattle.paper.specs.declared.Cell.TheVariants.{Empty, Int, Truth}
-use Rattle.paper.specs.Limits.{INT, FLOAT, BOOLEAN, smallest_int, largest_int}
-use Rattle.paper.specs.Refusals.{Res}
+use Rattle.paper.specs.Limits.{INT, FLOAT, BOOLEAN, smallest_int}
 use Rattle.paper.specs.Numbers.{text, concat, same}
 use Rattle.paper.specs.Cells.{cells_bytes}
 use Rattle.paper.specs.Bundle.{After}

@@ -1,11 +1,11 @@
 -- Paper 02, request [6], "Longer names, six axes": both sides of each line that it draws, computed from the definitions as one table
 -- under one claim.
-use Rattle.std.specs.Prelude.{ℕ, ◌*◌, ◌≡◌, refl, Bool, true, List, [], ◌∷◌, ◌++◌, map, length, take, drop, replicate, ℤ, pos}
+use Rattle.std.specs.Prelude.{ℕ, ◌≡◌, refl, Bool, true, List, [], ◌∷◌, ◌++◌, map, length, take, drop, replicate, ℤ, pos}
 use Rattle.paper.specs.declared.Sizes.{Sizes}
 use Rattle.paper.specs.declared.Cell.{Cell}
-use Rattle.paper.specs.declared.Cell.TheVariants.{Int, Truth}
-use Rattle.paper.specs.Limits.{INT, BOOLEAN, version1, version2}
-use Rattle.paper.specs.Refusals.{Res, got, ◌>>=◌}
+use Rattle.paper.specs.declared.Cell.TheVariants.{Int}
+use Rattle.paper.specs.Limits.{INT, version1, version2}
+use Rattle.paper.specs.Refusals.{got, ◌>>=◌}
 use Rattle.paper.specs.Numbers.{le_bytes, text, distance, position_bytes, same, concat}
 use Rattle.paper.specs.Axes.{letters_of, Array}
 use Rattle.paper.specs.Cells.{encode, cells_bytes}
@@ -14,7 +14,7 @@ use Rattle.paper.specs.Reference.{reference}
 use Rattle.paper.specs.Listing.{plan, run, page}
 use Rattle.paper.specs.Stretch.{Side, stretch}
 use Rattle.paper.specs.Rests.{rests}
-use Rattle.paper.specs.Written.{all, Given, axis, named, axes_in, array, ints, counted, step_for, numbers, said, one, is, paged}
+use Rattle.paper.specs.Written.{all, Given, axis, array, counted, step_for, said, one, is}
 use Rattle.paper.specs.Opened.{opened}
 
 -- ---- arrays

@@ -1,6 +1,6 @@
 -- Paper 02, request [3], "Which axis doesn't match?": each figure that each operation can give, and both sides of each line that it draws,
 -- computed from the definitions as one table under one claim.
-use Rattle.std.specs.Prelude.{ℕ, ◌*◌, ◌≡◌, refl, Bool, true, List, [], ◌∷◌, ◌++◌, map, eqb, replicate, pos}
+use Rattle.std.specs.Prelude.{ℕ, ◌*◌, ◌≡◌, refl, Bool, true, List, [], ◌∷◌, map, eqb, replicate, pos}
 use Rattle.paper.specs.declared.Operation.{Operation}
 use Rattle.paper.specs.declared.Operation.TheVariants.{Moves, Works}
 use Rattle.paper.specs.declared.Move.TheVariants.{Update, Put, Glue}

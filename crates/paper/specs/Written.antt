@@ -12,11 +12,10 @@ use Rattle.paper.specs.declared.Cell.TheVariants.{Int}
 use Rattle.paper.specs.declared.Answer.{Answer}
 use Rattle.paper.specs.declared.Answer.TheVariants.{Is, Refused}
 use Rattle.paper.specs.declared.Totalled.{Totalled}
-use Rattle.paper.specs.declared.Totalled.TheVariants as Totalled
 use Rattle.paper.specs.declared.Listed.{Listed}
 use Rattle.paper.specs.Limits.{limit_bytes, version1}
 use Rattle.paper.specs.Refusals.{Res, got, refused}
-use Rattle.paper.specs.Numbers.{le_of, le_bytes, text, distance, from}
+use Rattle.paper.specs.Numbers.{le_bytes, text, distance, from}
 use Rattle.paper.specs.Axes.{limited, Array, shaped, result}
 use Rattle.paper.specs.Bundle.{name_from, bundle_bytes}
 use Rattle.paper.specs.Cells.{encode}

@@ -2,7 +2,7 @@
 use Prim.Native.Nat.{ℕ, zero, suc, ◌+◌, ◌-◌, ◌≤◌, ◌<◌}
 use Rattle.std.specs.Prelude.{◌≡◌, Bool, List, [], ◌∷◌, ◌++◌, map, eqb, length, get_or, set, replicate}
 use Rattle.std.proofs.Math.Path.{refl, ap}
-use Rattle.std.proofs.Common.{sym, subst, ◌∙◌, length-set, length-append, get_or-set_same, get_or-set_other}
+use Rattle.std.proofs.Common.{sym, subst, ◌∙◌, length-set, get_or-set_same, get_or-set_other}
 use Rattle.std.proofs.Math.Bool.{true, false}
 use Rattle.std.proofs.Math.Option
 use Rattle.std.proofs.Math.Option.{Option, none, some}
@@ -18,7 +18,7 @@ use Rattle.paper.specs.Axes.{cells, Shape}
 use Rattle.paper.specs.Recipe.{operand, no_shape}
 use Rattle.paper.specs.Answers.{axes_of, shape_of}
 use Rattle.laws.specs.Answers.{no_head, extent-axes, form-shape}
-use Rattle.laws.specs.Lists.{nth_past, nth-mapped, nth_last, nth-others}
+use Rattle.laws.specs.Lists.{nth-mapped, nth_last, nth-others}
 use Rattle.extent.specs.Judged.{Small}
 use Rattle.quick.specs.Operands.{bundle_side, work_side}
 use Rattle.recipe.specs.declared.Operand.{Operand}

@@ -20,7 +20,7 @@ use Rattle.paper.specs.declared.Move.TheVariants.{Trim, Slice, Reshape, Shift, R
 use Rattle.paper.specs.Limits.{head_bytes, limit_bytes, pair_bytes, scalar_at, word_bytes, sizes_of}
 use Rattle.paper.specs.Refusals.{Res, got, refused, if◌then◌else◌, refusal, unknown4, bad_result9}
 use Rattle.paper.specs.Numbers.{part, none?, signed_at, position_at, moved}
-use Rattle.paper.specs.Axes.{width, cells, limited, axis_at, Shape, result}
+use Rattle.paper.specs.Axes.{width, cells, limited, axis_at, Shape}
 use Rattle.paper.specs.Recipe.{Step, Planned, operation, step_of, operand, no_shape, uses, axis_in, glued, result_names, result_axes, result_of, good_result, step_tests, step_result, step_over, plan_step}
 use Rattle.paper.specs.Answers.{axes_of, names_for, shape_of, unless}
 use Rattle.laws.specs.Sizes.{fits}

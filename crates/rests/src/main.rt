@@ -2,10 +2,13 @@
 // folder and prints the text that `report` makes of them. A missing file counts as empty. It is run here on that paper's example.
 #![tactic(auto)]
 
-ghost use Rattle.io.specs.Counts.{IsPrefixLen};
+ghost use Rattle.std.specs.Io.{ReadsAtMost};
 
-use libc::STDOUT_FILENO;
 use paper::{FILE_BYTES, LIMIT_BYTES};
+use std::fs::File;
+use std::io;
+use std::io::Read;
+use std::rt::Files;
 
 // The bytes of a file at most, and one byte more, by which a longer file is seen.
 const FILE: usize = FILE_BYTES + 1;
@@ -15,32 +18,44 @@ const ROWS: usize = 4096 * (LIMIT_BYTES + LIMIT_BYTES * paper::AXES);
 
 const TEXT: usize = 634908;
 
-// Reads the file into `buf`, as far as it goes; answers how many bytes.
-fn read_file(path: &[u8], buf: &mut [u8]) -> usize
-    ensures { IsPrefixLen result buf.new }
+// Reads until `buf` is full or the file ends; answers how many bytes.
+fn read_full(file: &mut impl Read, buf: &mut [u8]) -> io::Result<usize>
+    ensures { ReadsAtMost result buf.new }
 {
-    let fd = os::open_read(path);
-    if fd < 0 {
-        return 0;
+    let mut n: usize = 0;
+    while n < buf.len() {
+        let more = file.read(&mut buf[n..])?;
+        if more == 0 {
+            break;
+        }
+        n += more;
     }
-    let n = io::read_full(fd, buf);
-    libc::close(fd);
-    n
+    Ok(n)
+}
+
+// Reads the file into `buf`, as far as it goes; answers how many bytes. One that does not open has none.
+fn read_file(rt: &impl Files, path: &str, buf: &mut [u8]) -> io::Result<usize>
+    ensures { ReadsAtMost result buf.new }
+{
+    match File::open(rt, path) {
+        Ok(mut file) => read_full(&mut file, buf),
+        Err(_) => Ok(0),
+    }
 }
 
 // Prints the text of a bundle and a recipe.
-fn print_text(roster: &[u8], recipe: &[u8]) {
+fn print_text(rt: &impl Print, roster: &[u8], recipe: &[u8]) -> io::Result<()> {
     let mut work = [0u8; FILE_BYTES];
     let mut rows = [0u8; ROWS];
     let mut out = [0u8; TEXT];
     let n = report::report(roster, recipe, &mut work, &mut rows, &mut out);
-    io::write_all(STDOUT_FILENO, &out[..n]);
+    rt.write_all(&out[..n])
 }
 
-fn main() {
+fn main(rt: HostRuntime) -> io::Result<()> {
     let mut roster = [0u8; FILE];
     let mut recipe = [0u8; FILE];
-    let n = read_file(b"roster.rma", &mut roster);
-    let m = read_file(b"recipe.bin", &mut recipe);
-    print_text(&roster[..n], &recipe[..m]);
+    let n = read_file(&rt, "roster.rma", &mut roster)?;
+    let m = read_file(&rt, "recipe.bin", &mut recipe)?;
+    print_text(&rt, &roster[..n], &recipe[..m])
 }

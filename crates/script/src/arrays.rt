@@ -11,6 +11,7 @@ use paper::{
     TotalAnswer, Totalled, Version, WalkAnswer,
 };
 use refer::choose;
+use std::io;
 
 // The bytes of a JSON text and of a coordinate at most: of one position more than there may be.
 const TEXT: usize = 64;
@@ -20,12 +21,12 @@ const COORDINATE: usize = 28;
 // ---- numbers
 
 // The number that was asked for; or 0, and the refusal is printed.
-pub fn number_of(answer: NumberAnswer) -> u32 {
+pub fn number_of(rt: &impl Print, answer: NumberAnswer) -> io::Result<u32> {
     match answer {
-        NumberAnswer::Got(n) => n,
+        NumberAnswer::Got(n) => Ok(n),
         NumberAnswer::Refused(r) => {
-            say_refusal(r);
-            0
+            say_refusal(rt, r)?;
+            Ok(0)
         }
     }
 }
@@ -33,14 +34,13 @@ pub fn number_of(answer: NumberAnswer) -> u32 {
 // ---- arrays
 
 // How many there are.
-fn show_read(bundle: &[u8]) {
+fn show_read(rt: &impl Print, bundle: &[u8]) -> io::Result<()> {
     let reading = bundle::read(bundle);
     if reading.refusal.number != 0 {
-        say_refusal(reading.refusal);
-        return;
+        return say_refusal(rt, reading.refusal);
     }
-    say_count(b"arrays ", reading.count as u64);
-    say_byte(b'\n');
+    say_count(rt, b"arrays ", reading.count as u64)?;
+    say_byte(rt, b'\n')
 }
 
 // The version of a bundle.
@@ -59,102 +59,105 @@ fn axes_at(v: Version, head: Head) -> usize {
 }
 
 // Array k: its extent and its cells.
-fn show_array(bundle: &[u8], k: u32) {
+fn show_array(rt: &impl Print, bundle: &[u8], k: u32) -> io::Result<()> {
     let v = version_of(bundle);
     let chosen = choose(bundle, k);
     let head = chosen.head;
     let at = head.at;
     say_axes(
+        rt,
         bundle,
         axes_at(v, head),
         extent::rank_of(head.form.extent),
         v,
         LIMITS,
-    );
+    )?;
     if at <= bundle.len() {
-        say_cells(head.form.kind, &bundle[at..], 0, head.cells);
+        say_cells(rt, head.form.kind, &bundle[at..], 0, head.cells)?;
     }
+    Ok(())
 }
 
 // Its extent, or its maximum: the limits that are so many bytes after an axis's name.
-fn show_limits(bundle: &[u8], k: u32, limits: usize) {
+fn show_limits(rt: &impl Print, bundle: &[u8], k: u32, limits: usize) -> io::Result<()> {
     let v = version_of(bundle);
     let chosen = choose(bundle, k);
     let head = chosen.head;
     say_axes(
+        rt,
         bundle,
         axes_at(v, head),
         extent::rank_of(head.form.extent),
         v,
         limits,
-    );
-    say_byte(b'\n');
+    )?;
+    say_byte(rt, b'\n')
 }
 
-fn show_reference(bundle: &[u8], k: u32, coordinate: &[u8]) {
+fn show_reference(rt: &impl Print, bundle: &[u8], k: u32, coordinate: &[u8]) -> io::Result<()> {
     let answer = c_asked::refer_bytes(bundle, k, coordinate);
     match answer {
         ReferenceAnswer::Got(c) => {
-            say_cell(c);
-            say_byte(b'\n');
+            say_cell(rt, c)?;
+            say_byte(rt, b'\n')
         }
-        ReferenceAnswer::Refused(r) => say_refusal(r),
+        ReferenceAnswer::Refused(r) => say_refusal(rt, r),
     }
 }
 
-fn show_totalled(t: Totalled) {
+fn show_totalled(rt: &impl Print, t: Totalled) -> io::Result<()> {
     match t {
-        Totalled::Count(n) => say_number(n as u64),
-        Totalled::Is(c) => say_cell(c),
+        Totalled::Count(n) => say_number(rt, n as u64)?,
+        Totalled::Is(c) => say_cell(rt, c)?,
     }
-    say_byte(b'\n');
+    say_byte(rt, b'\n')
 }
 
-fn show_total(bundle: &[u8], k: u32, which: u32) {
+fn show_total(rt: &impl Print, bundle: &[u8], k: u32, which: u32) -> io::Result<()> {
     let answer = c_asked::total_asked(bundle, k, which);
     match answer {
-        TotalAnswer::Got(t) => show_totalled(t),
-        TotalAnswer::Refused(r) => say_refusal(r),
+        TotalAnswer::Got(t) => show_totalled(rt, t),
+        TotalAnswer::Refused(r) => say_refusal(rt, r),
     }
 }
 
-fn show_seen(seen: Seen) {
+fn show_seen(rt: &impl Print, seen: Seen) -> io::Result<()> {
     match seen {
-        Seen::Held(c) => say_cell(c),
-        Seen::End => say_byte(b'.'),
+        Seen::Held(c) => say_cell(rt, c)?,
+        Seen::End => say_byte(rt, b'.')?,
     }
-    say_byte(b' ');
+    say_byte(rt, b' ')
 }
 
 // What a walk sees at a place, and the place after it.
-fn show_walk_step(bundle: &[u8], k: u32, place: u32) -> u32 {
+fn show_walk_step(rt: &impl Print, bundle: &[u8], k: u32, place: u32) -> io::Result<u32> {
     let step = refer::walk_step(bundle, k, Ordinality(place));
     let answer = step.answer;
     match answer {
-        WalkAnswer::Got(seen) => show_seen(seen),
-        WalkAnswer::Refused(r) => say_refusal(r),
+        WalkAnswer::Got(seen) => show_seen(rt, seen)?,
+        WalkAnswer::Refused(r) => say_refusal(rt, r)?,
     }
     let next = step.place;
-    next.0
+    Ok(next.0)
 }
 
 // So many steps of a walk from the first cell on.
-fn show_walk(bundle: &[u8], k: u32, n: u32) {
+fn show_walk(rt: &impl Print, bundle: &[u8], k: u32, n: u32) -> io::Result<()> {
     let mut place: u32 = 1;
     let mut i: u32 = 0;
     while i < n {
-        place = show_walk_step(bundle, k, place);
+        place = show_walk_step(rt, bundle, k, place)?;
         i += 1;
     }
-    say_byte(b'\n');
+    say_byte(rt, b'\n')
 }
 
 // Array k as JSON, as the call answers it and leaves the buffer. Dots are bytes not written to.
-fn show_json(bundle: &[u8], k: u32, out: &mut [u8]) {
+fn show_json(rt: &impl Print, bundle: &[u8], k: u32, out: &mut [u8]) -> io::Result<()> {
     let answer = json_write::write(bundle, k, out);
-    say_some(b"", number_of(answer), b"\n");
-    say(out);
-    say_byte(b'\n');
+    say_some(rt, b"", number_of(rt, answer)?, b"\n")?;
+    say(rt, out)?;
+    say_byte(rt, b'\n')
 }
 
 // ---- glued arrays
@@ -172,17 +175,18 @@ fn cells_of(bundle: &[u8], head: Head) -> &[u8] {
 }
 
 // The refusal beside a part, if there is one.
-fn say_said(number: u32, place: u32, ordinality: u32) {
+fn say_said(rt: &impl Print, number: u32, place: u32, ordinality: u32) -> io::Result<()> {
     if number != 0 {
-        say_count(b"refused ", number as u64);
-        say_count(b" ", place as u64);
-        say_count(b" ", ordinality as u64);
-        say_byte(b'\n');
+        say_count(rt, b"refused ", number as u64)?;
+        say_count(rt, b" ", place as u64)?;
+        say_count(rt, b" ", ordinality as u64)?;
+        say_byte(rt, b'\n')?;
     }
+    Ok(())
 }
 
 // The cells from ordinality o on of arrays 1 and 2 glued on an axis, up to where the other begins, in the version told.
-fn show_glued(version: u32, bundle: &[u8], axis: u32, o: u32) {
+fn show_glued(rt: &impl Print, version: u32, bundle: &[u8], axis: u32, o: u32) -> io::Result<()> {
     let left = choose(bundle, 1);
     let right = choose(bundle, 2);
     let a = left.head;
@@ -204,43 +208,50 @@ fn show_glued(version: u32, bundle: &[u8], axis: u32, o: u32) {
         Ordinality(o),
         &mut said,
     );
-    say_cells(a.form.kind, part, 0, part.len() / CELL_BYTES);
-    say_said(said[0], said[1], said[2]);
+    say_cells(rt, a.form.kind, part, 0, part.len() / CELL_BYTES)?;
+    say_said(rt, said[0], said[1], said[2])
 }
 
 // ---- a question
 
-fn ask_find(bundle: &[u8], n: usize, args: &[u64; ARGS], kinds: &[u8; ARGS]) {
+fn ask_find(
+    rt: &impl Print,
+    bundle: &[u8],
+    n: usize,
+    args: &[u64; ARGS],
+    kinds: &[u8; ARGS],
+) -> io::Result<()> {
     let mut coordinate = [0u8; COORDINATE];
     let end = put_numbers(args, kinds, 2, n, HALF_NAME, &mut coordinate, 0);
-    show_reference(bundle, arg32(args, 1), first(&coordinate, end));
+    show_reference(rt, bundle, arg32(args, 1), first(&coordinate, end))
 }
 
-fn ask_json(bundle: &[u8], args: &[u64; ARGS]) {
+fn ask_json(rt: &impl Print, bundle: &[u8], args: &[u64; ARGS]) -> io::Result<()> {
     let mut out = [b'.'; TEXT];
     let room = arg_length(args, 2, TEXT);
-    show_json(bundle, arg32(args, 1), first_lent(&mut out, room));
+    show_json(rt, bundle, arg32(args, 1), first_lent(&mut out, room))
 }
 
 // A command of the script that asks about the bundle's arrays, by its first letter; a stretch is told the version.
 pub fn ask_array(
+    rt: &impl Print,
     command: u8,
     version: u32,
     bundle: &[u8],
     n: usize,
     args: &[u64; ARGS],
     kinds: &[u8; ARGS],
-) {
+) -> io::Result<()> {
     match command {
-        b'o' => show_read(bundle),
-        b'l' => show_array(bundle, arg32(args, 1)),
-        b'e' => show_limits(bundle, arg32(args, 1), LIMITS),
-        b'm' => show_limits(bundle, arg32(args, 1), MAXIMUM),
-        b'f' => ask_find(bundle, n, args, kinds),
-        b'w' => show_walk(bundle, arg32(args, 1), arg32(args, 2)),
-        b't' => show_total(bundle, arg32(args, 1), arg32(args, 2)),
-        b'j' => ask_json(bundle, args),
-        b'g' => show_glued(version, bundle, arg32(args, 1), arg32(args, 2)),
-        _ => (),
+        b'o' => show_read(rt, bundle),
+        b'l' => show_array(rt, bundle, arg32(args, 1)),
+        b'e' => show_limits(rt, bundle, arg32(args, 1), LIMITS),
+        b'm' => show_limits(rt, bundle, arg32(args, 1), MAXIMUM),
+        b'f' => ask_find(rt, bundle, n, args, kinds),
+        b'w' => show_walk(rt, bundle, arg32(args, 1), arg32(args, 2)),
+        b't' => show_total(rt, bundle, arg32(args, 1), arg32(args, 2)),
+        b'j' => ask_json(rt, bundle, args),
+        b'g' => show_glued(rt, version, bundle, arg32(args, 1), arg32(args, 2)),
+        _ => Ok(()),
     }
 }

@@ -11,12 +11,19 @@ use crate::parts::{first, first_lent};
 use crate::say::say_some;
 use c_asked::forms_in;
 use paper::Version;
+use std::io;
 
 // The arrays packed in the version told, into so many bytes: the bundle's length, or 0, and the refusal is printed.
-fn packed(version: u32, heads: &[u8], cells: &[u8], out: &mut [u8]) -> u32 {
+fn packed(
+    rt: &impl Print,
+    version: u32,
+    heads: &[u8],
+    cells: &[u8],
+    out: &mut [u8],
+) -> io::Result<u32> {
     let told = forms_in(Version::Two, heads);
     let forms = told.forms;
-    number_of(pack::pack(version, told.count, forms, cells, out))
+    number_of(rt, pack::pack(version, told.count, forms, cells, out))
 }
 
 // The second word as a length, or all that there is.
@@ -31,32 +38,35 @@ fn room_asked(n: usize, args: &[u64; ARGS], most: usize) -> usize
 
 // bundle [BYTES]
 fn make_bundle(
+    rt: &impl Print,
     desk: Desk,
     n: usize,
     args: &[u64; ARGS],
     heads: &[u8],
     cells: &[u8],
     bundle: &mut [u8],
-) -> Desk {
+) -> io::Result<Desk> {
     if heads.len() / WHOLE_HEAD < desk.heads {
-        return desk;
+        return Ok(desk);
     }
     let room = room_asked(n, args, bundle.len());
     let length = packed(
+        rt,
         desk.version,
         first(heads, desk.heads * WHOLE_HEAD),
         first(cells, desk.cells),
         first_lent(bundle, room),
-    );
+    )?;
     if 1 < n {
-        say_some(b"bytes ", length, b"\n");
-        return bundled(desk, room);
+        say_some(rt, b"bytes ", length, b"\n")?;
+        return Ok(bundled(desk, room));
     }
-    bundled(desk, length as usize)
+    Ok(bundled(desk, length as usize))
 }
 
 // The desk after a command, told by its first letter; one that puts nothing there leaves it.
 pub fn make(
+    rt: &impl Print,
     command: u8,
     desk: Desk,
     n: usize,
@@ -66,20 +76,20 @@ pub fn make(
     cells: &mut [u8],
     steps: &mut [u8],
     bundle: &mut [u8],
-) -> Desk {
+) -> io::Result<Desk> {
     match command {
-        b'n' => blank(),
-        b'd' => declared(desk, arg32(args, 1)),
-        b'a' => add_array(desk, n, args, kinds, heads),
-        b'c' => add_cells(desk, n, args, kinds, cells),
-        b'b' => make_bundle(desk, n, args, heads, cells, bundle),
-        b'z' => zeros(desk, args, bundle),
+        b'n' => Ok(blank()),
+        b'd' => Ok(declared(desk, arg32(args, 1))),
+        b'a' => Ok(add_array(desk, n, args, kinds, heads)),
+        b'c' => Ok(add_cells(desk, n, args, kinds, cells)),
+        b'b' => make_bundle(rt, desk, n, args, heads, cells, bundle),
+        b'z' => Ok(zeros(desk, args, bundle)),
         b'i' => {
             insert(n, args, kinds, bundle);
-            desk
+            Ok(desk)
         }
-        b'r' => erased(desk),
-        b's' => add_step(desk, n, args, kinds, steps),
-        _ => desk,
+        b'r' => Ok(erased(desk)),
+        b's' => Ok(add_step(desk, n, args, kinds, steps)),
+        _ => Ok(desk),
     }
 }

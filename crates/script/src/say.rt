@@ -3,8 +3,8 @@ ghost use Rattle.std.specs.Prelude.{◌≤◌};
 
 use crate::line::at_most;
 use cell::bytes::{Got, half, read_cell, word_of};
-use libc::STDOUT_FILENO;
 use paper::{CELL_BYTES, Cell, HALF_NAME, LIMIT_BYTES, PAIR_BYTES, Refusal, Version};
+use std::io;
 use versions::sizes;
 
 // Where an axis has its limits and its maximum's, in bytes after its name.
@@ -15,152 +15,162 @@ pub const MAXIMUM: usize = PAIR_BYTES;
 // The bytes of an axis or its name at most, in any version.
 const WIDEST: usize = 32;
 
-pub fn say(text: &[u8]) {
-    io::write_all(STDOUT_FILENO, text);
+pub fn say(rt: &impl Print, text: &[u8]) -> io::Result<()> {
+    rt.write_all(text)
 }
 
-pub fn say_number(n: u64) {
-    io::print_decimal(STDOUT_FILENO, n);
+pub fn say_number(rt: &impl Print, n: u64) -> io::Result<()> {
+    rt.print(n)
 }
 
-pub fn say_byte(b: u8) {
+pub fn say_byte(rt: &impl Print, b: u8) -> io::Result<()> {
     let byte = [b];
-    say(&byte);
+    say(rt, &byte)
 }
 
 // A word and a number.
-pub fn say_count(word: &[u8], n: u64) {
-    say(word);
-    say_number(n);
+pub fn say_count(rt: &impl Print, word: &[u8], n: u64) -> io::Result<()> {
+    say(rt, word)?;
+    say_number(rt, n)
 }
 
 // A number that is not 0, between two words.
-pub fn say_some(before: &[u8], n: u32, after: &[u8]) {
+pub fn say_some(rt: &impl Print, before: &[u8], n: u32, after: &[u8]) -> io::Result<()> {
     if n != 0 {
-        say_count(before, n as u64);
-        say(after);
+        say_count(rt, before, n as u64)?;
+        say(rt, after)?;
     }
+    Ok(())
 }
 
-pub fn say_refusal(r: Refusal) {
-    say_count(b"refused ", r.number as u64);
-    say_count(b" ", r.place as u64);
-    say_count(b" ", r.ordinality as u64);
-    say_byte(b'\n');
+pub fn say_refusal(rt: &impl Print, r: Refusal) -> io::Result<()> {
+    say_count(rt, b"refused ", r.number as u64)?;
+    say_count(rt, b" ", r.place as u64)?;
+    say_count(rt, b" ", r.ordinality as u64)?;
+    say_byte(rt, b'\n')
 }
 
 // A signed number from its 64 bits, or from its 32.
-fn say_int(bits: u64) {
+fn say_int(rt: &impl Print, bits: u64) -> io::Result<()> {
     if bits < 0x8000_0000_0000_0000 {
-        say_number(bits);
+        say_number(rt, bits)
     } else {
-        say_byte(b'-');
-        say_number(0xffff_ffff_ffff_ffff - bits + 1);
+        say_byte(rt, b'-')?;
+        say_number(rt, 0xffff_ffff_ffff_ffff - bits + 1)
     }
 }
 
-pub fn say_signed(bits: u32) {
+pub fn say_signed(rt: &impl Print, bits: u32) -> io::Result<()> {
     if bits < 0x8000_0000 {
-        say_number(bits as u64);
+        say_number(rt, bits as u64)
     } else {
-        say_byte(b'-');
-        say_number(0x1_0000_0000 - bits as u64);
+        say_byte(rt, b'-')?;
+        say_number(rt, 0x1_0000_0000 - bits as u64)
     }
 }
 
 // ---- cells
 
-fn say_truth(t: bool) {
+fn say_truth(rt: &impl Print, t: bool) -> io::Result<()> {
     if t {
-        say(b"TRUE");
+        say(rt, b"TRUE")
     } else {
-        say(b"FALSE");
+        say(rt, b"FALSE")
     }
 }
 
 // A FLOAT is printed as the 16 digits of its bits.
-pub fn say_cell(c: Cell) {
+pub fn say_cell(rt: &impl Print, c: Cell) -> io::Result<()> {
     match c {
-        Cell::Empty => say(b"empty"),
-        Cell::Int(_) => say_int(word_of(c)),
-        Cell::Float(_) => {
-            io::print_hex(STDOUT_FILENO, word_of(c), 16);
-        }
-        Cell::Truth(t) => say_truth(t),
+        Cell::Empty => say(rt, b"empty"),
+        Cell::Int(_) => say_int(rt, word_of(c)),
+        Cell::Float(_) => print!(rt; "{:016x}", word_of(c)),
+        Cell::Truth(t) => say_truth(rt, t),
     }
 }
 
 // The k-th cell, from 0.
-fn say_one(kind: u8, cells: &[u8], k: usize) {
+fn say_one(rt: &impl Print, kind: u8, cells: &[u8], k: usize) -> io::Result<()> {
     if k < cells.len() / CELL_BYTES {
         match read_cell(cells, k * CELL_BYTES, kind) {
             Got::Is(c) => {
-                say_byte(b' ');
-                say_cell(c);
+                say_byte(rt, b' ')?;
+                say_cell(rt, c)?;
             }
-            Got::Bad => say(b" bad"),
+            Got::Bad => say(rt, b" bad")?,
         }
     }
+    Ok(())
 }
 
 // Cells `from` up to `to`, counted from 0, and the end of the line.
-pub fn say_cells(kind: u8, cells: &[u8], from: usize, to: usize) {
+pub fn say_cells(
+    rt: &impl Print,
+    kind: u8,
+    cells: &[u8],
+    from: usize,
+    to: usize,
+) -> io::Result<()> {
     let mut k = from;
     while k < to {
-        say_one(kind, cells, k);
+        say_one(rt, kind, cells, k)?;
         k += 1;
     }
-    say_byte(b'\n');
+    say_byte(rt, b'\n')
 }
 
 // ---- extents, from the bytes of axes
 
 // A letter of a name, unless it is padding.
-fn say_letter(s: &[u8], i: usize) {
+fn say_letter(rt: &impl Print, s: &[u8], i: usize) -> io::Result<()> {
     if i < s.len() {
         let letter = s[i];
         if letter != 0 {
-            say_byte(letter);
+            say_byte(rt, letter)?;
         }
     }
+    Ok(())
 }
 
 // The eight letters of half a name.
-fn say_half(s: &[u8], at: usize) {
+fn say_half(rt: &impl Print, s: &[u8], at: usize) -> io::Result<()> {
     if at < 0x1_0000_0000 {
-        say_letter(s, at);
-        say_letter(s, at + 1);
-        say_letter(s, at + 2);
-        say_letter(s, at + 3);
-        say_letter(s, at + 4);
-        say_letter(s, at + 5);
-        say_letter(s, at + 6);
-        say_letter(s, at + 7);
+        say_letter(rt, s, at)?;
+        say_letter(rt, s, at + 1)?;
+        say_letter(rt, s, at + 2)?;
+        say_letter(rt, s, at + 3)?;
+        say_letter(rt, s, at + 4)?;
+        say_letter(rt, s, at + 5)?;
+        say_letter(rt, s, at + 6)?;
+        say_letter(rt, s, at + 7)?;
     }
+    Ok(())
 }
 
 // A name of so many bytes.
-fn say_name(s: &[u8], at: usize, name: usize) {
-    say_byte(b' ');
-    say_half(s, at);
+fn say_name(rt: &impl Print, s: &[u8], at: usize, name: usize) -> io::Result<()> {
+    say_byte(rt, b' ')?;
+    say_half(rt, s, at)?;
     if HALF_NAME < name {
         if at < 0x1_0000_0000 {
-            say_half(s, at + HALF_NAME);
+            say_half(rt, s, at + HALF_NAME)?;
         }
     }
+    Ok(())
 }
 
 // Two limits of an axis.
-fn say_limits(s: &[u8], at: usize) {
+fn say_limits(rt: &impl Print, s: &[u8], at: usize) -> io::Result<()> {
     if at < s.len() {
         if 2 * LIMIT_BYTES <= s.len() - at {
-            say_byte(b'(');
-            say_signed(half(s, at));
-            say_byte(b':');
-            say_signed(half(s, at + LIMIT_BYTES));
-            say_byte(b')');
+            say_byte(rt, b'(')?;
+            say_signed(rt, half(s, at))?;
+            say_byte(rt, b':')?;
+            say_signed(rt, half(s, at + LIMIT_BYTES))?;
+            say_byte(rt, b')')?;
         }
     }
+    Ok(())
 }
 
 // The bytes of so many axes of a version, of at most six.
@@ -171,22 +181,38 @@ pub fn axes_bytes(v: Version, n: usize) -> usize
 }
 
 // The k-th axis, from 0, of those of a version that begin at byte `at`: its name, and the limits that are so many bytes after it.
-fn say_axis(s: &[u8], at: usize, k: usize, rank: usize, v: Version, limits: usize) {
+fn say_axis(
+    rt: &impl Print,
+    s: &[u8],
+    at: usize,
+    k: usize,
+    rank: usize,
+    v: Version,
+    limits: usize,
+) -> io::Result<()> {
     if k < rank {
         if at < 0x1_0000_0000 {
             let name = at_most(sizes(v).name, WIDEST);
             let here = at + axes_bytes(v, k);
-            say_name(s, here, name);
-            say_limits(s, here + name + at_most(limits, WIDEST));
+            say_name(rt, s, here, name)?;
+            say_limits(rt, s, here + name + at_most(limits, WIDEST))?;
         }
     }
+    Ok(())
 }
 
-pub fn say_axes(s: &[u8], at: usize, rank: usize, v: Version, limits: usize) {
-    say_axis(s, at, 0, rank, v, limits);
-    say_axis(s, at, 1, rank, v, limits);
-    say_axis(s, at, 2, rank, v, limits);
-    say_axis(s, at, 3, rank, v, limits);
-    say_axis(s, at, 4, rank, v, limits);
-    say_axis(s, at, 5, rank, v, limits);
+pub fn say_axes(
+    rt: &impl Print,
+    s: &[u8],
+    at: usize,
+    rank: usize,
+    v: Version,
+    limits: usize,
+) -> io::Result<()> {
+    say_axis(rt, s, at, 0, rank, v, limits)?;
+    say_axis(rt, s, at, 1, rank, v, limits)?;
+    say_axis(rt, s, at, 2, rank, v, limits)?;
+    say_axis(rt, s, at, 3, rank, v, limits)?;
+    say_axis(rt, s, at, 4, rank, v, limits)?;
+    say_axis(rt, s, at, 5, rank, v, limits)
 }

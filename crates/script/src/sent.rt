@@ -9,6 +9,7 @@ use crate::say::{say_byte, say_cells, say_count, say_refusal};
 use c_asked::side_form;
 use paper::{CELL_BYTES, Form, JsonAnswer, Version};
 use refer::choose;
+use std::io;
 
 // The bytes of a cell buffer and of a text that is written, at most.
 const BUFFER: usize = 90;
@@ -19,30 +20,36 @@ const TEXT: usize = 200;
 const UNTOUCHED: u8 = 7;
 
 // A refusal at a byte of the text.
-fn say_at(number: u64, place: usize) {
-    say_count(b" refused ", number);
-    say_count(b" 0 ", place as u64);
-    say_byte(b'\n');
+fn say_at(rt: &impl Print, number: u64, place: usize) -> io::Result<()> {
+    say_count(rt, b" refused ", number)?;
+    say_count(rt, b" 0 ", place as u64)?;
+    say_byte(rt, b'\n')
 }
 
 // What a cell buffer has after a text was read, or the refusal.
-fn show_answer(answer: JsonAnswer, kind: u8, cells: &[u8]) {
+fn show_answer(rt: &impl Print, answer: JsonAnswer, kind: u8, cells: &[u8]) -> io::Result<()> {
     match answer {
-        JsonAnswer::Got(_) => say_cells(kind, cells, 0, cells.len() / CELL_BYTES),
-        JsonAnswer::NotJson(place) => say_at(15, place),
-        JsonAnswer::Misfit(place) => say_at(16, place),
+        JsonAnswer::Got(_) => say_cells(rt, kind, cells, 0, cells.len() / CELL_BYTES),
+        JsonAnswer::NotJson(place) => say_at(rt, 15, place),
+        JsonAnswer::Misfit(place) => say_at(rt, 16, place),
         JsonAnswer::Refused(r) => {
-            say_byte(b' ');
-            say_refusal(r);
+            say_byte(rt, b' ')?;
+            say_refusal(rt, r)
         }
     }
 }
 
 // A text read into a cell buffer, as the call answers it and leaves the buffer.
-fn show_sent(version: u32, form: Form, text: &[u8], cells: &mut [u8]) {
+fn show_sent(
+    rt: &impl Print,
+    version: u32,
+    form: Form,
+    text: &[u8],
+    cells: &mut [u8],
+) -> io::Result<()> {
     let names = form.names;
     let answer = json_read::read(version, form.kind, names, form.extent, text, cells);
-    show_answer(answer, form.kind, cells);
+    show_answer(rt, answer, form.kind, cells)
 }
 
 // Behind the first blank of a line from a byte on; at its end where there is none.
@@ -63,27 +70,34 @@ fn past_blank(line: &[u8], from: usize) -> usize
 
 // hear BYTES TEXT: the text, all that stands behind the second blank, read in the version told into the cells of the first array that
 // the desk has a head of.
-pub fn hear(version: u32, heads: &[u8], line: &[u8], args: &[u64; ARGS]) {
+pub fn hear(
+    rt: &impl Print,
+    version: u32,
+    heads: &[u8],
+    line: &[u8],
+    args: &[u64; ARGS],
+) -> io::Result<()> {
     let form = side_form(Version::Two, first(heads, WHOLE_HEAD));
     let at = past_blank(line, past_blank(line, 0));
     let mut cells = [UNTOUCHED; BUFFER];
     let room = arg_length(args, 1, BUFFER);
-    show_sent(version, form, &line[at..], first_lent(&mut cells, room));
+    show_sent(rt, version, form, &line[at..], first_lent(&mut cells, room))
 }
 
 // keep ARRAY BYTES: an array of the bundle written as JSON, and the text read in the version told into an array of its type and extent.
-pub fn keep(version: u32, bundle: &[u8], args: &[u64; ARGS]) {
+pub fn keep(rt: &impl Print, version: u32, bundle: &[u8], args: &[u64; ARGS]) -> io::Result<()> {
     let k = arg32(args, 1);
     let mut out = [0u8; TEXT];
-    let n = number_of(json_write::write(bundle, k, &mut out));
+    let n = number_of(rt, json_write::write(bundle, k, &mut out))?;
     let chosen = choose(bundle, k);
     let head = chosen.head;
     let mut cells = [UNTOUCHED; BUFFER];
     let room = arg_length(args, 2, BUFFER);
     show_sent(
+        rt,
         version,
         head.form,
         first(&out, n as usize),
         first_lent(&mut cells, room),
-    );
+    )
 }

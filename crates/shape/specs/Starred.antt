@@ -1,6 +1,6 @@
 -- A step result's maximum, `*` for every limit: as many of the range as there are axes.
 use Rattle.std.specs.Prelude.{ℕ, suc, zero, ◌≤◌, ◌≡◌, refl, List, [], ◌∷◌, map, length, take, replicate}
-use Rattle.std.proofs.Common.{sym, ap, ◌∙◌, arith}
+use Rattle.std.proofs.Common.{ap, arith}
 use Rattle.paper.specs.declared.Axis.{Axis}
 use Rattle.paper.specs.declared.Extent.{Extent}
 use Rattle.paper.specs.Limits.{most_axes}

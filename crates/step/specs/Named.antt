@@ -1,5 +1,5 @@
 -- The names of a step's result: the first of an array with room for the most, and as many as the result has axes.
-use Rattle.std.specs.Prelude.{ℕ, suc, ◌+◌, ◌-◌, ◌*◌, ◌≤◌, ◌≡◌, refl, true, List, ◌∷◌, ◌++◌, length, take, drop}
+use Rattle.std.specs.Prelude.{ℕ, ◌+◌, ◌-◌, ◌*◌, ◌≤◌, ◌≡◌, true, List, ◌∷◌, length, take, drop}
 use Rattle.std.proofs.Common.{sym, ap, ◌∙◌, arith, length-append, length-take, length-drop, length-take-le}
 use Rattle.paper.specs.declared.Name.{Name}
 use Rattle.paper.specs.declared.Axis.{Axis}
@@ -9,7 +9,7 @@ use Rattle.paper.specs.declared.Operation.TheVariants.{Moves, Works}
 use Rattle.paper.specs.declared.Move.TheVariants.{Trim, Slice, Reshape, Shift, Rename, Update, Put, Glue}
 use Rattle.paper.specs.Limits.{pair_bytes, limit_bytes}
 use Rattle.paper.specs.Numbers.{part, signed_at, position_at, moved}
-use Rattle.paper.specs.Axes.{width, limited, axis_at, without}
+use Rattle.paper.specs.Axes.{width, limited, axis_at}
 use Rattle.paper.specs.Bundle.{name_from}
 use Rattle.paper.specs.Recipe.{Step, uses, axis_in, glued, renamed, result_names, result_axes}
 use Rattle.paper.specs.Answers.{axes_of, names_for}

@@ -4,7 +4,7 @@ use Rattle.std.proofs.Common.{sym, ◌∙◌, append-nil, append_assoc, arith, l
 use Rattle.std.proofs.Math.Path.{ap}
 use Rattle.std.specs.Float.Ieee as Ieee
 use Rattle.paper.specs.declared.Cell.{Cell}
-use Rattle.paper.specs.declared.Cell.TheVariants.{Empty, Float}
+use Rattle.paper.specs.declared.Cell.TheVariants.{Empty}
 use Rattle.paper.specs.Limits.{most_cells}
 use Rattle.paper.specs.Refusals.{Res, got, refused, ◌>>=◌, if◌then◌else◌, refusal, no_fit12}
 use Rattle.paper.specs.Operators.{empty_cell}

@@ -1,5 +1,5 @@
 -- `bundle::array_of` meets its contract: each way out by the law of its test.
-use Rattle.std.proofs.Common.{ℕ, ◌≡◌, List, rules}
+use Rattle.std.proofs.Common.{ℕ, ◌≡◌, List}
 use Rattle.paper.specs.declared.Form.{Form}
 use Rattle.paper.specs.Answers.{shape_of}
 use Rattle.extent.specs.Judged.{cells_within}

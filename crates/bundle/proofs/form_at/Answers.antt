@@ -1,5 +1,5 @@
 -- `bundle::form_at` meets its contract: each way out by the law of its test.
-use Rattle.std.proofs.Common.{ℕ, ◌+◌, ◌*◌, ◌≤◌, true, List, ◌≡◌, sym, subst, ◌∙◌, arith, rules, length, drop}
+use Rattle.std.proofs.Common.{ℕ, ◌+◌, ◌*◌, ◌≤◌, true, List, ◌≡◌, sym, subst, ◌∙◌, arith, length, drop}
 use borrow.Author.Tests.{not-true, not-false}
 use Rattle.paper.specs.declared.Sizes.{Sizes}
 use Rattle.paper.specs.declared.Form.{Form}

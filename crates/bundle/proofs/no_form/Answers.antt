@@ -1,5 +1,4 @@
 -- `bundle::no_form` meets its contract.
-use Rattle.std.proofs.Common.{rules}
 use Rattle.bundle.proofs.no_form.Goals as goal
 
 pub returns : goal.returns

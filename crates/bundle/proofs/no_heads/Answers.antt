@@ -1,5 +1,4 @@
 -- `bundle::no_heads` meets its contract.
-use Rattle.std.proofs.Common.{rules}
 use Rattle.bundle.proofs.no_heads.Goals as goal
 
 pub returns : goal.returns

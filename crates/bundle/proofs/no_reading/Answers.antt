@@ -1,5 +1,4 @@
 -- `bundle::no_reading` meets its contract.
-use Rattle.std.proofs.Common.{rules}
 use Rattle.bundle.proofs.no_reading.Goals as goal
 
 pub returns : goal.returns

@@ -1,5 +1,4 @@
 -- `bundle::not_counted` meets its contract.
-use Rattle.std.proofs.Common.{rules}
 use Rattle.bundle.proofs.not_counted.Goals as goal
 
 pub returns : goal.returns

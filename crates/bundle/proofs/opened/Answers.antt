@@ -1,5 +1,5 @@
 -- `bundle::opened` meets its contract: each way out by the law of its test.
-use Rattle.std.proofs.Common.{ℕ, true, List, ◌≡◌, sym, ◌∙◌, rules, take}
+use Rattle.std.proofs.Common.{ℕ, true, List, ◌≡◌, sym, ◌∙◌, take}
 use borrow.Author.Tests.{not-true, not-false}
 use Rattle.paper.specs.declared.Sizes.{Sizes}
 use Rattle.paper.specs.Limits.{sizes_of}

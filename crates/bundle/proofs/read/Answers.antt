@@ -1,5 +1,5 @@
 -- `bundle::read` meets its contract: each way out by the law of its test.
-use Rattle.std.proofs.Common.{ℕ, ◌+◌, ◌-◌, ◌≤◌, List, ◌≡◌, ap, arith, length, drop}
+use Rattle.std.proofs.Common.{ℕ, ◌+◌, ◌≤◌, List, ◌≡◌, ap, arith, length, drop}
 use Rattle.paper.specs.declared.Version.{Version}
 use Rattle.paper.specs.declared.Sizes.{Sizes}
 use Rattle.paper.specs.declared.Form.{Form}
@@ -9,7 +9,7 @@ use Rattle.paper.specs.Refusals.{refused}
 use Rattle.paper.specs.Bundle.{version_in, read_array, read_bundle}
 use Rattle.bundle.specs.Read.{head_at, Fit, cells_at, FormAt}
 use Rattle.bundle.specs.Arrays.{array-refused, array-read}
-use Rattle.bundle.specs.Whole.{Loop, loop-start, loop-more, loop-refused}
+use Rattle.bundle.specs.Whole.{loop-start, loop-more, loop-refused}
 use Rattle.bundle.specs.Whole.{all-refused, bundle-bad, bundle-refused, bundle-left, bundle-read}
 use Rattle.bundle.proofs.read.Goals as goal
 use Rattle.bundle.proofs.read.Goals.{After-array_of-one, After-form_at-form, After-opened-count, At-loop-i, Else-one-ne0, Else-rank-eq0}

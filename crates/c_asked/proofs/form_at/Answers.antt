@@ -1,5 +1,5 @@
 -- `c_asked::form_at` meets its contract: the form by its parts, whose axes fit the head's room.
-use Rattle.std.proofs.Common.{◌+◌, ◌*◌, ◌≤◌, ap, arith, rules, get_or}
+use Rattle.std.proofs.Common.{◌+◌, ◌*◌, ◌≤◌, ap, arith, get_or}
 use Rattle.paper.specs.Limits.{most_axes, sizes_of}
 use Rattle.laws.specs.Sizes.{fits}
 use Rattle.c_asked.specs.Heads.{form-told, head_few, head-room}

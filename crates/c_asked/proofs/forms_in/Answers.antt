@@ -1,11 +1,9 @@
 -- `c_asked::forms_in` meets its contract: the loop puts one form after the other.
-use Rattle.std.proofs.Common.{ℕ, ◌+◌, ◌-◌, ◌*◌, ◌≤◌, List, ◌≡◌, refl, subst, ◌∙◌, ap, arith, length, take}
-use Rattle.paper.specs.declared.Form.{Form}
+use Rattle.std.proofs.Common.{ℕ, ◌+◌, ◌*◌, ◌≤◌, List, refl, ◌∙◌, ap, arith, length}
 use Rattle.paper.specs.Limits.{most_arrays, sizes_of}
 use Rattle.bundle.specs.Axes.{axis-room}
-use Rattle.pack.specs.Heads.{head_length}
 use Rattle.c_asked.specs.Asked.{pieces, each_piece}
-use Rattle.c_asked.specs.Pieces.{Filling, filling-starts, filling-more, filling-ends}
+use Rattle.c_asked.specs.Pieces.{filling-starts, filling-more, filling-ends}
 use Rattle.c_asked.specs.Heads.{form_in}
 use Rattle.c_asked.proofs.forms_in.Goals as goal
 use Rattle.c_asked.proofs.forms_in.Goals.{After-whole_head-size, In-loop-i}

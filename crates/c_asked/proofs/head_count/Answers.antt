@@ -1,5 +1,5 @@
 -- `c_asked::head_count` meets its contract.
-use Rattle.std.proofs.Common.{ap, subst, ◌∙◌, rules}
+use Rattle.std.proofs.Common.{ap, ◌∙◌}
 use Rattle.paper.specs.declared.Sizes.{Sizes}
 use Rattle.c_asked.specs.Asked.{head_count}
 use Rattle.c_asked.specs.Heads.{count-told, count-over}

@@ -1,5 +1,5 @@
 -- `c_asked::no_total` meets its contract: the array's own refusal, else the number is unknown.
-use Rattle.std.proofs.Common.{ap, ◌∙◌, rules}
+use Rattle.std.proofs.Common.{ap, ◌∙◌}
 use Rattle.paper.specs.Refusals.{refused}
 use Rattle.c_asked.specs.Pieces.{no-total-refused, no-total-known}
 use Rattle.c_asked.proofs.no_total.Goals as goal

@@ -1,5 +1,5 @@
 -- `c_asked::pieces_of` meets its contract: each way out by the tests passed.
-use Rattle.std.proofs.Common.{mul-le-mul, arith, rules}
+use Rattle.std.proofs.Common.{mul-le-mul, arith}
 use Rattle.c_asked.specs.Pieces.{pieces-broken, pieces-over, pieces_whole}
 use Rattle.c_asked.proofs.pieces_of.Goals as goal
 

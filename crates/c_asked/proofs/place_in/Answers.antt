@@ -1,5 +1,5 @@
 -- `c_asked::place_in` meets its contract: too few bytes are place 0.
-use Rattle.std.proofs.Common.{◌∙◌, rules}
+use Rattle.std.proofs.Common.{◌∙◌}
 use Rattle.c_asked.specs.Pieces.{place_short, place-long}
 use Rattle.c_asked.proofs.place_in.Goals as goal
 

@@ -1,5 +1,5 @@
 -- `c_asked::place_on` meets its contract: too few bytes stay, else the first four are the place's.
-use Rattle.std.proofs.Common.{◌∙◌, rules}
+use Rattle.std.proofs.Common.{◌∙◌}
 use Rattle.c_asked.specs.Pieces.{place_kept, place-moved}
 use Rattle.c_asked.proofs.place_on.Goals as goal
 

@@ -2,9 +2,7 @@
 use Rattle.std.proofs.Common.{arith, ◌≡◌, refl, ◌∙◌, rules, w32, SFits, ◌-◌}
 use borrow.Author.Rules.{sfits_of}
 use mir.ValLaws.{to_z-of_z}
-use Rattle.paper.specs.Limits.{most_axes, limit_bytes}
-use Rattle.paper.specs.Numbers.{signed_at}
-use Rattle.c_asked.specs.Pieces.{Filling, filling-starts, filling-more, filling-ends}
+use Rattle.c_asked.specs.Pieces.{filling-starts, filling-more, filling-ends}
 use Rattle.c_asked.proofs.refer_bytes.Goals as goal
 
 pub loop-i-preserved : goal.loop-i-preserved

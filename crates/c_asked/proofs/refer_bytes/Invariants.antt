@@ -1,10 +1,8 @@
 -- `c_asked::refer_bytes`: what its loops keep.
-use Rattle.std.proofs.Common.{arith, ◌≡◌, refl, ◌∙◌, rules, w32, SFits, ◌-◌}
-use borrow.Author.Rules.{sfits_of}
-use mir.ValLaws.{to_z-of_z}
+use Rattle.std.proofs.Common.{◌-◌}
 use Rattle.paper.specs.Limits.{most_axes, limit_bytes}
 use Rattle.paper.specs.Numbers.{signed_at}
-use Rattle.c_asked.specs.Pieces.{Filling, filling-starts, filling-more, filling-ends}
+use Rattle.c_asked.specs.Pieces.{Filling}
 use Rattle.c_asked.proofs.refer_bytes.Given as goal
 
 abbrev pub invariant-loop-i : goal.invariant-loop-i

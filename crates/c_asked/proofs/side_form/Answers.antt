@@ -1,5 +1,5 @@
 -- `c_asked::side_form` meets its contract: no form for another length, else that of the head.
-use Rattle.std.proofs.Common.{ap, sym, ◌∙◌, arith, rules}
+use Rattle.std.proofs.Common.{ap, sym, ◌∙◌, arith}
 use Rattle.paper.specs.declared.Head.{Head}
 use Rattle.paper.specs.Limits.{sizes_of}
 use Rattle.c_asked.specs.Heads.{side-other, side-head}

@@ -1,5 +1,5 @@
 -- `c_asked::total_asked` meets its contract: each number is its total's, any other is none's.
-use Rattle.std.proofs.Common.{refl, ◌∙◌, rules}
+use Rattle.std.proofs.Common.{refl, ◌∙◌}
 use Rattle.c_asked.specs.Pieces.{total-at, total-none}
 use Rattle.c_asked.proofs.total_asked.Goals as goal
 

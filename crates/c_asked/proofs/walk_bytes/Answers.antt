@@ -1,5 +1,5 @@
 -- `c_asked::walk_bytes` meets its contract: the step’s answer, and the place after it where the place stood.
-use Rattle.std.proofs.Common.{ap, rules}
+use Rattle.std.proofs.Common.{ap}
 use Rattle.paper.specs.Reference.{Walked}
 use Rattle.c_asked.proofs.walk_bytes.Goals as goal
 

@@ -1,5 +1,5 @@
 -- `c_told::give` meets its contract: the bytes copied are those that there is room for.
-use Rattle.std.proofs.Common.{arith, rules}
+use Rattle.std.proofs.Common.{arith}
 use Rattle.c_told.specs.Replies.{given-short, given-whole}
 use Rattle.c_told.proofs.give.Goals as goal
 

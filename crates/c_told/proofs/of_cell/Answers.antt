@@ -1,5 +1,4 @@
 -- `c_told::of_cell` meets its contract: the cell’s nine bytes.
-use Rattle.std.proofs.Common.{rules}
 use Rattle.c_told.specs.Replies.{cell-told}
 use Rattle.c_told.proofs.of_cell.Goals as goal
 

@@ -1,5 +1,4 @@
 -- `c_told::of_counted` meets its contract: the number, or the refusal.
-use Rattle.std.proofs.Common.{rules}
 use Rattle.paper.specs.Answers.{number_said}
 use Rattle.c_told.specs.Given.{number_bytes}
 use Rattle.c_told.specs.Replies.{arm}

@@ -1,5 +1,5 @@
 -- `c_told::of_json` meets its contract: the number of cells, a byte of the text, or the refusal.
-use Rattle.std.proofs.Common.{arith, rules}
+use Rattle.std.proofs.Common.{arith}
 use Rattle.c_told.specs.Capped.{json-arm, json-refused}
 use Rattle.c_told.proofs.of_json.Goals as goal
 

@@ -1,5 +1,4 @@
 -- `c_told::of_number` meets its contract: the first number is it.
-use Rattle.std.proofs.Common.{rules}
 use Rattle.c_told.specs.Replies.{one_told}
 use Rattle.c_told.proofs.of_number.Goals as goal
 

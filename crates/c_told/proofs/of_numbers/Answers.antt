@@ -1,5 +1,4 @@
 -- `c_told::of_numbers` meets its contract: four numbers are put one after the other.
-use Rattle.std.proofs.Common.{rules}
 use Rattle.c_told.specs.Replies.{four-put}
 use Rattle.c_told.proofs.of_numbers.Goals as goal
 

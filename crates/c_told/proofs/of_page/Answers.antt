@@ -1,5 +1,4 @@
 -- `c_told::of_page` meets its contract: what a page got, or its refusal.
-use Rattle.std.proofs.Common.{rules}
 use Rattle.paper.specs.Answers.{page_said}
 use Rattle.c_told.specs.Given.{listed_bytes}
 use Rattle.c_told.specs.Replies.{two-told, arm}

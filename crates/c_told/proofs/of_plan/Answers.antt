@@ -1,5 +1,4 @@
 -- `c_told::of_plan` meets its contract: what a plan tells, or its refusal.
-use Rattle.std.proofs.Common.{rules}
 use Rattle.paper.specs.Answers.{plan_said}
 use Rattle.c_told.specs.Given.{foreseen_bytes}
 use Rattle.c_told.specs.Replies.{four-told, arm}

@@ -1,5 +1,4 @@
 -- `c_told::of_reference` meets its contract: what a reference got, or its refusal.
-use Rattle.std.proofs.Common.{rules}
 use Rattle.paper.specs.Answers.{reference_said}
 use Rattle.paper.specs.Cells.{encode}
 use Rattle.c_told.specs.Replies.{arm}

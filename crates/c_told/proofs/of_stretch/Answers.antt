@@ -1,5 +1,4 @@
 -- `c_told::of_stretch` meets its contract: what a stretch got, or its refusal.
-use Rattle.std.proofs.Common.{rules}
 use Rattle.paper.specs.Refusals.{got}
 use Rattle.paper.specs.Answers.{stretch_said}
 use Rattle.c_told.specs.Given.{part_bytes}

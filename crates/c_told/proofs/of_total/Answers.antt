@@ -1,5 +1,5 @@
 -- `c_told::of_total` meets its contract: what a total got, a count as the INT cell of its number, or its refusal.
-use Rattle.std.proofs.Common.{arith, rules}
+use Rattle.std.proofs.Common.{arith}
 use Rattle.paper.specs.Refusals.{got}
 use Rattle.paper.specs.Answers.{total_said}
 use Rattle.c_told.specs.Given.{total_bytes}

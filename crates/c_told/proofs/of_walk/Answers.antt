@@ -1,5 +1,4 @@
 -- `c_told::of_walk` meets its contract: what a walk got, a 1 and the cell or ten zeros, or its refusal.
-use Rattle.std.proofs.Common.{rules}
 use Rattle.paper.specs.Refusals.{got}
 use Rattle.paper.specs.Answers.{seen_said}
 use Rattle.c_told.specs.Given.{seen_bytes}

@@ -1,5 +1,5 @@
 -- `c_told::place_told` meets its contract: a place that fits as it is, another as the largest number.
-use Rattle.std.proofs.Common.{arith, rules}
+use Rattle.std.proofs.Common.{arith}
 use Rattle.c_told.specs.Capped.{capped_fits, capped-over}
 use Rattle.c_told.proofs.place_told.Goals as goal
 

@@ -1,5 +1,4 @@
 -- `c_told::refused` meets its contract: the first two numbers are the refusal’s place and ordinality.
-use Rattle.std.proofs.Common.{rules}
 use Rattle.c_told.specs.Replies.{two-told}
 use Rattle.c_told.proofs.refused.Goals as goal
 

@@ -1,5 +1,4 @@
 -- `c_told::text_refused` meets its contract: the byte is told as an ordinality.
-use Rattle.std.proofs.Common.{rules}
 use Rattle.c_told.proofs.text_refused.Goals as goal
 
 pub returns : goal.returns

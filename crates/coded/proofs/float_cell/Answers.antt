@@ -1,5 +1,5 @@
 -- `coded::float_cell` meets its contract. Assumes nothing.
-use Rattle.std.proofs.Common.{rules, sym}
+use Rattle.std.proofs.Common.{sym}
 use Rattle.coded.proofs.Standing.{standing-empty, standing-float}
 use Rattle.paper.specs.Limits.{FLOAT}
 use Rattle.coded.proofs.float_cell.Goals as goal

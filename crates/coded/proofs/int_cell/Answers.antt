@@ -1,5 +1,5 @@
 -- `coded::int_cell` meets its contract. Assumes nothing.
-use Rattle.std.proofs.Common.{rules, sym, ap, ◌∙◌, to_z-of_z, w64}
+use Rattle.std.proofs.Common.{sym, ap, ◌∙◌, to_z-of_z, w64}
 use borrow.Author.Rules.{sfits_of}
 use Rattle.coded.proofs.Standing.{standing-empty, standing-int}
 use Rattle.paper.specs.Limits.{INT}

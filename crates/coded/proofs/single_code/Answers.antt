@@ -1,5 +1,5 @@
 -- `coded::single_code` meets its contract: by the cases of single_code_of. Assumes nothing.
-use Rattle.std.proofs.Common.{ℕ, ◌+◌, ◌*◌, rules, true, ◌≡◌, sym, ap, ◌∙◌, arith}
+use Rattle.std.proofs.Common.{ℕ, ◌+◌, ◌*◌, true, ◌≡◌, sym, ap, ◌∙◌, arith}
 use Rattle.coded.proofs.Codes.{type-none, type-over, type-is, no-single, single-is, few-singles}
 use Rattle.paper.specs.Cells.{is_type}
 use Rattle.paper.specs.Operators.{takes_one}

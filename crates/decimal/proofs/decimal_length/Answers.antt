@@ -1,5 +1,5 @@
 -- `decimal::decimal_length` meets its contract: the number of bits gives the digits but for one, and the smallest number that has it tells.
-use Rattle.std.proofs.Common.{rules, sym, arith}
+use Rattle.std.proofs.Common.{sym, arith}
 use lib.Count.{leading_le}
 use Rattle.decimal.specs.Bits.{odd, long-least, long-more}
 use Rattle.decimal.proofs.decimal_length.Goals as goal

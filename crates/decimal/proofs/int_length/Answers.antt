@@ -1,5 +1,5 @@
 -- `decimal::int_length` meets its contract: the sign, and the digits of the magnitude.
-use Rattle.std.proofs.Common.{rules, arith, to_z-of_z}
+use Rattle.std.proofs.Common.{arith, to_z-of_z}
 use Rattle.decimal.specs.Digits.{digits-most}
 use Rattle.decimal.specs.Ints.{decimal-long}
 use Rattle.decimal.proofs.int_length.Goals as goal

@@ -1,5 +1,5 @@
 -- `decimal::put_byte` meets its contract: one byte is stored.
-use Rattle.std.proofs.Common.{rules, refl}
+use Rattle.std.proofs.Common.{refl}
 use Rattle.laws.specs.Put.{put_byte}
 use Rattle.decimal.proofs.put_byte.Goals as goal
 

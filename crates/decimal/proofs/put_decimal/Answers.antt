@@ -1,5 +1,5 @@
 -- `decimal::put_decimal` meets its contract: at most four digits; or those before the last four, eight, twelve or sixteen, and the last.
-use Rattle.std.proofs.Common.{ℕ, ◌/◌, rules, ◌≡◌, ap, ◌++◌, arith, length, length-append}
+use Rattle.std.proofs.Common.{ℕ, ◌/◌, ◌≡◌, ap, ◌++◌, arith, length, length-append}
 use Rattle.paper.specs.Rests.{digits}
 use Rattle.decimal.specs.Wrote.{wrote-both, wrote-three}
 use Rattle.decimal.specs.Pairs.{four, eight, digits-fours, digits-eights, digits-twelves, digits-sixteens}

@@ -1,5 +1,5 @@
 -- `decimal::put_eight` meets its contract: the four digits before the last four, and the last four.
-use Rattle.std.proofs.Common.{◌/◌, ◌%◌, rules, arith}
+use Rattle.std.proofs.Common.{◌/◌, ◌%◌, arith}
 use Rattle.decimal.specs.Wrote.{wrote-both}
 use Rattle.decimal.specs.Pairs.{four, eight-rest}
 use Rattle.decimal.proofs.put_eight.Goals as goal

@@ -1,5 +1,5 @@
 -- `decimal::put_found` meets its contract: the word, the number, the end of the line.
-use Rattle.std.proofs.Common.{rules, ℕ, ap, List, ◌++◌, append-nil, arith, length, length-append}
+use Rattle.std.proofs.Common.{ℕ, ap, List, ◌++◌, append-nil, arith, length, length-append}
 use lib.IntN.{pos}
 use Rattle.paper.specs.Numbers.{text, concat}
 use Rattle.paper.specs.Rests.{spaced}

@@ -1,5 +1,5 @@
 -- `decimal::put_four` meets its contract: the two digits before the last two, and the last two.
-use Rattle.std.proofs.Common.{◌/◌, ◌%◌, rules, arith}
+use Rattle.std.proofs.Common.{◌/◌, ◌%◌, arith}
 use Rattle.decimal.specs.Wrote.{wrote-both}
 use Rattle.decimal.specs.Pairs.{pair, four-rest}
 use Rattle.decimal.proofs.put_four.Goals as goal

@@ -1,5 +1,5 @@
 -- `decimal::put_int` meets its contract: `-` is stored, and the digits of the magnitude after it or over it.
-use Rattle.std.proofs.Common.{rules, ◌≡◌, ◌∙◌, refl, arith, length, length-set, to_z-of_z}
+use Rattle.std.proofs.Common.{◌≡◌, ◌∙◌, refl, arith, length, length-set, to_z-of_z}
 use lib.IntN.{ℤ, nat_abs}
 use Rattle.decimal.specs.Digits.{digits-some}
 use Rattle.decimal.specs.Ints.{sign, decimal-long, signed-wrote}

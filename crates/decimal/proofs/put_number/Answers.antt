@@ -1,5 +1,5 @@
 -- `decimal::put_number` meets its contract: a space, then the number.
-use Rattle.std.proofs.Common.{rules, arith}
+use Rattle.std.proofs.Common.{arith}
 use lib.IntN.{pos}
 use Rattle.paper.specs.Numbers.{text}
 use Rattle.paper.specs.Rests.{decimal}

@@ -1,5 +1,5 @@
 -- `decimal::put_pair` meets its contract: two bytes are stored.
-use Rattle.std.proofs.Common.{rules, refl, arith, length-set}
+use Rattle.std.proofs.Common.{refl, arith, length-set}
 use Rattle.decimal.specs.Pairs.{pair-stored}
 use Rattle.decimal.proofs.put_pair.Goals as goal
 

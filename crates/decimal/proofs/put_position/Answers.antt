@@ -1,5 +1,5 @@
 -- `decimal::put_position` meets its contract: a space, then the position.
-use Rattle.std.proofs.Common.{rules, arith}
+use Rattle.std.proofs.Common.{arith}
 use Rattle.paper.specs.Numbers.{text, position}
 use Rattle.paper.specs.Rests.{decimal}
 use Rattle.decimal.specs.Wrote.{wrote_then}

@@ -1,5 +1,5 @@
 -- `decimal::put_refusal` meets its contract: the word, the three numbers, the end of the line.
-use Rattle.std.proofs.Common.{◌+◌, ◌*◌, ◌≤◌, rules, arith, length}
+use Rattle.std.proofs.Common.{◌+◌, ◌*◌, ◌≤◌, arith, length}
 use lib.IntN.{pos}
 use Rattle.paper.specs.declared.Refusal.{Refusal}
 use Rattle.paper.specs.Numbers.{text, concat}

@@ -1,8 +1,7 @@
 -- `decimal::put_row` meets its contract: the ordinality, then each position; whatever writes what is left completes the line.
-use Rattle.std.proofs.Common.{◌+◌, ◌-◌, rules, ◌∙◌, arith}
-use Rattle.paper.specs.Limits.{limit_bytes}
+use Rattle.std.proofs.Common.{◌∙◌, arith}
 use Rattle.decimal.specs.Digits.{digits-most}
-use Rattle.decimal.specs.Rows.{Lining, line-begins, line-more, line-ends, line_wrote}
+use Rattle.decimal.specs.Rows.{line-begins, line-more, line-ends, line_wrote}
 use Rattle.decimal.proofs.put_row.Goals as goal
 use Rattle.decimal.proofs.put_row.Goals.{After-put_decimal-end, At-loop-i, Start}
 

@@ -1,8 +1,7 @@
 -- `decimal::put_row`: what its loops keep.
-use Rattle.std.proofs.Common.{◌+◌, ◌-◌, rules, ◌∙◌, arith}
+use Rattle.std.proofs.Common.{◌+◌, ◌-◌}
 use Rattle.paper.specs.Limits.{limit_bytes}
-use Rattle.decimal.specs.Digits.{digits-most}
-use Rattle.decimal.specs.Rows.{Lining, line-begins, line-more, line-ends, line_wrote}
+use Rattle.decimal.specs.Rows.{Lining}
 use Rattle.decimal.proofs.put_row.Given as goal
 
 abbrev pub invariant-loop-i : goal.invariant-loop-i

@@ -1,5 +1,5 @@
 -- `decimal::put_short` meets its contract: at most two digits; or those before the last two, and the last two.
-use Rattle.std.proofs.Common.{ℕ, ◌/◌, rules, ◌≡◌, ap, ◌++◌, arith, length, length-append}
+use Rattle.std.proofs.Common.{ℕ, ◌/◌, ◌≡◌, ap, ◌++◌, arith, length, length-append}
 use Rattle.paper.specs.Rests.{digits}
 use Rattle.decimal.specs.Wrote.{wrote-both}
 use Rattle.decimal.specs.Pairs.{pair, digits-pair}

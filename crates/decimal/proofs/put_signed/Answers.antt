@@ -1,5 +1,5 @@
 -- `decimal::put_signed` meets its contract: below 0 a sign and the distance to 0, else the distance from it.
-use Rattle.std.proofs.Common.{◌-◌, rules, arith}
+use Rattle.std.proofs.Common.{◌-◌, arith}
 use Rattle.paper.specs.Limits.{reach}
 use Rattle.paper.specs.Numbers.{text}
 use Rattle.paper.specs.Rests.{digits}

@@ -1,5 +1,5 @@
 -- `decimal::put_small` meets its contract: two bytes are stored, in one place or two.
-use Rattle.std.proofs.Common.{rules, refl, arith, length-set}
+use Rattle.std.proofs.Common.{refl, arith, length-set}
 use Rattle.decimal.specs.Pairs.{last-place, small-stored}
 use Rattle.decimal.proofs.put_small.Goals as goal
 

@@ -1,5 +1,4 @@
 -- `decimal::put_text` meets its contract: all bytes are copied.
-use Rattle.std.proofs.Common.{rules}
 use Rattle.decimal.specs.Wrote.{copy-wrote}
 use Rattle.decimal.proofs.put_text.Goals as goal
 

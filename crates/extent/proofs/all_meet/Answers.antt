@@ -1,6 +1,6 @@
 -- `extent::all_meet` meets its contract.
 -- As many axes; then the loop keeps the comparison of the axes left equal to the whole.
-use Rattle.std.proofs.Common.{ℕ, ◌+◌, ◌-◌, ◌&&◌, ◌∙◌, ◌≡◌, refl, sym, arith, rules, drop}
+use Rattle.std.proofs.Common.{ℕ, ◌+◌, ◌&&◌, ◌∙◌, ◌≡◌, refl, sym, arith, drop}
 use borrow.Author.Tests.{not-false, not-true}
 use Rattle.paper.specs.Numbers.{alike}
 use Rattle.paper.specs.Answers.{axes_of}

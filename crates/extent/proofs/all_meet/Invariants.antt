@@ -1,10 +1,8 @@
 -- `extent::all_meet`: what its loops keep.
-use Rattle.std.proofs.Common.{ℕ, ◌+◌, ◌-◌, ◌&&◌, ◌∙◌, ◌≡◌, refl, sym, arith, rules, drop}
-use borrow.Author.Tests.{not-false, not-true}
+use Rattle.std.proofs.Common.{◌-◌, ◌≡◌, drop}
 use Rattle.paper.specs.Numbers.{alike}
 use Rattle.paper.specs.Answers.{axes_of}
-use Rattle.extent.specs.Rank.{axis_no}
-use Rattle.extent.specs.Meeting.{meet, meeting-end, meeting-other, meeting-up}
+use Rattle.extent.specs.Meeting.{meet}
 use Rattle.extent.proofs.all_meet.Given as goal
 
 abbrev pub invariant-loop-i : goal.invariant-loop-i

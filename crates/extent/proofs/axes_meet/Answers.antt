@@ -1,6 +1,6 @@
 -- `extent::axes_meet` meets its contract.
 -- Each case by what it asks.
-use Rattle.std.proofs.Common.{Bool, ◌∙◌, ◌≡◌, ap, sym, rules}
+use Rattle.std.proofs.Common.{Bool, ◌∙◌, ◌≡◌, ap, sym}
 use Rattle.extent.specs.declared.Asked.{Asked}
 use Rattle.extent.specs.declared.Asked.TheVariants.{Covers, Within}
 use Rattle.extent.specs.Meeting.{meet}

@@ -1,6 +1,6 @@
 -- `extent::axis_covers` meets its contract.
 -- The lower limit, then the upper.
-use Rattle.std.proofs.Common.{sym, ◌∙◌, rules}
+use Rattle.std.proofs.Common.{sym, ◌∙◌}
 use borrow.Author.Tests.{not-false, not-true}
 use Rattle.extent.proofs.axis_covers.Goals as goal
 

@@ -1,6 +1,6 @@
 -- `extent::axis_of` meets its contract.
 -- Past the last axis there is none; before it, the first axes of the array are the extent's.
-use Rattle.std.proofs.Common.{ℕ, ap, ◌∙◌, rules, get_or}
+use Rattle.std.proofs.Common.{ℕ, ap, ◌∙◌, get_or}
 use Rattle.extent.specs.Rank.{axis-first, axis-past}
 use Rattle.paper.specs.Answers.{axes_of}
 use Rattle.paper.specs.Axes.{no_axis}

@@ -1,6 +1,6 @@
 -- `extent::cells_of` meets its contract.
 -- From the last axis to the first: n is the number of cells of the axes done. Where some axes have too many, all have.
-use Rattle.std.proofs.Common.{◌*◌, ◌-◌, ◌<◌, ◌≤◌, ap, ap₂, subst, sym, ◌∙◌, ◌≡◌, mul_comm, arith, rules, le-leb, drop, take}
+use Rattle.std.proofs.Common.{◌*◌, ◌-◌, ◌<◌, ◌≤◌, ap, ap₂, subst, sym, ◌∙◌, ◌≡◌, mul_comm, arith, le-leb, drop, take}
 use borrow.Author.Tests.{lt-leb}
 use Rattle.laws.specs.Limits.{Sound, cells-drop}
 use Rattle.laws.specs.Loops.{cells-down, cells-none, drop-none, product_le, sound-first}

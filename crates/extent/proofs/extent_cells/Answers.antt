@@ -1,6 +1,6 @@
 -- `extent::extent_cells` meets its contract.
 -- The number is kept where the extent lies inside its maximum.
-use Rattle.std.proofs.Common.{◌∙◌, ◌≡◌, sym, arith, rules}
+use Rattle.std.proofs.Common.{◌∙◌, ◌≡◌, sym, arith}
 use borrow.Author.Tests.{not-false, not-true}
 use Rattle.paper.specs.Answers.{axes_of, names_for}
 use Rattle.paper.specs.Axes.{within}

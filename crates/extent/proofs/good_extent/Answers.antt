@@ -1,6 +1,6 @@
 -- `extent::good_extent` meets its contract.
 -- The tests in the paper's order; the number of cells is the last.
-use Rattle.std.proofs.Common.{ℕ, true, List, ap, sym, ◌∙◌, ◌≡◌, arith, rules, take}
+use Rattle.std.proofs.Common.{ℕ, true, List, ap, sym, ◌∙◌, ◌≡◌, arith, take}
 use borrow.Author.Tests.{not-false, not-true}
 use Rattle.laws.specs.Limits.{limits-true}
 use Rattle.extent.specs.Judged.{bad-limits, bad-names, by-cells}

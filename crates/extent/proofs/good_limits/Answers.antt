@@ -1,6 +1,6 @@
 -- `extent::good_limits` meets its contract.
 -- The loop keeps the test of the axes left equal to the whole test.
-use Rattle.std.proofs.Common.{◌+◌, ◌-◌, ◌&&◌, refl, sym, ◌∙◌, ◌≡◌, arith, rules, drop}
+use Rattle.std.proofs.Common.{◌+◌, ◌&&◌, refl, sym, ◌∙◌, ◌≡◌, drop}
 use borrow.Author.Tests.{not-false, not-true}
 use Rattle.extent.specs.Rank.{axis_no}
 use Rattle.extent.specs.Tests.{in_range, limits-end, limits-up}

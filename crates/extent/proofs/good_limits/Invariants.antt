@@ -1,8 +1,5 @@
 -- `extent::good_limits`: what its loops keep.
-use Rattle.std.proofs.Common.{◌+◌, ◌-◌, ◌&&◌, refl, sym, ◌∙◌, ◌≡◌, arith, rules, drop}
-use borrow.Author.Tests.{not-false, not-true}
-use Rattle.extent.specs.Rank.{axis_no}
-use Rattle.extent.specs.Tests.{in_range, limits-end, limits-up}
+use Rattle.std.proofs.Common.{◌-◌, ◌≡◌, drop}
 use Rattle.paper.specs.Answers.{axes_of}
 use Rattle.paper.specs.Axes.{good_limits}
 use Rattle.extent.proofs.good_limits.Given as goal

@@ -1,5 +1,5 @@
 -- `json_due::due_after` meets its contract: each by what was due.
-use Rattle.std.proofs.Common.{rules, ℕ, ◌+◌, ◌-◌, ◌≤◌, ◌<◌, ◌≡◌, refl, sym, ◌∙◌, ap, arith, length, get_or}
+use Rattle.std.proofs.Common.{sym, arith}
 use Rattle.paper.specs.Answers.{axes_of}
 use Rattle.json_due.specs.Due.{follows_nothing, follows-opening, follows-closing, follows-value, stands-opening, stands-closing, stands-value}
 use Rattle.json_due.proofs.due_after.Goals as goal

@@ -1,5 +1,5 @@
 -- `json_due::due_inside` meets its contract: the axis has all its positions left.
-use Rattle.std.proofs.Common.{rules, ℕ, ◌+◌, ◌-◌, ◌≤◌, ◌<◌, ◌≡◌, refl, sym, ◌∙◌, ap, subst, arith, length, get_or}
+use Rattle.std.proofs.Common.{rules, ℕ, ◌+◌, ◌-◌, ◌≡◌, refl, sym, ◌∙◌, ap, subst, arith, length, get_or}
 use Rattle.paper.specs.Limits.{most_axes}
 use Rattle.paper.specs.Axes.{no_axis}
 use Rattle.paper.specs.Answers.{axes_of}

@@ -1,5 +1,5 @@
 -- `json_due::due_next` meets its contract: by the positions that the innermost level has left.
-use Rattle.std.proofs.Common.{rules, ℕ, ◌+◌, ◌-◌, ◌≤◌, ◌<◌, ◌≡◌, refl, sym, ◌∙◌, ap, arith, length, get_or}
+use Rattle.std.proofs.Common.{rules, ◌≡◌, refl, arith, length}
 use Rattle.paper.specs.Limits.{most_axes}
 use Rattle.json_due.specs.Due.{next-nothing, next-closing, next-value, next-opening}
 use Rattle.json_due.proofs.due_next.Goals as goal

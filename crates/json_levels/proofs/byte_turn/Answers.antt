@@ -1,5 +1,4 @@
 -- `json_levels::byte_turn` meets its contract: each byte by its rule.
-use Rattle.std.proofs.Common.{rules}
 use Rattle.json_levels.specs.declared.Next.TheVariants.{Object, First, More, Value, Member}
 use Rattle.json_levels.specs.Begins.{arm-turned, arm-standing, open-first, open-value}
 use Rattle.json_levels.proofs.byte_turn.Goals as goal

@@ -1,5 +1,5 @@
 -- `json_levels::first_turn` meets its contract: each byte by its rule.
-use Rattle.std.proofs.Common.{rules, eq-eqb, ne_eqb}
+use Rattle.std.proofs.Common.{eq-eqb, ne_eqb}
 use Rattle.json_levels.specs.Begins.{told, standing-member, first-closed, first-value, first_ended, first-name}
 use Rattle.json_levels.proofs.first_turn.Goals as goal
 

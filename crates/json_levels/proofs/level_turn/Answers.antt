@@ -1,5 +1,5 @@
 -- `json_levels::level_turn` meets its contract: each byte by its rule.
-use Rattle.std.proofs.Common.{rules, arith}
+use Rattle.std.proofs.Common.{arith}
 use Rattle.json_levels.specs.Begins.{told, bits_most, value-deep, value-array, value-object, value_none}
 use Rattle.json_levels.proofs.level_turn.Goals as goal
 

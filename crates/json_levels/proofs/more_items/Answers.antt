@@ -1,5 +1,4 @@
 -- `json_levels::more_items` meets its contract: each byte by its rule.
-use Rattle.std.proofs.Common.{rules}
 use Rattle.json_levels.specs.Begins.{told, items-comma, items-closed, items-none}
 use Rattle.json_levels.proofs.more_items.Goals as goal
 

@@ -1,5 +1,4 @@
 -- `json_levels::more_members` meets its contract: each byte by its rule.
-use Rattle.std.proofs.Common.{rules}
 use Rattle.json_levels.specs.Begins.{told, members-comma, members-closed, members-none}
 use Rattle.json_levels.proofs.more_members.Goals as goal
 

@@ -1,5 +1,5 @@
 -- `json_levels::more_turn` meets its contract: each byte by its rule.
-use Rattle.std.proofs.Common.{rules, eq-eqb, ne_eqb}
+use Rattle.std.proofs.Common.{eq-eqb, ne_eqb}
 use Rattle.json_levels.specs.Begins.{told, none_after, standing-open}
 use Rattle.json_levels.proofs.more_turn.Goals as goal
 

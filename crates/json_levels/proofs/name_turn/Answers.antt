@@ -1,5 +1,4 @@
 -- `json_levels::name_turn` meets its contract: each byte by its rule.
-use Rattle.std.proofs.Common.{rules}
 use Rattle.json_levels.specs.Begins.{told, member-open, member-object, name-begun, name-none}
 use Rattle.json_levels.proofs.name_turn.Goals as goal
 

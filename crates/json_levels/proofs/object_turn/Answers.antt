@@ -1,5 +1,4 @@
 -- `json_levels::object_turn` meets its contract: each byte by its rule.
-use Rattle.std.proofs.Common.{rules}
 use Rattle.json_levels.specs.Begins.{told, object-begun, object-none}
 use Rattle.json_levels.proofs.object_turn.Goals as goal
 

@@ -1,5 +1,5 @@
 -- `json_levels::value_turn` meets its contract: each byte by its rule.
-use Rattle.std.proofs.Common.{rules, ◌∙◌, sym}
+use Rattle.std.proofs.Common.{◌∙◌, sym}
 use Rattle.json_levels.specs.Begins.{told, value-text, value-minus, value-zero, value-digit, value-true, value-false, value-null}
 use Rattle.json_levels.proofs.value_turn.Goals as goal
 

@@ -1,5 +1,5 @@
 -- `json_read::fill` meets its contract: there is room, or not.
-use Rattle.std.proofs.Common.{rules, ap, refl}
+use Rattle.std.proofs.Common.{ap, refl}
 use Rattle.paper.specs.declared.JsonAnswer.TheVariants as Json
 use Rattle.json_read.specs.Read.{filled-not, filled-so}
 use Rattle.json_read.proofs.fill.Goals as goal

@@ -1,5 +1,5 @@
 -- `json_read::read` meets its contract: in the version told, or none.
-use Rattle.std.proofs.Common.{rules, ◌∙◌, ap, sym}
+use Rattle.std.proofs.Common.{◌∙◌, ap, sym}
 use Rattle.paper.specs.declared.JsonAnswer.TheVariants as Json
 use Rattle.paper.specs.Answers.{axes_of, names_for}
 use Rattle.versions.specs.Told.{told_sizes}

@@ -1,5 +1,5 @@
 -- `json_read::read_as` meets its contract: refused, or read and filled.
-use Rattle.std.proofs.Common.{rules, ℕ, ◌∙◌, subst}
+use Rattle.std.proofs.Common.{ℕ, ◌∙◌, subst}
 use lib.ListN.{length-replicate}
 use Rattle.paper.specs.Limits.{sizes_of}
 use Rattle.paper.specs.Answers.{axes_of}

@@ -1,5 +1,4 @@
 -- `judged::ahead` meets its contract: each loop is its type's own.
-use Rattle.std.proofs.Common.{rules}
 use Rattle.judged.specs.Looks.{none_ahead}
 use Rattle.judged.proofs.ahead.Goals as goal
 

@@ -1,5 +1,5 @@
 -- `judged::cell_at` meets its contract: what reading the cell tells.
-use Rattle.std.proofs.Common.{sym, ap, ◌∙◌, rules}
+use Rattle.std.proofs.Common.{sym, ap, ◌∙◌}
 use Rattle.laws.specs.Judged.{is?}
 use Rattle.cell.specs.Reads.{told}
 use Rattle.judged.proofs.cell_at.Goals as goal

@@ -1,5 +1,4 @@
 -- `judged::eight_at` meets its contract.
-use Rattle.std.proofs.Common.{rules}
 use Rattle.judged.proofs.eight_at.Goals as goal
 
 pub returns : goal.returns

@@ -1,7 +1,7 @@
 -- `judged::eights_ahead` meets its contract: eight cells more a turn.
-use Rattle.std.proofs.Common.{◌-◌, ◌*◌, arith}
+use Rattle.std.proofs.Common.{arith}
 use borrow.Author.Tests.{not-false}
-use Rattle.judged.specs.Looks.{Ahead, none_ahead, eight-ahead}
+use Rattle.judged.specs.Looks.{none_ahead, eight-ahead}
 use Rattle.judged.proofs.eights_ahead.Goals as goal
 
 pub loop-t-preserved : goal.loop-t-preserved

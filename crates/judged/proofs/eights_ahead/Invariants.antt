@@ -1,7 +1,6 @@
 -- `judged::eights_ahead`: what its loops keep.
-use Rattle.std.proofs.Common.{◌-◌, ◌*◌, arith}
-use borrow.Author.Tests.{not-false}
-use Rattle.judged.specs.Looks.{Ahead, none_ahead, eight-ahead}
+use Rattle.std.proofs.Common.{◌-◌, ◌*◌}
+use Rattle.judged.specs.Looks.{Ahead}
 use Rattle.judged.proofs.eights_ahead.Given as goal
 
 abbrev pub invariant-loop-t : goal.invariant-loop-t

@@ -1,8 +1,7 @@
 -- `judged::first_bad` meets its contract.
-use Rattle.std.proofs.Common.{◌-◌, sym, ◌∙◌, arith, rules}
+use Rattle.std.proofs.Common.{sym, ◌∙◌, arith}
 use borrow.Author.Tests.{not-true, not-false}
 use Rattle.laws.specs.Judged.{bad_more, bad-here, bad-none}
-use Rattle.judged.specs.Looks.{Ahead}
 use Rattle.judged.proofs.first_bad.Goals as goal
 
 pub returns-then-not-cell_at : goal.returns-then-not-cell_at

@@ -1,7 +1,5 @@
 -- `judged::first_bad`: what its loops keep.
-use Rattle.std.proofs.Common.{◌-◌, sym, ◌∙◌, arith, rules}
-use borrow.Author.Tests.{not-true, not-false}
-use Rattle.laws.specs.Judged.{bad_more, bad-here, bad-none}
+use Rattle.std.proofs.Common.{◌-◌}
 use Rattle.judged.specs.Looks.{Ahead}
 use Rattle.judged.proofs.first_bad.Given as goal
 

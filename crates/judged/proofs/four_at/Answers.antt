@@ -1,5 +1,4 @@
 -- `judged::four_at` meets its contract.
-use Rattle.std.proofs.Common.{rules}
 use Rattle.judged.proofs.four_at.Goals as goal
 
 pub returns : goal.returns

@@ -1,5 +1,4 @@
 -- `judged::look_at` meets its contract.
-use Rattle.std.proofs.Common.{rules}
 use Rattle.judged.specs.Looks.{look_is}
 use Rattle.judged.proofs.look_at.Goals as goal
 

@@ -1,5 +1,5 @@
 -- `judged::unmarked` meets its contract.
-use Rattle.std.proofs.Common.{arith, rules}
+use Rattle.std.proofs.Common.{arith}
 use Rattle.judged.specs.Looks.{all_ones}
 use Rattle.judged.proofs.unmarked.Goals as goal
 

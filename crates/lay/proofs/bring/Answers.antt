@@ -1,5 +1,5 @@
 -- `lay::bring` meets its contract: from the work area, or from the bundle, as a row or by the loop.
-use Rattle.std.proofs.Common.{◌+◌, ◌*◌, ◌^◌, ◌<◌, arith, rules, leb-true, take, length-take}
+use Rattle.std.proofs.Common.{◌+◌, ◌*◌, ◌^◌, ◌<◌, arith, leb-true, take, length-take}
 use Rattle.paper.specs.Limits.{cell_bytes}
 use Rattle.quick.specs.Operands.{bytes_most}
 use Rattle.lay.specs.Lay.{last_cells, ends-before, brought-on, lies-there, brought-over}

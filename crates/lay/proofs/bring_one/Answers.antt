@@ -1,5 +1,5 @@
 -- `lay::bring_one` meets its contract: from the work area, or from the bundle.
-use Rattle.std.proofs.Common.{◌+◌, ◌*◌, ◌^◌, ◌<◌, arith, rules, take, length-take}
+use Rattle.std.proofs.Common.{◌+◌, ◌*◌, ◌^◌, ◌<◌, arith, take, length-take}
 use Rattle.paper.specs.Limits.{cell_bytes}
 use Rattle.quick.specs.Operands.{bytes_most}
 use Rattle.lay.specs.Lay.{ends-before, brought-on, lies-there, brought-over}

@@ -1,5 +1,5 @@
 -- `lay::copy_nine` meets its contract: mark and word are the nine bytes.
-use Rattle.std.proofs.Common.{ℕ, ◌<◌, ap, ◌∙◌, ◌∷◌, arith, rules, get_or}
+use Rattle.std.proofs.Common.{ℕ, ap, ◌∙◌, ◌∷◌, arith, get_or}
 use Rattle.paper.specs.Limits.{word_bytes}
 use Rattle.paper.specs.Numbers.{le_bytes}
 use Rattle.laws.specs.Numbers.{Bytes}

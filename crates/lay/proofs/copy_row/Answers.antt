@@ -1,5 +1,5 @@
 -- `lay::copy_row` meets its contract: the turns leave less than four cells, so the last four begin at or before their end.
-use Rattle.std.proofs.Common.{◌-◌, ◌*◌, ◌/◌, arith, rules}
+use Rattle.std.proofs.Common.{◌-◌, ◌*◌, ◌/◌, arith}
 use Rattle.paper.specs.Limits.{cell_bytes}
 use Rattle.laws.specs.Put.{copied}
 use Rattle.lay.specs.Lay.{turn_bytes, last_cells}

@@ -1,5 +1,5 @@
 -- `lay::four_on` meets its contract: cell after cell, from its source, which stays, to its place.
-use Rattle.std.proofs.Common.{ℕ, ◌+◌, ◌*◌, ◌≤◌, ◌≡◌, refl, List, arith, rules}
+use Rattle.std.proofs.Common.{ℕ, ◌+◌, ◌*◌, ◌≤◌, ◌≡◌, refl, List, arith}
 use Rattle.paper.specs.Limits.{cell_bytes}
 use Rattle.paper.specs.Numbers.{part}
 use Rattle.laws.specs.Put.{put}

@@ -1,5 +1,5 @@
 -- `lay::lay_cells` meets its contract: zeros, A's cells or B's.
-use Rattle.std.proofs.Common.{ℕ, ◌+◌, ◌^◌, ◌≤◌, ◌<◌, List, arith, rules, take, length-take}
+use Rattle.std.proofs.Common.{ℕ, ◌+◌, ◌^◌, ◌<◌, List, arith, take, length-take}
 use Rattle.quick.specs.declared.operands.Source.{Source}
 use Rattle.quick.specs.Operands.{bytes_most}
 use Rattle.lay.specs.Lay.{Spans, blank-run, first_run, second_run}

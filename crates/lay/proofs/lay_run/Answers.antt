@@ -1,5 +1,5 @@
 -- `lay::lay_run` meets its contract: no cell, or those that `lay_cells` lays.
-use Rattle.std.proofs.Common.{arith, rules}
+use Rattle.std.proofs.Common.{arith}
 use Rattle.lay.specs.Lay.{no_run}
 use Rattle.lay.proofs.lay_run.Goals as goal
 

@@ -1,5 +1,5 @@
 -- `lay::nine_on` meets its contract: mark and word are the nine bytes, which lie before `at`.
-use Rattle.std.proofs.Common.{ℕ, ◌+◌, ◌<◌, ◌≡◌, sym, ap, ◌∙◌, List, ◌∷◌, arith, rules, length, get_or, take, length-take-le}
+use Rattle.std.proofs.Common.{ℕ, ◌≡◌, sym, ap, ◌∙◌, List, ◌∷◌, arith, length, get_or, take, length-take-le}
 use Rattle.paper.specs.Limits.{word_bytes, cell_bytes}
 use Rattle.paper.specs.Numbers.{le_bytes}
 use Rattle.laws.specs.Numbers.{Bytes, bytes_take}

@@ -1,5 +1,5 @@
 -- `lay::row_on` meets its contract: the turns leave less than four cells, so the last four begin at or before their end.
-use Rattle.std.proofs.Common.{◌-◌, ◌*◌, ◌/◌, arith, rules}
+use Rattle.std.proofs.Common.{◌-◌, ◌*◌, ◌/◌, arith}
 use Rattle.paper.specs.Limits.{cell_bytes}
 use Rattle.lay.specs.Lay.{copied_on, turn_bytes, last_cells}
 use Rattle.lay.proofs.row_on.Goals as goal

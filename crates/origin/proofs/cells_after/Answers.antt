@@ -1,5 +1,5 @@
 -- `origin::cells_after` meets its contract: from the last axis to the first, n is the number of cells of the axes done.
-use Rattle.std.proofs.Common.{ℕ, ◌+◌, ◌*◌, ◌-◌, ◌≤◌, ◌≡◌, ap₂, arith, rules, drop}
+use Rattle.std.proofs.Common.{ℕ, ◌+◌, ◌*◌, ◌-◌, ◌≡◌, ap₂, arith, drop}
 use Rattle.paper.specs.declared.Extent.{Extent}
 use Rattle.paper.specs.Answers.{axes_of}
 use Rattle.paper.specs.Axes.{cells}

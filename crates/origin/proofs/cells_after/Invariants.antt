@@ -1,10 +1,7 @@
 -- `origin::cells_after`: what its loops keep.
-use Rattle.std.proofs.Common.{ℕ, ◌+◌, ◌*◌, ◌-◌, ◌≤◌, ◌≡◌, ap₂, arith, rules, drop}
-use Rattle.paper.specs.declared.Extent.{Extent}
+use Rattle.std.proofs.Common.{◌≤◌, ◌≡◌, drop}
 use Rattle.paper.specs.Answers.{axes_of}
 use Rattle.paper.specs.Axes.{cells}
-use Rattle.laws.specs.Limits.{cells-drop, cells-pos, sound-drop}
-use Rattle.extent.specs.Rank.{axes-up, axes-end}
 use Rattle.origin.proofs.cells_after.Given as goal
 
 abbrev pub invariant-loop-i : goal.invariant-loop-i

@@ -1,5 +1,5 @@
 -- `origin::counted` meets its contract: the product of few blocks and few cells is small.
-use Rattle.std.proofs.Common.{arith, rules}
+use Rattle.std.proofs.Common.{arith}
 use Rattle.origin.specs.Counts.{counted-le}
 use Rattle.origin.proofs.counted.Goals as goal
 

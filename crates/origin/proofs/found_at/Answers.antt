@@ -1,5 +1,5 @@
 -- `origin::found_at` meets its contract: the positions of the coordinate are the same beside both extents, and the test picks the case.
-use Rattle.std.proofs.Common.{ℕ, ◌+◌, ◌-◌, ◌≡◌, ap, sym, ◌∙◌, List, arith, rules, take}
+use Rattle.std.proofs.Common.{ℕ, ◌+◌, ◌-◌, ◌≡◌, ap, sym, ◌∙◌, List, arith, take}
 use borrow.Author.Tests.{not-true, not-false}
 use Rattle.laws.specs.Places.{inside-true}
 use Rattle.paper.specs.declared.Axis.{Axis}

@@ -1,5 +1,5 @@
 -- `origin::in_first` meets its contract: A's cell is the one found.
-use Rattle.std.proofs.Common.{ap, sym, ◌∙◌, rules}
+use Rattle.std.proofs.Common.{ap, sym, ◌∙◌}
 use Rattle.origin.specs.Origins.{in_a}
 use Rattle.origin.proofs.in_first.Goals as goal
 

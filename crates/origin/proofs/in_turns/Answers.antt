@@ -1,5 +1,5 @@
 -- `origin::in_turns` meets its contract: each side of the test is a side of the turn.
-use Rattle.std.proofs.Common.{rules, lt-ltb, le-ltb}
+use Rattle.std.proofs.Common.{lt-ltb, le-ltb}
 use Rattle.origin.specs.Counts.{first-countable, second-countable}
 use Rattle.origin.proofs.in_turns.Goals as goal
 

@@ -1,5 +1,5 @@
 -- `origin::laid_over` meets its contract: B's cell is the one found, A's is the one given.
-use Rattle.std.proofs.Common.{ap, sym, ◌∙◌, rules}
+use Rattle.std.proofs.Common.{ap, sym, ◌∙◌}
 use Rattle.origin.specs.Origins.{over_a}
 use Rattle.origin.proofs.laid_over.Goals as goal
 

@@ -1,5 +1,5 @@
 -- `origin::origin_of` meets its contract: each arm answers its own line of `Comes`.
-use Rattle.std.proofs.Common.{ℕ, ◌≡◌, sym, ◌∙◌, rules}
+use Rattle.std.proofs.Common.{ℕ, ◌≡◌, sym, ◌∙◌}
 use Rattle.paper.specs.Numbers.{part, position_at}
 use Rattle.paper.specs.Recipe.{result_axes}
 use Rattle.laws.specs.Answers.{axes-few}

@@ -1,5 +1,5 @@
 -- `origin::patch_of` meets its contract: after i turns the first i axes are there.
-use Rattle.std.proofs.Common.{ℕ, ◌+◌, ◌-◌, ◌≤◌, ◌<◌, ◌≡◌, ap, ◌∙◌, List, arith, rules, length, get_or, take, take_all}
+use Rattle.std.proofs.Common.{ℕ, ◌+◌, ◌-◌, ◌≤◌, ◌<◌, ◌≡◌, ap, ◌∙◌, List, arith, length, get_or, take_all}
 use Rattle.paper.specs.declared.Axis.{Axis}
 use Rattle.paper.specs.Limits.{most_axes}
 use Rattle.paper.specs.Answers.{axes_of, extent_of}

@@ -1,12 +1,8 @@
 -- `origin::patch_of`: what its loops keep.
-use Rattle.std.proofs.Common.{ℕ, ◌+◌, ◌-◌, ◌≤◌, ◌<◌, ◌≡◌, ap, ◌∙◌, List, arith, rules, length, get_or, take, take_all}
-use Rattle.paper.specs.declared.Axis.{Axis}
-use Rattle.paper.specs.Limits.{most_axes}
+use Rattle.std.proofs.Common.{◌-◌, ◌≤◌, ◌≡◌, take}
 use Rattle.paper.specs.Answers.{axes_of, extent_of}
-use Rattle.paper.specs.Axes.{no_axis, put_in}
-use Rattle.laws.specs.Answers.{extent-axes}
-use Rattle.shape.specs.Built.{room_for, first_more}
-use Rattle.origin.specs.Patches.{spot, length-in}
+use Rattle.paper.specs.Axes.{put_in}
+use Rattle.origin.specs.Patches.{spot}
 use Rattle.origin.proofs.patch_of.Given as goal
 
 abbrev pub invariant-loop-i : goal.invariant-loop-i

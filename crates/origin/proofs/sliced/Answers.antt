@@ -1,5 +1,4 @@
 -- `origin::sliced` meets its contract: blocks and layers count as the definition has it.
-use Rattle.std.proofs.Common.{rules}
 use Rattle.paper.specs.Answers.{axes_of}
 use Rattle.origin.specs.Counts.{Around, low-enough, layers-countable, slice-countable, slice-told}
 use Rattle.origin.proofs.sliced.Goals as goal

@@ -1,5 +1,5 @@
 -- `pack::pack` meets its promise: by the version told, or refused.
-use Rattle.std.proofs.Common.{sym, ap, ◌∙◌, rules}
+use Rattle.std.proofs.Common.{sym, ap, ◌∙◌}
 use Rattle.versions.specs.Told.{told_sizes}
 use Rattle.pack.specs.Laid.{shapes_of}
 use Rattle.pack.specs.Laying.{told_none, told-one}

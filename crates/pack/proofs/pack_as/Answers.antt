@@ -25,15 +25,15 @@ module _ (c : After-judged-verdict) where
 -- and nothing refused
 module _ (c : Else-refusal-ne0) where
   abbrev p : After-judged-verdict
-  p = record { before = c.before.before.before.before; type_inv = record { out = c.slice_known-1.given; cells = c.shared_slice_known-1.given; } }
+  p = record { before = c.before.before.before.before; type_inv = record { out = c.slice_known-1.given; cells = c.shared_slice_known-1.given } }
 
 -- the mark is written
 module _ (c : After-put_mark) where
   abbrev room : Else-out-long
-  room = record { before = c.before.before.before; type_inv = record { out = c.slice_known-1.given; cells = c.shared_slice_known-1.given; } }
+  room = record { before = c.before.before.before; type_inv = record { out = c.slice_known-1.given; cells = c.shared_slice_known-1.given } }
 
   abbrev good : Else-refusal-ne0
-  good = record { before = c.before.before.before.before; type_inv = record { out = c.slice_known-1.given; cells = c.shared_slice_known-1.given; } }
+  good = record { before = c.before.before.before.before; type_inv = record { out = c.slice_known-1.given; cells = c.shared_slice_known-1.given } }
 
 pub returns-then-out-long : goal.returns-then-out-long
 returns-then-out-long c =

@@ -1,10 +1,10 @@
 -- `place::coordinate_of` meets its contract.
 -- From the last axis to the first: the positions from i on are those of what is left over within the axes from i on.
-use Rattle.std.proofs.Common.{ℕ, ◌%◌, ◌*◌, ◌+◌, ◌-◌, ◌/◌, ◌<◌, ◌≤◌, List, ◌∷◌, ap, ap₂, refl, sym, ◌∙◌, ◌≡◌, mod-lt, arith, rules, drop, length, length-set, replicate, take}
+use Rattle.std.proofs.Common.{ℕ, ◌%◌, ◌*◌, ◌+◌, ◌-◌, ◌/◌, ◌<◌, ◌≤◌, List, ◌∷◌, ap, ap₂, refl, sym, ◌∙◌, mod-lt, arith, length, length-set, replicate, take}
 use Rattle.laws.specs.Limits.{Sound}
 use Rattle.laws.specs.Loops.{at_offset-down, at_offset-none, at_offset-whole, drop-first, drop-none, left_down, left-none, set-down, sound-first}
 use Rattle.extent.specs.Rank.{axis_no}
-use Rattle.paper.specs.Axes.{at, at_offset, cells, no_axis}
+use Rattle.paper.specs.Axes.{at_offset, cells, no_axis}
 use Rattle.paper.specs.Limits.{most_axes, reach}
 use Rattle.paper.specs.declared.Axis.{Axis}
 use Rattle.place.proofs.coordinate_of.Goals as goal

@@ -1,11 +1,7 @@
 -- `place::coordinate_of`: what its loops keep.
-use Rattle.std.proofs.Common.{ℕ, ◌%◌, ◌*◌, ◌+◌, ◌-◌, ◌/◌, ◌<◌, ◌≤◌, List, ◌∷◌, ap, ap₂, refl, sym, ◌∙◌, ◌≡◌, mod-lt, arith, rules, drop, length, length-set, replicate, take}
-use Rattle.laws.specs.Limits.{Sound}
-use Rattle.laws.specs.Loops.{at_offset-down, at_offset-none, at_offset-whole, drop-first, drop-none, left_down, left-none, set-down, sound-first}
-use Rattle.extent.specs.Rank.{axis_no}
-use Rattle.paper.specs.Axes.{at, at_offset, cells, no_axis}
-use Rattle.paper.specs.Limits.{most_axes, reach}
-use Rattle.paper.specs.declared.Axis.{Axis}
+use Rattle.std.proofs.Common.{◌%◌, ◌/◌, ◌≤◌, ◌≡◌, drop, length, take}
+use Rattle.paper.specs.Axes.{at_offset, cells}
+use Rattle.paper.specs.Limits.{most_axes}
 use Rattle.place.proofs.coordinate_of.Given as goal
 
 abbrev pub invariant-loop-i : goal.invariant-loop-i

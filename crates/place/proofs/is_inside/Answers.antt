@@ -1,6 +1,6 @@
 -- `place::is_inside` meets its contract.
 -- The loop keeps the test of the axes left equal to the whole test.
-use Rattle.std.proofs.Common.{ℕ, ◌+◌, ◌-◌, ◌≤◌, ◌&&◌, ap₂, sym, ◌∙◌, ◌≡◌, arith, rules, drop, get_or, length, take}
+use Rattle.std.proofs.Common.{ℕ, ◌+◌, ◌≤◌, ◌&&◌, ap₂, sym, ◌∙◌, ◌≡◌, arith, rules, drop, get_or, length, take}
 use borrow.Author.Tests.{not-false, not-true}
 use Rattle.laws.specs.Loops.{inside-end, inside-up}
 use Rattle.extent.specs.Rank.{axis_no}

@@ -1,14 +1,8 @@
 -- `place::is_inside`: what its loops keep.
-use Rattle.std.proofs.Common.{ℕ, ◌+◌, ◌-◌, ◌≤◌, ◌&&◌, ap₂, sym, ◌∙◌, ◌≡◌, arith, rules, drop, get_or, length, take}
-use borrow.Author.Tests.{not-false, not-true}
-use Rattle.laws.specs.Loops.{inside-end, inside-up}
-use Rattle.extent.specs.Rank.{axis_no}
+use Rattle.std.proofs.Common.{◌-◌, ◌≤◌, ◌≡◌, drop, take}
 use Rattle.paper.specs.Answers.{axes_of}
-use Rattle.paper.specs.Axes.{inside, no_axis, on_axis}
-use Rattle.paper.specs.Limits.{most_axes}
-use Rattle.paper.specs.declared.Extent.{Extent}
-use Rattle.place.specs.Positions.{first-positions, positions_of}
-use Rattle.place.specs.declared.Coordinate.{Coordinate}
+use Rattle.paper.specs.Axes.{inside}
+use Rattle.place.specs.Positions.{positions_of}
 use Rattle.place.proofs.is_inside.Given as goal
 
 abbrev pub invariant-loop-i : goal.invariant-loop-i

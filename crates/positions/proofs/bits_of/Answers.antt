@@ -1,6 +1,5 @@
 -- `positions::bits_of` meets its contract.
 -- Below 0 the bits are two's complement; from 0 on they are the number.
-use Rattle.std.proofs.Common.{rules}
 use Rattle.positions.specs.Moves.{bits_below, bits-from}
 use Rattle.positions.proofs.bits_of.Goals as goal
 

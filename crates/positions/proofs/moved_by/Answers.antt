@@ -1,6 +1,6 @@
 -- `positions::moved_by` meets its contract.
 -- The two halves of the bits.
-use Rattle.std.proofs.Common.{◌∙◌, rules}
+use Rattle.std.proofs.Common.{◌∙◌}
 use Rattle.positions.specs.Moves.{moved_down, moved_up}
 use Rattle.positions.proofs.moved_by.Goals as goal
 

@@ -1,6 +1,6 @@
 -- `positions::position_at` meets its contract.
 -- The distance of the number at the byte.
-use Rattle.std.proofs.Common.{ℕ, ap, ◌∙◌, rules, w32, to_z}
+use Rattle.std.proofs.Common.{ℕ, ap, ◌∙◌, w32, to_z}
 use Rattle.paper.specs.Numbers.{distance}
 use Rattle.positions.proofs.position_at.Goals as goal
 

@@ -1,5 +1,4 @@
 -- `recipe::empty_plan` meets its contract.
-use Rattle.std.proofs.Common.{rules}
 use Rattle.recipe.proofs.empty_plan.Goals as goal
 
 pub returns : goal.returns

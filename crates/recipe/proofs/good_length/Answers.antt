@@ -1,5 +1,5 @@
 -- `recipe::good_length` meets its contract.
-use Rattle.std.proofs.Common.{eq-eqb, ne_eqb, rules, arith}
+use Rattle.std.proofs.Common.{eq-eqb, ne_eqb, arith}
 use Rattle.recipe.proofs.good_length.Goals as goal
 
 pub returns-then-n-step-ne0 : goal.returns-then-n-step-ne0

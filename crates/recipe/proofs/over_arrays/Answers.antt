@@ -1,7 +1,7 @@
 -- `recipe::over_arrays` meets its contract: one array after the other.
-use Rattle.std.proofs.Common.{◌-◌, ap, ◌∙◌, arith, rules}
+use Rattle.std.proofs.Common.{ap, ◌∙◌, arith}
 use Rattle.paper.specs.declared.Refusal.{Refusal}
-use Rattle.recipe.specs.Whole.{empty_plan, Begun, begun-none, begun_more}
+use Rattle.recipe.specs.Whole.{empty_plan, begun-none, begun_more}
 use Rattle.recipe.proofs.over_arrays.Goals as goal
 
 pub loop-plan-init : goal.loop-plan-init

@@ -1,7 +1,6 @@
 -- `recipe::over_arrays`: what its loops keep.
-use Rattle.std.proofs.Common.{◌-◌, ap, ◌∙◌, arith, rules}
-use Rattle.paper.specs.declared.Refusal.{Refusal}
-use Rattle.recipe.specs.Whole.{empty_plan, Begun, begun-none, begun_more}
+use Rattle.std.proofs.Common.{◌-◌}
+use Rattle.recipe.specs.Whole.{Begun}
 use Rattle.recipe.proofs.over_arrays.Given as goal
 
 abbrev pub invariant-loop-plan : goal.invariant-loop-plan

@@ -1,5 +1,5 @@
 -- `recipe::plan_recipe` meets its contract: the loop over the steps, and what each way out answers.
-use Rattle.std.proofs.Common.{ℕ, ◌+◌, ◌-◌, ◌*◌, ◌/◌, ◌%◌, ◌≤◌, ◌<◌, ◌≡◌, refl, sym, ap, subst, ◌∙◌, true, false, ◌&&◌, List, [], map, div-add-mod', arith, length, get_or, take, set, rules, eqb}
+use Rattle.std.proofs.Common.{ℕ, ◌+◌, ◌*◌, ◌/◌, ◌%◌, ◌≤◌, ◌<◌, ◌≡◌, refl, sym, ap, subst, ◌∙◌, true, false, ◌&&◌, List, [], map, div-add-mod', arith, length, get_or, take, set, eqb}
 use borrow.Author.Tests.{not-true, not-false}
 use Rattle.paper.specs.declared.Version.{Version}
 use Rattle.paper.specs.declared.Sizes.{Sizes}
@@ -126,7 +126,7 @@ module _ (c : After-plan_step-one) where
 -- it has no refusal
 module _ (c : Else-one-ne0) where
   abbrev judged : After-plan_step-one
-  judged = record { before = c.before.before.before; type_inv = record { s = c.shared_slice_known-in-loop-plan-2-1.given; } }
+  judged = record { before = c.before.before.before; type_inv = record { s = c.shared_slice_known-in-loop-plan-2-1.given } }
 
   abbrev grown : Plan
   grown = with_step (p judged) judged.plan_step-one.result

@@ -1,8 +1,6 @@
 -- `refer::coordinate_at` meets its contract.
-use Rattle.std.proofs.Common.{length, take, get_or, length-set, map, ◌≡◌, refl, arith, rules, w32, SFits, ◌-◌, ◌≤◌}
+use Rattle.std.proofs.Common.{get_or, length-set, refl, arith, rules, w32, SFits}
 use Rattle.refer.specs.Places.{coordinate-more, coordinate-end}
-use Rattle.paper.specs.Limits.{most_axes}
-use Rattle.paper.specs.Numbers.{distance}
 use borrow.Author.Rules.{sfits_of}
 use mir.ValLaws.{to_z-of_z}
 use lib.IntN.{pos}

@@ -1,11 +1,7 @@
 -- `refer::coordinate_at`: what its loops keep.
-use Rattle.std.proofs.Common.{length, take, get_or, length-set, map, ◌≡◌, refl, arith, rules, w32, SFits, ◌-◌, ◌≤◌}
-use Rattle.refer.specs.Places.{coordinate-more, coordinate-end}
+use Rattle.std.proofs.Common.{length, take, map, ◌≡◌, ◌-◌, ◌≤◌}
 use Rattle.paper.specs.Limits.{most_axes}
 use Rattle.paper.specs.Numbers.{distance}
-use borrow.Author.Rules.{sfits_of}
-use mir.ValLaws.{to_z-of_z}
-use lib.IntN.{pos}
 use Rattle.refer.proofs.coordinate_at.Given as goal
 
 abbrev pub invariant-loop-i : goal.invariant-loop-i

@@ -1,5 +1,5 @@
 -- `refer::distance_to` meets its contract: a signed number's bits read back are the number. Assumes nothing.
-use Rattle.std.proofs.Common.{w32, rules}
+use Rattle.std.proofs.Common.{w32}
 use mir.ValLaws.{to_z-of_z}
 use Rattle.refer.proofs.distance_to.Goals as goal
 

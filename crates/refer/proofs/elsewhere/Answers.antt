@@ -1,5 +1,4 @@
 -- `refer::elsewhere` meets its contract.
-use Rattle.std.proofs.Common.{rules}
 use Rattle.refer.proofs.elsewhere.Goals as goal
 
 pub returns-in-At : goal.returns-in-At

@@ -1,5 +1,4 @@
 -- `refer::held_cell` meets its contract.
-use Rattle.std.proofs.Common.{rules}
 use Rattle.refer.proofs.held_cell.Goals as goal
 
 pub returns-in-Is : goal.returns-in-Is

@@ -1,5 +1,4 @@
 -- `refer::none_chosen` meets its contract.
-use Rattle.std.proofs.Common.{rules}
 use Rattle.refer.proofs.none_chosen.Goals as goal
 
 pub returns : goal.returns

@@ -1,5 +1,4 @@
 -- `refer::outside` meets its contract.
-use Rattle.std.proofs.Common.{rules}
 use Rattle.refer.proofs.outside.Goals as goal
 
 pub returns : goal.returns

@@ -1,5 +1,5 @@
 -- `refer::refer` meets its contract: each way out by the law of its test.
-use Rattle.std.proofs.Common.{ℕ, ◌≤◌, List, [], ◌∷◌, map, ⊎_elim, ◌≡◌, refl, sym, ◌∙◌, arith, rules, length}
+use Rattle.std.proofs.Common.{ℕ, ◌≤◌, List, [], ◌∷◌, map, ⊎_elim, ◌≡◌, refl, sym, ◌∙◌, arith, length}
 use denote.Enum.Declared.{tag_of}
 use types.Run.{OneOf}
 use lib.IntN.{ℤ}

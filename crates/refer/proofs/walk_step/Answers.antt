@@ -1,5 +1,5 @@
 -- `refer::walk_step` meets its contract: each way out by where the walking place lies among the cells.
-use Rattle.std.proofs.Common.{ℕ, ◌∙◌, arith, rules}
+use Rattle.std.proofs.Common.{ℕ, ◌∙◌, arith}
 use Rattle.bundle.specs.Read.{Fit}
 use Rattle.refer.specs.Places.{none_before, none-past, walk_refused, walk-outside, walk_end, walk-cell}
 use Rattle.refer.proofs.walk_step.Goals as goal

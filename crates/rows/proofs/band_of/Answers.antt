@@ -1,5 +1,5 @@
 -- `rows::band_of` meets its contract: one, two or three runs, and the pattern of lines, make the band.
-use Rattle.std.proofs.Common.{◌+◌, ◌-◌, ◌≤◌, ◌<◌, arith, rules}
+use Rattle.std.proofs.Common.{◌+◌, ◌-◌, ◌≤◌, arith}
 use Rattle.paper.specs.Limits.{most_cells}
 use Rattle.paper.specs.Answers.{axes_of}
 use Rattle.paper.specs.Axes.{cells}

@@ -1,5 +1,5 @@
 -- `rows::lines_left` meets its contract: each side of the test is a side of the definition.
-use Rattle.std.proofs.Common.{rules, lt-ltb, le-ltb}
+use Rattle.std.proofs.Common.{lt-ltb, le-ltb}
 use Rattle.rows.proofs.lines_left.Goals as goal
 
 pub returns-then-left-line : goal.returns-then-left-line

@@ -1,5 +1,5 @@
 -- `rows::pattern_of` meets its contract: each arm answers for its move, by where the move's cells come from.
-use Rattle.std.proofs.Common.{ℕ, ◌-◌, ◌<◌, ◌≡◌, ap, ◌∙◌, arith, rules}
+use Rattle.std.proofs.Common.{ℕ, ◌-◌, ◌≡◌, ap, ◌∙◌, arith}
 use Rattle.paper.specs.Numbers.{part, position_at}
 use Rattle.paper.specs.Recipe.{result_axes}
 use Rattle.paper.specs.Answers.{axes_of}

@@ -1,6 +1,5 @@
 -- `rows::run_at` meets its contract: the cells from k on, as many as are asked for.
-use Rattle.std.proofs.Common.{◌<◌, ap, sym, ◌∙◌, arith, rules}
-use Rattle.paper.specs.Axes.{cells}
+use Rattle.std.proofs.Common.{ap, sym, ◌∙◌, arith}
 use Rattle.rows.specs.Bands.{onward}
 use Rattle.rows.proofs.run_at.Goals as goal
 

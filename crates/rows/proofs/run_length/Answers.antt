@@ -1,5 +1,5 @@
 -- `rows::run_length` meets its contract: each arm answers for its move, by where the move's cells come from.
-use Rattle.std.proofs.Common.{ℕ, ◌≡◌, ◌∙◌, mod-lt, arith, rules}
+use Rattle.std.proofs.Common.{ℕ, ◌≡◌, ◌∙◌, mod-lt, arith}
 use Rattle.paper.specs.Numbers.{part, position_at}
 use Rattle.paper.specs.Recipe.{result_axes}
 use Rattle.laws.specs.Answers.{axes-few}

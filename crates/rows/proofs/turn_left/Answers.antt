@@ -1,5 +1,5 @@
 -- `rows::turn_left` meets its contract: each side of the test is a side of the turn.
-use Rattle.std.proofs.Common.{◌+◌, ◌%◌, ◌<◌, mod-lt, arith, rules, lt-ltb, le-ltb}
+use Rattle.std.proofs.Common.{◌+◌, ◌%◌, ◌<◌, mod-lt, arith, lt-ltb, le-ltb}
 use Rattle.rows.proofs.turn_left.Goals as goal
 use Rattle.rows.proofs.turn_left.Goals.{Start}
 

@@ -1,11 +1,10 @@
 -- `shape::anew` meets its contract.
 -- The loop builds the extent of the axes made anew so far.
-use Rattle.std.proofs.Common.{ℕ, ◌*◌, ◌+◌, ◌-◌, ◌<◌, ◌≤◌, List, ap, ap₂, ◌∙◌, ◌≡◌, arith, rules, drop, length, take, take_all}
+use Rattle.std.proofs.Common.{ℕ, ◌*◌, ◌+◌, ◌<◌, ◌≤◌, List, ap, ap₂, ◌∙◌, ◌≡◌, arith, drop, length, take_all}
 use Rattle.laws.specs.Answers.{extent-axes}
 use Rattle.extent.specs.Rank.{axis-first}
 use Rattle.extent.specs.Tests.{sound-axis}
 use Rattle.paper.specs.Answers.{axes_of, extent_of}
-use Rattle.paper.specs.Axes.{at, width}
 use Rattle.paper.specs.Limits.{most_axes}
 use Rattle.paper.specs.declared.Axis.{Axis}
 use Rattle.shape.specs.Built.{first_more, room_for}

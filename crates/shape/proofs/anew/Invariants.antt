@@ -1,14 +1,7 @@
 -- `shape::anew`: what its loops keep.
-use Rattle.std.proofs.Common.{ℕ, ◌*◌, ◌+◌, ◌-◌, ◌<◌, ◌≤◌, List, ap, ap₂, ◌∙◌, ◌≡◌, arith, rules, drop, length, take, take_all}
-use Rattle.laws.specs.Answers.{extent-axes}
-use Rattle.extent.specs.Rank.{axis-first}
-use Rattle.extent.specs.Tests.{sound-axis}
+use Rattle.std.proofs.Common.{◌-◌, ◌≤◌, ◌≡◌, take}
 use Rattle.paper.specs.Answers.{axes_of, extent_of}
-use Rattle.paper.specs.Axes.{at, width}
-use Rattle.paper.specs.Limits.{most_axes}
-use Rattle.paper.specs.declared.Axis.{Axis}
-use Rattle.shape.specs.Built.{first_more, room_for}
-use Rattle.shape.specs.Renewed.{bytes_for, fits, fresh, length-renewed, renewed, renewed-at}
+use Rattle.shape.specs.Renewed.{renewed}
 use Rattle.shape.proofs.anew.Given as goal
 
 abbrev pub invariant-loop-i : goal.invariant-loop-i

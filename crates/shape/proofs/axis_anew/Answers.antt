@@ -1,6 +1,6 @@
 -- `shape::axis_anew` meets its contract.
 -- Each change by its own function.
-use Rattle.std.proofs.Common.{ap, subst, sym, ◌∙◌, ◌≡◌, rules, drop}
+use Rattle.std.proofs.Common.{ap, subst, sym, ◌∙◌, ◌≡◌, drop}
 use Rattle.positions.specs.Runs.{Holds}
 use Rattle.shape.specs.Renewed.{bytes_for, fresh}
 use Rattle.shape.specs.declared.Change.TheVariants.{Limits, Moved}

@@ -1,6 +1,6 @@
 -- `shape::glued_along` meets its contract.
 -- The store puts the longer axis in its place; both limits are in range, so the sum fits.
-use Rattle.std.proofs.Common.{◌-◌, ◌<◌, ap, arith, rules}
+use Rattle.std.proofs.Common.{◌-◌, ◌<◌, ap, arith}
 use Rattle.laws.specs.Answers.{axes-few}
 use Rattle.extent.specs.Tests.{sound-axis}
 use Rattle.paper.specs.Answers.{axes_of}

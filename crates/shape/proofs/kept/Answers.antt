@@ -1,6 +1,5 @@
 -- `shape::kept` meets its contract.
 -- The test of the definition.
-use Rattle.std.proofs.Common.{rules}
 use Rattle.shape.proofs.kept.Goals as goal
 
 pub returns-then-out : goal.returns-then-out

@@ -1,6 +1,6 @@
 -- `shape::limits_at` meets its contract.
 -- The two positions of the pair.
-use Rattle.std.proofs.Common.{ℕ, List, ap, ap₂, sym, ◌∙◌, rules, take, drop-drop, w32, to_z}
+use Rattle.std.proofs.Common.{ℕ, List, ap, ap₂, sym, ◌∙◌, take, drop-drop, w32, to_z}
 use Rattle.paper.specs.Axes.{limited}
 use Rattle.paper.specs.Limits.{limit_bytes}
 use Rattle.paper.specs.Numbers.{distance, le_of}

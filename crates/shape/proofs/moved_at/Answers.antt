@@ -1,6 +1,6 @@
 -- `shape::moved_at` meets its contract.
 -- Both limits moved by the amount.
-use Rattle.std.proofs.Common.{ℕ, ap, ap₂, ◌∙◌, rules, w32, to_z}
+use Rattle.std.proofs.Common.{ℕ, ap, ap₂, ◌∙◌, w32, to_z}
 use Rattle.paper.specs.Axes.{limited}
 use Rattle.paper.specs.Numbers.{moved}
 use Rattle.shape.proofs.moved_at.Goals as goal

@@ -1,6 +1,6 @@
 -- `shape::removed` meets its contract.
 -- The loop builds the extent of the axes passed, without the one.
-use Rattle.std.proofs.Common.{◌-◌, ◌<◌, ◌≤◌, List, ap, sym, ◌∙◌, ◌≡◌, arith, rules, length, take, take_all}
+use Rattle.std.proofs.Common.{◌<◌, ◌≤◌, List, ap, sym, ◌∙◌, arith, length, take_all}
 use Rattle.laws.specs.Answers.{extent-axes}
 use Rattle.extent.specs.Rank.{axis-first}
 use Rattle.paper.specs.Answers.{axes_of, extent_of}

@@ -1,5 +1,5 @@
 -- `stretch::glue_refusal` meets its contract: each way out by the paper's tests up to it.
-use Rattle.std.proofs.Common.{◌≡◌, sym, ◌∙◌, true, List, arith, rules, eq-eqb, ne_eqb, length}
+use Rattle.std.proofs.Common.{◌≡◌, sym, ◌∙◌, true, List, arith, eq-eqb, ne_eqb, length}
 use borrow.Author.Tests.{not-true, not-false}
 use Rattle.paper.specs.declared.Name.{Name}
 use Rattle.paper.specs.declared.Axis.{Axis}

@@ -1,5 +1,5 @@
 -- `stretch::in_turn` meets its contract: a side's cell is no further on than the cell of both, so the numbers fit.
-use Rattle.std.proofs.Common.{◌≤◌, ◌≡◌, sym, ap, ◌∙◌, arith, rules}
+use Rattle.std.proofs.Common.{◌≤◌, ◌≡◌, sym, ap, ◌∙◌, arith}
 use native.Mathlib.Nat.{mod-le}
 use Rattle.paper.specs.Limits.{most_cells}
 use Rattle.origin.specs.declared.Origin.{Origin}

@@ -1,5 +1,5 @@
 -- `stretch::part_of` meets its contract: the part lies in its buffer, and is cut out of it.
-use Rattle.std.proofs.Common.{◌≡◌, arith, rules, length}
+use Rattle.std.proofs.Common.{◌≡◌, arith, length}
 use Rattle.paper.specs.declared.Part.{Part}
 use Rattle.paper.specs.Stretch.{handed_out}
 use Rattle.stretch.specs.Turns.{InBuffer}

@@ -1,5 +1,5 @@
 -- `stretch::plan_as` meets its contract: each way out by the paper's tests up to it.
-use Rattle.std.proofs.Common.{◌+◌, ◌/◌, ◌≤◌, arith, ◌≡◌, sym, ◌∙◌, true, rules}
+use Rattle.std.proofs.Common.{◌+◌, ◌/◌, ◌≤◌, arith, ◌≡◌, sym, ◌∙◌, true}
 use borrow.Author.Tests.{not-true, not-false}
 use Rattle.paper.specs.Limits.{most_cells, cell_bytes, sizes_of}
 use Rattle.paper.specs.Refusals.{between}

@@ -1,5 +1,5 @@
 -- `stretch::plan_stretch` meets its contract: the version told is one of the two, or refused.
-use Rattle.std.proofs.Common.{◌≡◌, sym, ap, ◌∙◌, rules}
+use Rattle.std.proofs.Common.{◌≡◌, sym, ap, ◌∙◌}
 use Rattle.paper.specs.Bundle.{version_told}
 use Rattle.versions.specs.declared.Told.{Told}
 use Rattle.versions.specs.Told.{told_sizes}

@@ -1,5 +1,5 @@
 -- `stretch::side_refusal` meets its contract: each way out by the paper's tests up to it.
-use Rattle.std.proofs.Common.{ℕ, ◌*◌, ◌≡◌, sym, ap, ◌∙◌, Bool, true, List, rules, eq-eqb, ne_eqb, length}
+use Rattle.std.proofs.Common.{ℕ, ◌*◌, ◌≡◌, sym, ap, ◌∙◌, Bool, true, List, eq-eqb, ne_eqb, length}
 use borrow.Author.Tests.{not-true, not-false}
 use Rattle.paper.specs.declared.Name.{Name}
 use Rattle.paper.specs.declared.Axis.{Axis}

@@ -1,5 +1,5 @@
 -- `stretch::stretch` meets its contract: the plan's part lies in its buffer and is handed out, or its refusal is told.
-use Rattle.std.proofs.Common.{◌≡◌, refl, sym, ap, subst, ◌∙◌, rules}
+use Rattle.std.proofs.Common.{◌≡◌, refl, sym, ap, subst, ◌∙◌}
 use Rattle.paper.specs.declared.StretchAnswer.{StretchAnswer}
 use Rattle.paper.specs.Stretch.{Side, stretch, handed_out}
 use Rattle.paper.specs.Answers.{stretch_said}

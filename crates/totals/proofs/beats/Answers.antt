@@ -1,5 +1,4 @@
 -- `totals::beats` meets its contract.
-use Rattle.std.proofs.Common.{rules}
 use Rattle.totals.proofs.beats.Goals as goal
 
 pub returns-then-largest : goal.returns-then-largest

@@ -1,8 +1,7 @@
 -- `totals::best_cell` meets its contract.
-use Rattle.std.proofs.Common.{◌≡◌, sym, ◌∙◌, arith, rules, ◌-◌, ◌≤◌}
-use Rattle.paper.specs.Totals.{best_of, filled_from}
-use Rattle.totals.specs.Cells.{cells_at, filled_left, filled_none}
-use Rattle.totals.specs.Best.{beats_of, best_on, best-start, best-next, best-end}
+use Rattle.std.proofs.Common.{sym, ◌∙◌, arith}
+use Rattle.totals.specs.Cells.{filled_none}
+use Rattle.totals.specs.Best.{best-start, best-next, best-end}
 use Rattle.totals.proofs.best_cell.Goals as goal
 
 pub loop-i-preserved : goal.loop-i-preserved

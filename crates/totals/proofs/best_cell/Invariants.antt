@@ -1,8 +1,8 @@
 -- `totals::best_cell`: what its loops keep.
-use Rattle.std.proofs.Common.{◌≡◌, sym, ◌∙◌, arith, rules, ◌-◌, ◌≤◌}
+use Rattle.std.proofs.Common.{◌≡◌, ◌-◌, ◌≤◌}
 use Rattle.paper.specs.Totals.{best_of, filled_from}
-use Rattle.totals.specs.Cells.{cells_at, filled_left, filled_none}
-use Rattle.totals.specs.Best.{beats_of, best_on, best-start, best-next, best-end}
+use Rattle.totals.specs.Cells.{cells_at, filled_left}
+use Rattle.totals.specs.Best.{beats_of, best_on}
 use Rattle.totals.proofs.best_cell.Given as goal
 
 abbrev pub invariant-loop-i : goal.invariant-loop-i

@@ -1,5 +1,5 @@
 -- `totals::better` meets its contract.
-use Rattle.std.proofs.Common.{◌≡◌, sym, ◌∙◌, false, rules}
+use Rattle.std.proofs.Common.{◌≡◌, sym, ◌∙◌, false}
 use Rattle.paper.specs.Operators.{empty_cell}
 use Rattle.totals.proofs.better.Goals as goal
 use Rattle.totals.proofs.better.Goals.{Else-is_empty, Else-is_empty-2}

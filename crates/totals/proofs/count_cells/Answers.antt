@@ -1,6 +1,6 @@
 -- `totals::count_cells` meets its contract: the cells left and those counted are all.
-use Rattle.std.proofs.Common.{◌+◌, ◌-◌, ◌≤◌, ◌≡◌, arith, rules, drop}
-use Rattle.totals.specs.Cells.{cells_at, counted, counted_next, counted_none, tally-one}
+use Rattle.std.proofs.Common.{◌≤◌, arith}
+use Rattle.totals.specs.Cells.{counted_next, counted_none, tally-one}
 use Rattle.totals.proofs.count_cells.Goals as goal
 use Rattle.totals.proofs.count_cells.Goals.{After-tally-count, Start}
 

@@ -1,6 +1,6 @@
 -- `totals::count_cells`: what its loops keep.
-use Rattle.std.proofs.Common.{◌+◌, ◌-◌, ◌≤◌, ◌≡◌, arith, rules, drop}
-use Rattle.totals.specs.Cells.{cells_at, counted, counted_next, counted_none, tally-one}
+use Rattle.std.proofs.Common.{◌+◌, ◌-◌, ◌≤◌, ◌≡◌, drop}
+use Rattle.totals.specs.Cells.{cells_at, counted}
 use Rattle.totals.proofs.count_cells.Given as goal
 
 abbrev pub invariant-loop-i : goal.invariant-loop-i

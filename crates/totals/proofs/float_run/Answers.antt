@@ -1,10 +1,10 @@
 -- `totals::float_run` meets its contract.
-use Rattle.std.proofs.Common.{◌≡◌, refl, List, arith, rules, ℕ, ◌+◌, ◌-◌, ◌≤◌, ◌<◌}
+use Rattle.std.proofs.Common.{◌≡◌, refl, List, arith, ℕ, ◌+◌, ◌<◌}
 use Rattle.paper.specs.declared.Cell.{Cell}
 use Rattle.paper.specs.Limits.{most_cells}
-use Rattle.paper.specs.Totals.{Numbered, filled_from}
-use Rattle.totals.specs.Cells.{cells_at, one_at, in_front, filled_left, filled_next, filled_none}
-use Rattle.totals.specs.Sums.{Going, MeanNext, going_next, going-fails}
+use Rattle.paper.specs.Totals.{Numbered}
+use Rattle.totals.specs.Cells.{one_at, in_front, filled_left, filled_next, filled_none}
+use Rattle.totals.specs.Sums.{MeanNext, going_next, going-fails}
 use Rattle.totals.proofs.float_run.Goals as goal
 use Rattle.totals.proofs.float_run.Goals.{After-mean_next-added, In-loop-i, Start}
 

@@ -1,10 +1,8 @@
 -- `totals::float_run`: what its loops keep.
-use Rattle.std.proofs.Common.{◌≡◌, refl, List, arith, rules, ℕ, ◌+◌, ◌-◌, ◌≤◌, ◌<◌}
-use Rattle.paper.specs.declared.Cell.{Cell}
-use Rattle.paper.specs.Limits.{most_cells}
-use Rattle.paper.specs.Totals.{Numbered, filled_from}
-use Rattle.totals.specs.Cells.{cells_at, one_at, in_front, filled_left, filled_next, filled_none}
-use Rattle.totals.specs.Sums.{Going, MeanNext, going_next, going-fails}
+use Rattle.std.proofs.Common.{◌-◌, ◌≤◌}
+use Rattle.paper.specs.Totals.{filled_from}
+use Rattle.totals.specs.Cells.{cells_at, filled_left}
+use Rattle.totals.specs.Sums.{Going}
 use Rattle.totals.proofs.float_run.Given as goal
 
 abbrev pub invariant-loop-i : goal.invariant-loop-i

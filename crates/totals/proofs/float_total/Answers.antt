@@ -1,5 +1,5 @@
 -- `totals::float_total` meets its contract.
-use Rattle.std.proofs.Common.{ℕ, ap, ◌∙◌, arith, rules}
+use Rattle.std.proofs.Common.{ℕ, ap, ◌∙◌, arith}
 use Rattle.totals.specs.Sums.{as_total, made_of}
 use Rattle.totals.proofs.float_total.Goals as goal
 use Rattle.totals.proofs.float_total.Goals.{After-struct_known-1, Start}

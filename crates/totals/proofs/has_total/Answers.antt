@@ -1,5 +1,4 @@
 -- `totals::has_total` meets its contract.
-use Rattle.std.proofs.Common.{rules}
 use Rattle.paper.specs.Totals.{totals?}
 use Rattle.totals.proofs.has_total.Goals as goal
 

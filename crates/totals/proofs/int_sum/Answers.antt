@@ -1,8 +1,7 @@
 -- `totals::int_sum` meets its contract.
-use Rattle.std.proofs.Common.{arith, rules, ◌-◌, ◌≤◌}
-use Rattle.paper.specs.Totals.{filled_from}
-use Rattle.totals.specs.Cells.{cells_at, one_at, filled_left, filled_next, filled_none}
-use Rattle.totals.specs.Sums.{Gone, gone-start, gone-next, gone-end}
+use Rattle.std.proofs.Common.{arith}
+use Rattle.totals.specs.Cells.{one_at, filled_next, filled_none}
+use Rattle.totals.specs.Sums.{gone-start, gone-next, gone-end}
 use Rattle.totals.proofs.int_sum.Goals as goal
 use Rattle.totals.proofs.int_sum.Goals.{In-loop-i, Start}
 

@@ -1,8 +1,8 @@
 -- `totals::int_sum`: what its loops keep.
-use Rattle.std.proofs.Common.{arith, rules, ◌-◌, ◌≤◌}
+use Rattle.std.proofs.Common.{◌-◌, ◌≤◌}
 use Rattle.paper.specs.Totals.{filled_from}
-use Rattle.totals.specs.Cells.{cells_at, one_at, filled_left, filled_next, filled_none}
-use Rattle.totals.specs.Sums.{Gone, gone-start, gone-next, gone-end}
+use Rattle.totals.specs.Cells.{cells_at, filled_left}
+use Rattle.totals.specs.Sums.{Gone}
 use Rattle.totals.proofs.int_sum.Given as goal
 
 abbrev pub invariant-loop-i : goal.invariant-loop-i

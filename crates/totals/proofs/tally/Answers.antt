@@ -1,5 +1,5 @@
 -- `totals::tally` meets its contract.
-use Rattle.std.proofs.Common.{sym, ◌∙◌, rules}
+use Rattle.std.proofs.Common.{sym, ◌∙◌}
 use Rattle.totals.proofs.tally.Goals as goal
 
 pub returns-then-trues : goal.returns-then-trues

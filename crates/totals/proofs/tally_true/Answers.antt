@@ -1,5 +1,5 @@
 -- `totals::tally_true` meets its contract.
-use Rattle.std.proofs.Common.{sym, ◌∙◌, rules}
+use Rattle.std.proofs.Common.{sym, ◌∙◌}
 use Rattle.totals.proofs.tally_true.Goals as goal
 
 pub returns-then-is_truth : goal.returns-then-is_truth

@@ -1,5 +1,5 @@
 -- `totals::total` meets its contract: each way out by the law of its test.
-use Rattle.std.proofs.Common.{sym, ◌∙◌, rules}
+use Rattle.std.proofs.Common.{sym, ◌∙◌}
 use borrow.Author.Tests.{not-false, not-true}
 use Rattle.paper.specs.declared.Total.{Total}
 use Rattle.totals.specs.Whole.{total-refused, total-unfit, lying, total-is}

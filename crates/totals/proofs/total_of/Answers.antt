@@ -1,5 +1,5 @@
 -- `totals::total_of` meets its contract.
-use Rattle.std.proofs.Common.{eq-eqb, ne_eqb, rules}
+use Rattle.std.proofs.Common.{eq-eqb, ne_eqb}
 use Rattle.paper.specs.Totals.{total_of}
 use Rattle.totals.specs.Cells.{counted-true, counted-filled}
 use Rattle.totals.proofs.total_of.Goals as goal

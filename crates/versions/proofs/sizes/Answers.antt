@@ -1,5 +1,4 @@
 -- `versions::sizes` meets its contract: each version by its own line.
-use Rattle.std.proofs.Common.{rules}
 use Rattle.paper.specs.Limits.{sizes_of}
 use Rattle.versions.proofs.sizes.Goals as goal
 

@@ -1,5 +1,5 @@
 -- `versions::version_told` meets its contract: 1, 2, or another.
-use Rattle.std.proofs.Common.{rules, eq-eqb, ne_eqb}
+use Rattle.std.proofs.Common.{eq-eqb, ne_eqb}
 use Rattle.paper.specs.Limits.{sizes_of}
 use Rattle.paper.specs.Bundle.{version_told}
 use Rattle.versions.proofs.version_told.Goals as goal

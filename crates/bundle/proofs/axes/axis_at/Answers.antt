@@ -1,5 +1,4 @@
 -- Two limits, each at its place.
-use Rattle.std.proofs.Common.{rules}
 use Rattle.bundle.proofs.axes.axis_at.Goals as goal
 
 pub returns : goal.returns

@@ -1,5 +1,5 @@
 -- `bundle::axes::bounds_at` meets its contract: the loop keeps names, axes and maxima filled as far as it has come.
-use Rattle.std.proofs.Common.{ℕ, ◌+◌, ◌-◌, ◌*◌, ◌≤◌, ◌<◌, List, ◌≡◌, sym, ap, subst, ◌∙◌, arith, length, drop}
+use Rattle.std.proofs.Common.{ℕ, ◌+◌, ◌*◌, ◌≤◌, ◌<◌, List, ◌≡◌, sym, ap, subst, ◌∙◌, arith, length, drop}
 use Rattle.paper.specs.declared.Version.{Version}
 use Rattle.paper.specs.declared.Sizes.{Sizes}
 use Rattle.paper.specs.declared.Name.{Name}
@@ -61,8 +61,7 @@ module _ (c : In-loop-i) where
 
 pub loop-i-init : goal.loop-i-init
 loop-i-init c =
-    let p = (goal.at.loop-i-init c).After-sizes-z in
-    (
+    let p = (goal.at.loop-i-init c).After-sizes-z in (
       omega arith,
       subst (λ (l : List Name). Filled (z p) no_name (name_of (z p)) (s p) (at p) (n p) 0 l) (sym c.no_names-names.ensures)
           (filled-start (z p) no_name (name_of (z p)) (s p) (at p) (n p)),

@@ -1,5 +1,5 @@
 -- `bundle::mark::byte_at` meets its contract.
-use Rattle.std.proofs.Common.{sym, rules}
+use Rattle.std.proofs.Common.{sym}
 use lib.ListN.{get_or-eq_default}
 use Rattle.bundle.proofs.mark.byte_at.Goals as goal
 

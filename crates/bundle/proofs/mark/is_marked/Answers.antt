@@ -1,5 +1,5 @@
 -- `bundle::mark::is_marked` meets its contract.
-use Rattle.std.proofs.Common.{ℕ, ◌≡◌, sym, ◌∙◌, List, rules, eq-eqb, ne_eqb, take}
+use Rattle.std.proofs.Common.{ℕ, ◌≡◌, sym, ◌∙◌, List, eq-eqb, ne_eqb, take}
 use Rattle.paper.specs.Limits.{sizes_of}
 use Rattle.paper.specs.Numbers.{same}
 use Rattle.paper.specs.Bundle.{mark, mark_bytes}

@@ -1,5 +1,4 @@
 -- `bundle::mark::version_in` meets its contract: each way out by the law of its test.
-use Rattle.std.proofs.Common.{rules}
 use Rattle.bundle.specs.Axes.{names-other, names-larger, names-two}
 use Rattle.bundle.proofs.mark.version_in.Goals as goal
 

@@ -1,5 +1,5 @@
 -- `cell::bytes::clear_bytes` meets its contract: after k turns k zeros stand there.
-use Rattle.std.proofs.Common.{◌≡◌, ℕ, ◌+◌, ◌-◌, ◌<◌, ◌≤◌, List, [], ◌∷◌, length, set, replicate, sym, ap, ◌∙◌, arith}
+use Rattle.std.proofs.Common.{◌≡◌, ℕ, ◌+◌, ◌<◌, ◌≤◌, List, [], ◌∷◌, length, set, sym, ap, ◌∙◌, arith}
 use lib.ListN.{length-replicate, replicate-append-replicate}
 use Rattle.laws.specs.Put.{put, put-none, put_byte, length-put, after}
 use Rattle.cell.proofs.bytes.clear_bytes.Invariants.{zeros}

@@ -1,7 +1,6 @@
 -- `cell::bytes::clear_bytes`: what its loops keep.
-use Rattle.std.proofs.Common.{◌≡◌, ℕ, ◌+◌, ◌-◌, ◌<◌, ◌≤◌, List, [], ◌∷◌, length, set, replicate, sym, ap, ◌∙◌, arith}
-use lib.ListN.{length-replicate, replicate-append-replicate}
-use Rattle.laws.specs.Put.{put, put-none, put_byte, length-put, after}
+use Rattle.std.proofs.Common.{◌≡◌, ℕ, ◌-◌, ◌≤◌, List, replicate}
+use Rattle.laws.specs.Put.{put}
 use Rattle.cell.proofs.bytes.clear_bytes.Given as goal
 
 abbrev pub zeros : ℕ → List ℕ

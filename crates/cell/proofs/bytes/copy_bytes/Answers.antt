@@ -1,6 +1,6 @@
 -- `cell::bytes::copy_bytes` meets its contract: after k bytes, those left put where the loop stands are the whole put at the start.
-use Rattle.std.proofs.Common.{◌-◌, arith}
-use Rattle.laws.specs.Put.{Copying, copy-begins, copy_more, copy-ends}
+use Rattle.std.proofs.Common.{arith}
+use Rattle.laws.specs.Put.{copy-begins, copy_more, copy-ends}
 use Rattle.cell.proofs.bytes.copy_bytes.Goals as goal
 
 pub loop-k-init : goal.loop-k-init

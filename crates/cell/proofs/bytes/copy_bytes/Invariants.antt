@@ -1,6 +1,6 @@
 -- `cell::bytes::copy_bytes`: what its loops keep.
-use Rattle.std.proofs.Common.{◌-◌, arith}
-use Rattle.laws.specs.Put.{Copying, copy-begins, copy_more, copy-ends}
+use Rattle.std.proofs.Common.{◌-◌}
+use Rattle.laws.specs.Put.{Copying}
 use Rattle.cell.proofs.bytes.copy_bytes.Given as goal
 
 abbrev pub invariant-loop-k : goal.invariant-loop-k

@@ -1,6 +1,6 @@
 -- `cell::bytes::copy_on` meets its contract: as `copy_bytes`, and what stands before `at` stays, so each byte read is the one that stood
 -- there.
-use Rattle.std.proofs.Common.{◌≡◌, ℕ, ◌+◌, ◌-◌, ◌<◌, List, get_or, take, set, sym, refl, ap, ◌∙◌, subst, arith, get_or-take}
+use Rattle.std.proofs.Common.{◌≡◌, ℕ, ◌+◌, ◌<◌, List, get_or, take, set, sym, refl, ap, ◌∙◌, subst, arith, get_or-take}
 use lib.Seq.{take-set-le}
 use Rattle.laws.specs.Put.{Copying, copy-begins, copy_more, copy-ends}
 use Rattle.cell.proofs.bytes.copy_on.Goals as goal

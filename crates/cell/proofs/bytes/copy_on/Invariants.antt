@@ -1,7 +1,6 @@
 -- `cell::bytes::copy_on`: what its loops keep.
-use Rattle.std.proofs.Common.{◌≡◌, ℕ, ◌+◌, ◌-◌, ◌<◌, List, get_or, take, set, sym, refl, ap, ◌∙◌, subst, arith, get_or-take}
-use lib.Seq.{take-set-le}
-use Rattle.laws.specs.Put.{Copying, copy-begins, copy_more, copy-ends}
+use Rattle.std.proofs.Common.{◌≡◌, ◌-◌, take}
+use Rattle.laws.specs.Put.{Copying}
 use Rattle.cell.proofs.bytes.copy_on.Given as goal
 
 abbrev pub invariant-loop-k : goal.invariant-loop-k

@@ -1,8 +1,8 @@
 -- `cell::bytes::put4` meets its contract, as `put9` does. Assumes nothing.
-use Rattle.std.proofs.Common.{lit<, rules}
+use Rattle.std.proofs.Common.{lit<}
 use Rattle.paper.specs.Limits.{limit_bytes}
 use Rattle.paper.specs.Numbers.{le_bytes}
-use Rattle.cell.proofs.Runs.{Room, stores_at, stores_at-spliced, length-stores, byte_fits, place-fits, next-in}
+use Rattle.cell.proofs.Runs.{Room, stores_at-spliced, length-stores, byte_fits, place-fits, next-in}
 use Rattle.cell.proofs.bytes.put4.Goals as goal
 use Rattle.cell.proofs.bytes.put4.Goals.{Start}
 

@@ -1,5 +1,5 @@
 -- `cell::bytes::signed` meets its contract: in the upper half of the bits `!` is undone by `!`. Assumes nothing.
-use Rattle.std.proofs.Common.{ap, w64, to_z, rules}
+use Rattle.std.proofs.Common.{ap, w64, to_z}
 use Rattle.cell.proofs.Twos.{not-not}
 use Rattle.cell.proofs.bytes.signed.Goals as goal
 

@@ -1,5 +1,5 @@
 -- `cell::bytes::write_cell` meets its contract: the nine bytes that `put9` wrote are those of the cell, by what `mark_of` and `word_of` ensure. Assumes nothing.
-use Rattle.std.proofs.Common.{ℕ, ◌+◌, ◌∷◌, ◌++◌, take, drop, ◌∙◌, ap₂, rules}
+use Rattle.std.proofs.Common.{ℕ, ◌+◌, ◌∷◌, ◌++◌, take, drop, ◌∙◌, ap₂}
 use Rattle.paper.specs.Limits.{word_bytes, cell_bytes}
 use Rattle.paper.specs.Numbers.{le_bytes}
 use Rattle.paper.specs.Cells.{encode}

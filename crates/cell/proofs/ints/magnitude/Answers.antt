@@ -1,5 +1,5 @@
 -- `cell::ints::magnitude` meets its contract. Assumes nothing.
-use Rattle.std.proofs.Common.{◌≡◌, ◌+◌, ◌^◌, ◌<◌, false, ℤ, pos, ◌+ℤ◌, ◌-ℤ◌, nat_abs, arith, to_z-of_z, w64, SFits, rules}
+use Rattle.std.proofs.Common.{◌≡◌, ◌+◌, ◌^◌, ◌<◌, false, ℤ, pos, ◌+ℤ◌, ◌-ℤ◌, nat_abs, arith, to_z-of_z, w64, SFits}
 use lib.Signed.{le_z}
 use Rattle.laws.specs.Parts.{up, dn, one-part, abs-parts, add_parts, minus-parts, le_yes, le-no, fit_parts, parts-fit, nonneg-parts}
 use Rattle.cell.proofs.ints.magnitude.Goals as goal

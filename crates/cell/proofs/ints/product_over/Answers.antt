@@ -1,5 +1,5 @@
 -- `cell::ints::product_over` meets its contract. Assumes nothing.
-use Rattle.std.proofs.Common.{ℕ, suc, ◌*◌, ◌/◌, sym, ap, div-lt_iff_lt-mul, arith, rules}
+use Rattle.std.proofs.Common.{ℕ, suc, ◌*◌, ◌/◌, sym, ap, div-lt_iff_lt-mul, arith}
 use borrow.Author.Tests.{lt-leb}
 use Rattle.laws.specs.Parts.{leb-iff}
 use Rattle.cell.proofs.ints.product_over.Goals as goal

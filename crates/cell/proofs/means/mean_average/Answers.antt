@@ -1,5 +1,4 @@
 -- `cell::means::mean_average` meets its contract: the end of what is left to do. Assumes nothing.
-use Rattle.std.proofs.Common.{rules}
 use Rattle.cell.proofs.Onward.{end_none, end-some}
 use Rattle.paper.specs.Totals.{average}
 use Rattle.cell.proofs.means.mean_average.Goals as goal

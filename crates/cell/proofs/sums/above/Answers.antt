@@ -1,5 +1,5 @@
 -- `cell::sums::above` meets its contract. Assumes nothing.
-use Rattle.std.proofs.Common.{ℕ, pos, ◌+ℤ◌, ◌∙◌, arith, to_z-of_z, w64, to_z, rules}
+use Rattle.std.proofs.Common.{ℕ, pos, ◌+ℤ◌, ◌∙◌, arith, to_z-of_z, w64, to_z}
 use borrow.Author.Rules.{sfits_of}
 use Rattle.cell.proofs.Wrap.{to_z-parts}
 use Rattle.laws.specs.Parts.{add_parts, parts-eq}

@@ -1,5 +1,5 @@
 -- `cell::sums::exact_answer` meets its contract: each way out is one of Exactly.antt. Assumes nothing.
-use Rattle.std.proofs.Common.{◌≡◌, ℕ, ◌+◌, ◌/◌, ◌%◌, ◌^◌, ap, ◌∙◌, rules}
+use Rattle.std.proofs.Common.{◌≡◌, ℕ, ◌+◌, ◌/◌, ◌%◌, ◌^◌, ap, ◌∙◌}
 use borrow.Author.Rules.{sfits_of}
 use Rattle.cell.proofs.Exactly.{none_said, too-low, too-high, fitting}
 use Rattle.cell.specs.declared.sums.Exact.{Exact}

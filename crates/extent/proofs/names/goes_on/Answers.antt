@@ -1,8 +1,8 @@
 -- `extent::names::goes_on` meets its contract.
 -- The loop keeps the test of the bytes left, and of the others, equal to the whole.
-use Rattle.std.proofs.Common.{ℕ, ◌-◌, Bool, ◌&&◌, List, ◌++◌, ap, refl, sym, ◌∙◌, ◌≡◌, arith, rules, eq-eqb, ne_eqb, eqb}
+use Rattle.std.proofs.Common.{ℕ, ◌-◌, Bool, ◌&&◌, List, ◌++◌, ap, refl, sym, ◌∙◌, ◌≡◌, eq-eqb, ne_eqb, eqb}
 use borrow.Author.Tests.{not-false, not-true}
-use Rattle.extent.specs.Names.{Left, left_less, rest_end, rest_more, rest-stop}
+use Rattle.extent.specs.Names.{left_less, rest_end, rest_more, rest-stop}
 use Rattle.paper.specs.Axes.{name_rest}
 use Rattle.paper.specs.Limits.{half_name}
 use Rattle.paper.specs.Numbers.{le_bytes, zeros}

@@ -1,10 +1,9 @@
 -- `extent::names::goes_on`: what its loops keep.
-use Rattle.std.proofs.Common.{ℕ, ◌-◌, Bool, ◌&&◌, List, ◌++◌, ap, refl, sym, ◌∙◌, ◌≡◌, arith, rules, eq-eqb, ne_eqb, eqb}
-use borrow.Author.Tests.{not-false, not-true}
-use Rattle.extent.specs.Names.{Left, left_less, rest_end, rest_more, rest-stop}
+use Rattle.std.proofs.Common.{ℕ, ◌-◌, List, ◌++◌, ◌≡◌}
+use Rattle.extent.specs.Names.{Left}
 use Rattle.paper.specs.Axes.{name_rest}
 use Rattle.paper.specs.Limits.{half_name}
-use Rattle.paper.specs.Numbers.{le_bytes, zeros}
+use Rattle.paper.specs.Numbers.{le_bytes}
 use Rattle.extent.proofs.names.goes_on.Given as goal
 
 abbrev pub invariant-loop-at : goal.invariant-loop-at

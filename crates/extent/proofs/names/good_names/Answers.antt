@@ -1,7 +1,7 @@
 -- `extent::names::good_names` meets its contract.
 -- The loop keeps the test of the names left equal to the whole test; the inner one the search for a name in the names left equal to the
 -- search in all later ones.
-use Rattle.std.proofs.Common.{ℕ, ◌+◌, ◌-◌, ◌≤◌, not, ◌&&◌, ◌||◌, List, refl, sym, ◌∙◌, ◌≡◌, arith, rules, length, get_or, take, drop}
+use Rattle.std.proofs.Common.{ℕ, ◌+◌, ◌≤◌, not, ◌&&◌, ◌||◌, List, refl, sym, ◌∙◌, ◌≡◌, arith, rules, length, get_or, take, drop}
 use borrow.Author.Tests.{not-false, not-true}
 use Rattle.paper.specs.declared.Name.{Name}
 use Rattle.paper.specs.Limits.{most_axes}

@@ -1,11 +1,6 @@
 -- `extent::names::good_names`: what its loops keep.
-use Rattle.std.proofs.Common.{ℕ, ◌+◌, ◌-◌, ◌≤◌, not, ◌&&◌, ◌||◌, List, refl, sym, ◌∙◌, ◌≡◌, arith, rules, length, get_or, take, drop}
-use borrow.Author.Tests.{not-false, not-true}
-use Rattle.paper.specs.declared.Name.{Name}
-use Rattle.paper.specs.Limits.{most_axes}
-use Rattle.paper.specs.Axes.{good_name, good_names, named, no_name, same_name}
-use Rattle.laws.specs.Loops.{length-mapped}
-use Rattle.extent.specs.Tests.{named_end, named-up, names-end, names-up}
+use Rattle.std.proofs.Common.{◌+◌, ◌-◌, ◌≡◌, take, drop}
+use Rattle.paper.specs.Axes.{good_names, named}
 use Rattle.extent.proofs.names.good_names.Given as goal
 
 abbrev pub invariant-loop-j : goal.invariant-loop-j

@@ -1,5 +1,5 @@
 -- `extent::names::is_name` meets its contract: the first byte is a letter, and the others go on so.
-use Rattle.std.proofs.Common.{◌<◌, ◌^◌, refl, sym, ◌∙◌, arith, rules, []}
+use Rattle.std.proofs.Common.{◌<◌, ◌^◌, refl, ◌∙◌, arith, rules, []}
 use Rattle.paper.specs.Limits.{half_name}
 use Rattle.paper.specs.Numbers.{le_bytes, zeros}
 use Rattle.paper.specs.Axes.{name_rest}

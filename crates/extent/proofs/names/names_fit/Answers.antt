@@ -1,6 +1,6 @@
 -- `extent::names::names_fit` meets its contract.
 -- The loop keeps the test of the names left equal to the whole test.
-use Rattle.std.proofs.Common.{ℕ, ◌+◌, ◌-◌, ◌≤◌, ◌&&◌, List, refl, sym, ◌∙◌, ◌≡◌, arith, rules, length, get_or, take, drop}
+use Rattle.std.proofs.Common.{ℕ, ◌+◌, ◌≤◌, ◌&&◌, List, refl, sym, ◌∙◌, ◌≡◌, arith, rules, length, get_or, take, drop}
 use borrow.Author.Tests.{not-false, not-true}
 use Rattle.paper.specs.declared.Name.{Name}
 use Rattle.paper.specs.declared.Sizes.{Sizes}

@@ -1,14 +1,7 @@
 -- `extent::names::names_fit`: what its loops keep.
-use Rattle.std.proofs.Common.{ℕ, ◌+◌, ◌-◌, ◌≤◌, ◌&&◌, List, refl, sym, ◌∙◌, ◌≡◌, arith, rules, length, get_or, take, drop}
-use borrow.Author.Tests.{not-false, not-true}
-use Rattle.paper.specs.declared.Name.{Name}
-use Rattle.paper.specs.declared.Sizes.{Sizes}
-use Rattle.paper.specs.Limits.{most_axes, sizes_of}
-use Rattle.paper.specs.Numbers.{zeros}
-use Rattle.paper.specs.Axes.{letters_of, no_name}
+use Rattle.std.proofs.Common.{◌-◌, ◌≡◌, take, drop}
+use Rattle.paper.specs.Limits.{sizes_of}
 use Rattle.paper.specs.Bundle.{names_fit}
-use Rattle.laws.specs.Loops.{length-mapped}
-use Rattle.extent.specs.Tests.{fit-end, fit-up}
 use Rattle.extent.proofs.names.names_fit.Given as goal
 
 abbrev pub invariant-loop-i : goal.invariant-loop-i

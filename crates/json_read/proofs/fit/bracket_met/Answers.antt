@@ -1,5 +1,4 @@
 -- `json_read::fit::bracket_met` meets its contract: it is there or not.
-use Rattle.std.proofs.Common.{rules}
 use Rattle.paper.specs.Answers.{axes_of}
 use Rattle.json_read.specs.Fit.{bracket-is, bracket-not}
 use Rattle.json_read.proofs.fit.bracket_met.Goals as goal

@@ -1,5 +1,4 @@
 -- `json_read::fit::data_met` meets its contract: the first, or a second.
-use Rattle.std.proofs.Common.{rules}
 use Rattle.json_read.specs.Fit.{data-first, data-within, data-wrong, data-stopped}
 use Rattle.json_read.proofs.fit.data_met.Goals as goal
 

@@ -1,5 +1,5 @@
 -- `json_read::fit::fit_first` meets its contract: all is still due.
-use Rattle.std.proofs.Common.{rules, ap}
+use Rattle.std.proofs.Common.{ap}
 use Rattle.json_due.specs.declared.Cursor.{Cursor}
 use Rattle.json_read.specs.declared.fit.Stage.TheVariants.{Before}
 use Rattle.json_read.proofs.fit.fit_first.Goals as goal

@@ -1,5 +1,5 @@
 -- `json_read::fit::name_sign` meets its contract: in the first level, and spelling so.
-use Rattle.std.proofs.Common.{rules, ◌+◌, drop, ◌∙◌, sym}
+use Rattle.std.proofs.Common.{◌+◌, drop, ◌∙◌, sym}
 use Rattle.paper.specs.Numbers.{text}
 use Rattle.paper.specs.JsonRead.{spells}
 use Rattle.json_read.specs.Fit.{sign-inner, sign-data, sign-other}

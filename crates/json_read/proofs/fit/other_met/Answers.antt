@@ -1,5 +1,4 @@
 -- `json_read::fit::other_met` meets its contract: by the stage.
-use Rattle.std.proofs.Common.{rules}
 use Rattle.paper.specs.Answers.{axes_of}
 use Rattle.json_read.specs.Fit.{before-met, wrong-met, stopped-met}
 use Rattle.json_read.proofs.fit.other_met.Goals as goal

@@ -1,5 +1,5 @@
 -- `json_read::fit::sign_of` meets its contract: by what begins.
-use Rattle.std.proofs.Common.{rules, ◌+◌, ◌∙◌, sym, drop}
+use Rattle.std.proofs.Common.{◌+◌, ◌∙◌, sym, drop}
 use Rattle.paper.specs.Numbers.{text}
 use Rattle.paper.specs.JsonRead.{spells}
 use Rattle.json_levels.specs.declared.Begun.TheVariants as Begun

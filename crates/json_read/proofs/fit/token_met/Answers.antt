@@ -1,5 +1,5 @@
 -- `json_read::fit::token_met` meets its contract: by its sign.
-use Rattle.std.proofs.Common.{rules, ◌∙◌, subst, sym}
+use Rattle.std.proofs.Common.{◌∙◌, subst, sym}
 use Rattle.paper.specs.Answers.{axes_of}
 use Rattle.json_read.specs.declared.fit.Fit.{Fit}
 use Rattle.json_read.specs.Fit.{TokenMet, nothing-met, comma-met, data-met, other-met}

@@ -1,5 +1,5 @@
 -- `json_read::fit::value_met` meets its contract: a cell that is stored, or a misfit.
-use Rattle.std.proofs.Common.{rules, subst, sym}
+use Rattle.std.proofs.Common.{subst, sym}
 use Rattle.paper.specs.Answers.{axes_of}
 use Rattle.json_read.specs.declared.fit.Fit.{Fit}
 use Rattle.json_read.specs.Fit.{Met, value_room, value-fits, value-misfit}

@@ -1,5 +1,4 @@
 -- `json_read::fit::within_met` meets its contract: by what is due.
-use Rattle.std.proofs.Common.{rules}
 use Rattle.paper.specs.Answers.{axes_of}
 use Rattle.json_read.specs.Fit.{nothing-due, opening-due, closing-due}
 use Rattle.json_read.proofs.fit.within_met.Goals as goal

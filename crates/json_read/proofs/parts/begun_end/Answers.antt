@@ -1,5 +1,4 @@
 -- `json_read::parts::begun_end` meets its contract: each by its reader.
-use Rattle.std.proofs.Common.{rules}
 use Rattle.json_levels.specs.declared.Begun.TheVariants.{Nothing, Comma, Bracket, Name, Text, Minus, Zero, Digit, True, False, Null}
 use Rattle.json_read.specs.Parts.{begun-as, after_nothing, after-comma, after-bracket, after-name, after_text, after_minus, after-zero, after-digit}
 use Rattle.json_read.specs.Parts.{after-true, after-false, after-null}

@@ -1,5 +1,5 @@
 -- `json_read::parts::colon_end` meets its contract: blanks, then a colon or not.
-use Rattle.std.proofs.Common.{rules, arith}
+use Rattle.std.proofs.Common.{arith}
 use Rattle.json_read.specs.Parts.{colon-missing, colon-other, colon-there}
 use Rattle.json_read.proofs.parts.colon_end.Goals as goal
 

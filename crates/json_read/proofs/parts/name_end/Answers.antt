@@ -1,5 +1,4 @@
 -- `json_read::parts::name_end` meets its contract: its characters, then its colon.
-use Rattle.std.proofs.Common.{rules}
 use borrow.Author.Tests.{not-true, not-false}
 use Rattle.json_read.specs.Parts.{name-stops, name-then}
 use Rattle.json_read.proofs.parts.name_end.Goals as goal

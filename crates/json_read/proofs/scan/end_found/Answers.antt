@@ -1,5 +1,5 @@
 -- `json_read::scan::end_found` meets its contract: by the stage.
-use Rattle.std.proofs.Common.{rules, ◌∙◌}
+use Rattle.std.proofs.Common.{◌∙◌}
 use Rattle.json_read.specs.declared.fit.Stage.TheVariants.{Before, Within, Wrong, Stopped}
 use Rattle.json_read.specs.Scan.{found-is, found_before, found-within-is, found-wrong, found-stopped}
 use Rattle.json_read.proofs.scan.end_found.Goals as goal

@@ -1,5 +1,4 @@
 -- `json_read::scan::is_ended` meets its contract: case by case.
-use Rattle.std.proofs.Common.{rules}
 use Rattle.json_levels.specs.declared.Next.TheVariants as Next
 use Rattle.json_read.specs.Scan.{ended_is, ended-object, ended-first, ended-more, ended-value, ended-member}
 use Rattle.json_read.proofs.scan.is_ended.Goals as goal

@@ -1,5 +1,5 @@
 -- `json_read::scan::is_stopped` meets its contract: stage by stage.
-use Rattle.std.proofs.Common.{rules, true, false}
+use Rattle.std.proofs.Common.{true, false}
 use Rattle.json_read.specs.declared.fit.Stage.TheVariants.{Before, Within, Wrong, Stopped}
 use Rattle.json_read.specs.Scan.{stage_is, stopped-before, stopped-within, stopped-wrong, stopped-stopped}
 use Rattle.json_read.proofs.scan.is_stopped.Goals as goal

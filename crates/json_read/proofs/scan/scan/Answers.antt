@@ -1,5 +1,5 @@
 -- `json_read::scan::scan` meets its contract: each turn of the loop leaves what the text comes to.
-use Rattle.std.proofs.Common.{◌-◌, ◌∙◌, subst, sym, arith, length}
+use Rattle.std.proofs.Common.{◌∙◌, subst, sym, arith}
 use borrow.Author.Tests.{not-true, not-false}
 use Rattle.paper.specs.Answers.{axes_of}
 use Rattle.json_read.specs.declared.fit.Fit.{Fit}

@@ -1,5 +1,4 @@
 -- `json_read::scan::within_found` meets its contract: by what is due.
-use Rattle.std.proofs.Common.{rules}
 use Rattle.json_due.specs.declared.Wanted.TheVariants as Wanted
 use Rattle.json_read.specs.Scan.{due-is, due-nothing, due-opening, due-closing, due-value}
 use Rattle.json_read.proofs.scan.within_found.Goals as goal

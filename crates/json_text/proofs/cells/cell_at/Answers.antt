@@ -1,5 +1,5 @@
 -- `json_text::cells::cell_at` meets its contract: each way out is a case of `cell_in`.
-use Rattle.std.proofs.Common.{◌≡◌, ℕ, false, List, drop, sym, ◌∙◌, rules}
+use Rattle.std.proofs.Common.{◌≡◌, ℕ, false, List, drop, sym, ◌∙◌}
 use Rattle.paper.specs.Numbers.{text}
 use Rattle.paper.specs.JsonRead.{begins}
 use Rattle.json_text.specs.Whole.{cell-null, cell-int, cell-true, cell-false, no_cell}

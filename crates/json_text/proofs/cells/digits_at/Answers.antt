@@ -1,8 +1,8 @@
 -- `json_text::cells::digits_at` meets its contract: digit by digit, what the digits left make of the number so far is the number.
-use Rattle.std.proofs.Common.{◌-◌, length, sym, ◌∙◌, arith, rules}
+use Rattle.std.proofs.Common.{sym, ◌∙◌}
 use borrow.Author.Tests.{not-true, not-false}
 use Rattle.json_text.specs.Kinds.{digit-from}
-use Rattle.json_text.specs.Whole.{Counting, counting, text-over, no_more, one_more}
+use Rattle.json_text.specs.Whole.{counting, text-over, no_more, one_more}
 use Rattle.json_text.proofs.cells.digits_at.Goals as goal
 
 pub loop-i-init : goal.loop-i-init

@@ -1,5 +1,5 @@
 -- `json_text::cells::int_at` meets its contract: with a minus, or without.
-use Rattle.std.proofs.Common.{[], sym, ◌∙◌, rules}
+use Rattle.std.proofs.Common.{[], sym, ◌∙◌}
 use Rattle.json_text.specs.Words.{a-byte-there}
 use Rattle.json_text.specs.Whole.{with-minus, without-minus}
 use Rattle.json_text.proofs.cells.int_at.Goals as goal

@@ -1,5 +1,5 @@
 -- `json_text::cells::natural_at` meets its contract: no digit; digits to the text's end; or by the byte behind them.
-use Rattle.std.proofs.Common.{sym, ◌∙◌, rules}
+use Rattle.std.proofs.Common.{sym, ◌∙◌}
 use Rattle.json_text.specs.Whole.{no-digits, not-whole, is_whole, whole-at-end}
 use Rattle.json_text.proofs.cells.natural_at.Goals as goal
 

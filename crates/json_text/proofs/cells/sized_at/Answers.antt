@@ -1,5 +1,5 @@
 -- `json_text::cells::sized_at` meets its contract: a number counted to the cap is in range exactly if the whole number is.
-use Rattle.std.proofs.Common.{drop, ◌∙◌, rules}
+use Rattle.std.proofs.Common.{drop, ◌∙◌}
 use Rattle.json_text.specs.Whole.{sized-yes, sized-no}
 use Rattle.json_text.proofs.cells.sized_at.Goals as goal
 

@@ -1,5 +1,5 @@
 -- `json_text::names::is_data` meets its contract: letter after letter, and a quote.
-use Rattle.std.proofs.Common.{◌+◌, sym, ◌∙◌, arith, rules}
+use Rattle.std.proofs.Common.{◌+◌, sym, ◌∙◌, arith}
 use Rattle.paper.specs.Numbers.{text}
 use Rattle.paper.specs.JsonRead.{spells}
 use Rattle.json_text.specs.Spelled.{Rest, spells-none, spells-more}

@@ -1,5 +1,5 @@
 -- `json_text::names::letter_length` meets its contract: as itself, escaped, or neither.
-use Rattle.std.proofs.Common.{sym, ◌∙◌, rules}
+use Rattle.std.proofs.Common.{sym, ◌∙◌}
 use Rattle.json_text.specs.Spelled.{letter-itself, letter-escaped, letter-none}
 use Rattle.json_text.proofs.names.letter_length.Goals as goal
 

@@ -1,8 +1,7 @@
 -- `json_text::numbers::blanks_end`: what its loops keep.
-use Rattle.std.proofs.Common.{◌-◌, length, sym, ◌∙◌, arith, rules}
-use borrow.Author.Tests.{not-true, not-false}
+use Rattle.std.proofs.Common.{◌-◌, length}
 use Rattle.paper.specs.Grammar.{blank}
-use Rattle.json_text.specs.Numbers.{Passing, passing, passed-end, passed-other, passed_on}
+use Rattle.json_text.specs.Numbers.{Passing}
 use Rattle.json_text.proofs.numbers.blanks_end.Given as goal
 
 abbrev pub invariant-loop-i : goal.invariant-loop-i

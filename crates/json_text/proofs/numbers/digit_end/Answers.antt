@@ -1,5 +1,4 @@
 -- `json_text::numbers::digit_end` meets its contract: more digits, then what may follow them.
-use Rattle.std.proofs.Common.{rules}
 use Rattle.json_text.specs.Numbers.{digits-then}
 use Rattle.json_text.proofs.numbers.digit_end.Goals as goal
 

@@ -1,5 +1,5 @@
 -- `json_text::numbers::digits_due` meets its contract: a digit there or none.
-use Rattle.std.proofs.Common.{sym, ◌∙◌, arith, rules}
+use Rattle.std.proofs.Common.{sym, ◌∙◌, arith}
 use borrow.Author.Tests.{not-true, not-false}
 use Rattle.json_text.specs.Numbers.{digits-missing, digits-none, digits-some}
 use Rattle.json_text.proofs.numbers.digits_due.Goals as goal

@@ -1,8 +1,8 @@
 -- `json_text::numbers::digits_end` meets its contract: byte by byte, what is left stays what it was.
-use Rattle.std.proofs.Common.{◌-◌, length, sym, ◌∙◌, arith, rules}
+use Rattle.std.proofs.Common.{sym, ◌∙◌}
 use borrow.Author.Tests.{not-true, not-false}
 use Rattle.paper.specs.Grammar.{digit}
-use Rattle.json_text.specs.Numbers.{Passing, passing, passed-end, passed-other, passed_on}
+use Rattle.json_text.specs.Numbers.{passing, passed-end, passed-other, passed_on}
 use Rattle.json_text.proofs.numbers.digits_end.Goals as goal
 
 pub loop-i-init : goal.loop-i-init

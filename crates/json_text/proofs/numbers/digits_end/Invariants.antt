@@ -1,8 +1,7 @@
 -- `json_text::numbers::digits_end`: what its loops keep.
-use Rattle.std.proofs.Common.{◌-◌, length, sym, ◌∙◌, arith, rules}
-use borrow.Author.Tests.{not-true, not-false}
+use Rattle.std.proofs.Common.{◌-◌, length}
 use Rattle.paper.specs.Grammar.{digit}
-use Rattle.json_text.specs.Numbers.{Passing, passing, passed-end, passed-other, passed_on}
+use Rattle.json_text.specs.Numbers.{Passing}
 use Rattle.json_text.proofs.numbers.digits_end.Given as goal
 
 abbrev pub invariant-loop-i : goal.invariant-loop-i

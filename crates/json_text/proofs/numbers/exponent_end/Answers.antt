@@ -1,6 +1,5 @@
 -- `json_text::numbers::exponent_end` meets its contract: an exponent or none.
-use Rattle.std.proofs.Common.{sym, ◌∙◌, arith, rules}
-use borrow.Author.Tests.{not-true, not-false}
+use Rattle.std.proofs.Common.{sym, ◌∙◌, arith}
 use Rattle.json_text.specs.Numbers.{no-power-end, no_power, with-power}
 use Rattle.json_text.proofs.numbers.exponent_end.Goals as goal
 

@@ -1,5 +1,5 @@
 -- `json_text::numbers::fraction_end` meets its contract: a fraction or none, then an exponent or none.
-use Rattle.std.proofs.Common.{sym, ◌∙◌, arith, rules}
+use Rattle.std.proofs.Common.{arith}
 use borrow.Author.Tests.{not-true, not-false}
 use Rattle.json_text.specs.Numbers.{no-fraction-end, fraction-none, fraction-stops, fraction-then}
 use Rattle.json_text.proofs.numbers.fraction_end.Goals as goal

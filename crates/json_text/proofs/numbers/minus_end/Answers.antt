@@ -1,6 +1,5 @@
 -- `json_text::numbers::minus_end` meets its contract: by the digit after the minus.
-use Rattle.std.proofs.Common.{sym, ◌∙◌, arith, rules}
-use borrow.Author.Tests.{not-true, not-false}
+use Rattle.std.proofs.Common.{sym, ◌∙◌, arith}
 use Rattle.json_text.specs.Numbers.{minus-missing, minus-zero, minus-digit, minus-none}
 use Rattle.json_text.proofs.numbers.minus_end.Goals as goal
 

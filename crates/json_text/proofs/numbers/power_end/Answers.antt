@@ -1,6 +1,5 @@
 -- `json_text::numbers::power_end` meets its contract: with a sign and without.
-use Rattle.std.proofs.Common.{sym, ◌∙◌, arith, rules}
-use borrow.Author.Tests.{not-true, not-false}
+use Rattle.std.proofs.Common.{sym, ◌∙◌, arith}
 use Rattle.json_text.specs.Numbers.{power-missing, power-signed, power-plain}
 use Rattle.json_text.proofs.numbers.power_end.Goals as goal
 

@@ -1,5 +1,4 @@
 -- `json_text::numbers::zero_end` meets its contract: a fraction may follow.
-use Rattle.std.proofs.Common.{rules}
 use Rattle.paper.specs.Grammar.{after_zero}
 use Rattle.json_text.specs.Numbers.{zero-fractioned}
 use Rattle.json_text.proofs.numbers.zero_end.Goals as goal

@@ -1,8 +1,7 @@
 -- `json_text::strings::chars_end` meets its contract: the loop keeps what is left of the string, and stands at no plain byte.
-use Rattle.std.proofs.Common.{◌-◌, length, arith, rules}
+use Rattle.std.proofs.Common.{arith}
 use borrow.Author.Tests.{not-false, not-true}
-use Rattle.paper.specs.Grammar.{plain}
-use Rattle.json_text.specs.Strings.{Plain, string-missing, string-quote, string-stops, string-more}
+use Rattle.json_text.specs.Strings.{string-missing, string-quote, string-stops, string-more}
 use Rattle.json_text.proofs.strings.chars_end.Goals as goal
 
 pub loop-i-init : goal.loop-i-init

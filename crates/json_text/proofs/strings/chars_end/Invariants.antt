@@ -1,8 +1,6 @@
 -- `json_text::strings::chars_end`: what its loops keep.
-use Rattle.std.proofs.Common.{◌-◌, length, arith, rules}
-use borrow.Author.Tests.{not-false, not-true}
-use Rattle.paper.specs.Grammar.{plain}
-use Rattle.json_text.specs.Strings.{Plain, string-missing, string-quote, string-stops, string-more}
+use Rattle.std.proofs.Common.{◌-◌, length}
+use Rattle.json_text.specs.Strings.{Plain}
 use Rattle.json_text.proofs.strings.chars_end.Given as goal
 
 abbrev pub invariant-loop-i : goal.invariant-loop-i

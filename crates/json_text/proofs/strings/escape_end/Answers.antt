@@ -1,5 +1,5 @@
 -- `json_text::strings::escape_end` meets its contract: one of the bytes that stand alone, a `u` and its digits, or another.
-use Rattle.std.proofs.Common.{ℕ, List, [], ◌∷◌, refl, rules}
+use Rattle.std.proofs.Common.{ℕ, List, [], ◌∷◌, refl}
 use Rattle.paper.specs.Grammar.{among, these}
 use Rattle.json_text.specs.Bytes.{among-keys, among-others}
 use Rattle.json_text.specs.Parts.{part-missing}

@@ -1,5 +1,5 @@
 -- `json_text::strings::further_end` meets its contract: the loop keeps that so many bytes are left, the next in its range.
-use Rattle.std.proofs.Common.{◌-◌, [], ◌∷◌, rules}
+use Rattle.std.proofs.Common.{◌-◌, [], ◌∷◌}
 use Rattle.paper.specs.Grammar.{one, range}
 use Rattle.json_text.specs.Bytes.{in-range}
 use Rattle.json_text.specs.Parts.{Going, going, going-as, all_read, byte-missing, byte-out, byte-in}

@@ -1,9 +1,6 @@
 -- `json_text::strings::further_end`: what its loops keep.
-use Rattle.std.proofs.Common.{◌-◌, [], ◌∷◌, rules}
-use Rattle.paper.specs.Grammar.{one, range}
-use Rattle.json_text.specs.Bytes.{in-range}
-use Rattle.json_text.specs.Parts.{Going, going, going-as, all_read, byte-missing, byte-out, byte-in}
-use Rattle.json_text.specs.Strings.{spanned, spanned-next, spanned-none, range-low, range-high}
+use Rattle.json_text.specs.Parts.{Going}
+use Rattle.json_text.specs.Strings.{spanned}
 use Rattle.json_text.proofs.strings.further_end.Given as goal
 
 abbrev pub invariant-loop-left : goal.invariant-loop-left

@@ -1,5 +1,5 @@
 -- `json_text::strings::hex_end` meets its contract: the loop keeps that so many digits are left of the four.
-use Rattle.std.proofs.Common.{◌-◌, ◌∷◌, sym, ◌∙◌, rules}
+use Rattle.std.proofs.Common.{◌-◌, ◌∷◌, sym, ◌∙◌}
 use borrow.Author.Tests.{not-false, not-true}
 use Rattle.paper.specs.Grammar.{one, hex_digit}
 use Rattle.json_text.specs.Parts.{Going, going, going-as, all_read, byte-missing, byte-out, byte-in}

@@ -1,9 +1,6 @@
 -- `json_text::strings::hex_end`: what its loops keep.
-use Rattle.std.proofs.Common.{◌-◌, ◌∷◌, sym, ◌∙◌, rules}
-use borrow.Author.Tests.{not-false, not-true}
-use Rattle.paper.specs.Grammar.{one, hex_digit}
-use Rattle.json_text.specs.Parts.{Going, going, going-as, all_read, byte-missing, byte-out, byte-in}
-use Rattle.json_text.specs.Strings.{hexes, hexes-next, hexes-none}
+use Rattle.json_text.specs.Parts.{Going}
+use Rattle.json_text.specs.Strings.{hexes}
 use Rattle.json_text.proofs.strings.hex_end.Given as goal
 
 abbrev pub invariant-loop-left : goal.invariant-loop-left

@@ -1,5 +1,5 @@
 -- `json_text::strings::other_end` meets its contract: an escape, several bytes, or no character.
-use Rattle.std.proofs.Common.{[], ◌∷◌, ◌∙◌, rules}
+use Rattle.std.proofs.Common.{[], ◌∷◌, ◌∙◌}
 use Rattle.paper.specs.Grammar.{escape}
 use Rattle.json_text.specs.Strings.{pass-missing, pass-refused, pass-then, chosen-escape, chosen-wide, leading-none, leading-some}
 use Rattle.json_text.proofs.strings.other_end.Goals as goal

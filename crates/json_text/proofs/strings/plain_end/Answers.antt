@@ -1,8 +1,7 @@
 -- `json_text::strings::plain_end` meets its contract: the loop keeps what is left of the string's characters.
-use Rattle.std.proofs.Common.{◌-◌, [], ◌∷◌, length, sym, ◌∙◌, arith, rules}
+use Rattle.std.proofs.Common.{sym, ◌∙◌, arith}
 use borrow.Author.Tests.{not-false, not-true}
-use Rattle.paper.specs.Grammar.{chars}
-use Rattle.json_text.specs.Parts.{Going, going}
+use Rattle.json_text.specs.Parts.{going}
 use Rattle.json_text.specs.Strings.{plain-next}
 use Rattle.json_text.proofs.strings.plain_end.Goals as goal
 

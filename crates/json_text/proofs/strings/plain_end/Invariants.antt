@@ -1,9 +1,7 @@
 -- `json_text::strings::plain_end`: what its loops keep.
-use Rattle.std.proofs.Common.{◌-◌, [], ◌∷◌, length, sym, ◌∙◌, arith, rules}
-use borrow.Author.Tests.{not-false, not-true}
+use Rattle.std.proofs.Common.{◌-◌, [], ◌∷◌, length}
 use Rattle.paper.specs.Grammar.{chars}
-use Rattle.json_text.specs.Parts.{Going, going}
-use Rattle.json_text.specs.Strings.{plain-next}
+use Rattle.json_text.specs.Parts.{Going}
 use Rattle.json_text.proofs.strings.plain_end.Given as goal
 
 abbrev pub invariant-loop-i : goal.invariant-loop-i

@@ -1,6 +1,6 @@
 -- `json_text::words::begins_with` meets its contract: byte by byte, what is left begins so exactly if the whole does.
-use Rattle.std.proofs.Common.{◌-◌, length, arith}
-use Rattle.json_text.specs.Words.{Beginning, beginning, all_there, too_short, other_byte, same_byte}
+use Rattle.std.proofs.Common.{arith}
+use Rattle.json_text.specs.Words.{beginning, all_there, too_short, other_byte, same_byte}
 use Rattle.json_text.proofs.words.begins_with.Goals as goal
 
 pub loop-i-init : goal.loop-i-init

@@ -1,6 +1,6 @@
 -- `json_text::words::begins_with`: what its loops keep.
-use Rattle.std.proofs.Common.{◌-◌, length, arith}
-use Rattle.json_text.specs.Words.{Beginning, beginning, all_there, too_short, other_byte, same_byte}
+use Rattle.std.proofs.Common.{◌-◌, length}
+use Rattle.json_text.specs.Words.{Beginning}
 use Rattle.json_text.proofs.words.begins_with.Given as goal
 
 abbrev pub invariant-loop-i : goal.invariant-loop-i

@@ -1,5 +1,5 @@
 -- `json_text::words::word_end` meets its contract: the loop keeps what is left of the word.
-use Rattle.std.proofs.Common.{ℕ, ◌-◌, ◌≤◌, [], ◌∷◌, length, get_or, ap, arith, rules}
+use Rattle.std.proofs.Common.{ℕ, ◌-◌, ◌≤◌, [], ◌∷◌, length, get_or, ap, arith}
 use Rattle.paper.specs.Grammar.{one}
 use Rattle.json_text.specs.Parts.{Going, going, going-as, all_read, byte-missing, byte-out, byte-in}
 use Rattle.json_text.specs.Words.{letters, last, last-all, letters-none, letters-next, letter-same, letter-other}

@@ -1,8 +1,7 @@
 -- `json_text::words::word_end`: what its loops keep.
-use Rattle.std.proofs.Common.{ℕ, ◌-◌, ◌≤◌, [], ◌∷◌, length, get_or, ap, arith, rules}
-use Rattle.paper.specs.Grammar.{one}
-use Rattle.json_text.specs.Parts.{Going, going, going-as, all_read, byte-missing, byte-out, byte-in}
-use Rattle.json_text.specs.Words.{letters, last, last-all, letters-none, letters-next, letter-same, letter-other}
+use Rattle.std.proofs.Common.{◌≤◌, length}
+use Rattle.json_text.specs.Parts.{Going}
+use Rattle.json_text.specs.Words.{letters, last}
 use Rattle.json_text.proofs.words.word_end.Given as goal
 
 abbrev pub invariant-loop-left : goal.invariant-loop-left

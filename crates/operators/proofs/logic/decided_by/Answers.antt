@@ -1,5 +1,4 @@
 -- `operators::logic::decided_by` meets its contract: by what was read of the two (Truths.antt). Assumes nothing.
-use Rattle.std.proofs.Common.{rules}
 use Rattle.operators.proofs.Truths.{decided, undecided}
 use Rattle.operators.proofs.logic.decided_by.Goals as goal
 

@@ -1,5 +1,5 @@
 -- `operators::logic::is_empty` meets its contract. Assumes nothing.
-use Rattle.std.proofs.Common.{ℕ, rules, eqb, ap}
+use Rattle.std.proofs.Common.{ℕ, eqb, ap}
 use Rattle.operators.proofs.logic.is_empty.Goals as goal
 
 pub returns : goal.returns

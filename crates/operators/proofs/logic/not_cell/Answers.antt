@@ -1,5 +1,5 @@
 -- `operators::logic::not_cell` meets its contract: each way out is one of Truths.antt. Assumes nothing.
-use Rattle.std.proofs.Common.{rules, sym, ◌∙◌}
+use Rattle.std.proofs.Common.{sym, ◌∙◌}
 use Rattle.operators.proofs.Truths.{not-true, not-false, not-unknown}
 use Rattle.operators.proofs.logic.not_cell.Goals as goal
 

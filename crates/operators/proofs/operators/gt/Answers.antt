@@ -1,5 +1,5 @@
 -- `operators::operators::gt` meets its contract: it is `lt` with the cells exchanged. Assumes nothing.
-use Rattle.std.proofs.Common.{rules, ◌∙◌}
+use Rattle.std.proofs.Common.{◌∙◌}
 use Rattle.operators.proofs.Arms.{exchanged}
 use Rattle.operators.proofs.operators.gt.Goals as goal
 

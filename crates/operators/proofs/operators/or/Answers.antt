@@ -1,5 +1,5 @@
 -- `operators::operators::or` meets its contract. Assumes nothing.
-use Rattle.std.proofs.Common.{rules, ap}
+use Rattle.std.proofs.Common.{ap}
 use Rattle.operators.specs.Logic.{decided_by}
 use Rattle.paper.specs.Operators.{applied, or_cell}
 use Rattle.paper.specs.declared.Answer.TheVariants.{Is}

@@ -1,5 +1,5 @@
 -- `operators::types::gives_pair` meets its contract. Assumes nothing.
-use Rattle.std.proofs.Common.{ℕ, ◌≤◌, ◌<◌, rules, le-leb, subst}
+use Rattle.std.proofs.Common.{ℕ, ◌≤◌, ◌<◌, le-leb, subst}
 use borrow.Author.Tests.{lt-leb}
 use Rattle.paper.specs.Operators.{gives, pair_no}
 use Rattle.paper.specs.declared.PairOp.TheVariants.{Mod}

@@ -1,12 +1,12 @@
 -- `pack::judge::judged` meets its contract: the loop keeps what is known of the forms left equal to what is known of all.
-use Rattle.std.proofs.Common.{ℕ, ◌+◌, ◌-◌, ◌≤◌, ◌≡◌, sym, ◌∙◌, List, ◌∷◌, arith, rules, get_or, take, drop}
+use Rattle.std.proofs.Common.{ℕ, ◌+◌, ◌≤◌, ◌≡◌, sym, ◌∙◌, List, ◌∷◌, arith, rules, get_or, take, drop}
 use borrow.Author.Tests.{not-true, not-false}
 use Rattle.paper.specs.declared.Form.{Form}
 use Rattle.paper.specs.Limits.{most_arrays, sizes_of}
 use Rattle.laws.specs.Loops.{length-mapped}
 use Rattle.laws.specs.Sizes.{Fits, fits}
 use Rattle.laws.specs.Tests.{between-true}
-use Rattle.pack.specs.Judging.{Judging, judging-start, judging-more, Counted, count-first, next-form, all-count, all-bad, all_left, all-got}
+use Rattle.pack.specs.Judging.{judging-start, judging-more, Counted, count-first, next-form, all-count, all-bad, all_left, all-got}
 use Rattle.pack.proofs.judge.judged.Goals as goal
 use Rattle.pack.proofs.judge.judged.Goals.{After-form_judged-one, After-struct_known-1, Else-not-in_range, In-loop-i}
 

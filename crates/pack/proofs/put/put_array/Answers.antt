@@ -18,7 +18,7 @@ module _ (c : After-cells_of-long) where
 -- the head is written
 module _ (c : After-put_head-begin) where
   abbrev counted : After-cells_of-long
-  counted = record { before = c.before.before.before; type_inv = record { d = c.slice_known-1.given; cells = c.shared_slice_known-1.given; } }
+  counted = record { before = c.before.before.before; type_inv = record { d = c.slice_known-1.given; cells = c.shared_slice_known-1.given } }
 
 pub copy_bytes-requires : goal.copy_bytes-requires
 copy_bytes-requires c =

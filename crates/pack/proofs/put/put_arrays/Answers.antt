@@ -1,9 +1,9 @@
 -- `pack::put::put_arrays` meets its contract: the arrays left, put where the loop stands, are the whole put at the start.
-use Rattle.std.proofs.Common.{ℕ, ◌+◌, ◌-◌, ◌≤◌, ◌≡◌, ◌∷◌, add-one, arith, rules, length, get_or, take, drop}
+use Rattle.std.proofs.Common.{ℕ, ◌+◌, ◌≤◌, ◌≡◌, ◌∷◌, add-one, arith, rules, length, get_or, take, drop}
 use Rattle.laws.specs.Loops.{length-mapped, length-first, drop-first-cons}
 use Rattle.paper.specs.declared.Form.{Form}
-use Rattle.paper.specs.Limits.{most_arrays, sizes_of}
-use Rattle.pack.specs.Laying.{Laying, laying-start, laying-room, laying-more, laying-end}
+use Rattle.paper.specs.Limits.{most_arrays}
+use Rattle.pack.specs.Laying.{laying-start, laying-room, laying-more, laying-end}
 use Rattle.pack.proofs.put.put_arrays.Goals as goal
 use Rattle.pack.proofs.put.put_arrays.Goals.{After-put_array-ends, In-loop-i, Start}
 

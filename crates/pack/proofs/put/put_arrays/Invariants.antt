@@ -1,9 +1,7 @@
 -- `pack::put::put_arrays`: what its loops keep.
-use Rattle.std.proofs.Common.{ℕ, ◌+◌, ◌-◌, ◌≤◌, ◌≡◌, ◌∷◌, add-one, arith, rules, length, get_or, take, drop}
-use Rattle.laws.specs.Loops.{length-mapped, length-first, drop-first-cons}
-use Rattle.paper.specs.declared.Form.{Form}
-use Rattle.paper.specs.Limits.{most_arrays, sizes_of}
-use Rattle.pack.specs.Laying.{Laying, laying-start, laying-room, laying-more, laying-end}
+use Rattle.std.proofs.Common.{◌-◌, take}
+use Rattle.paper.specs.Limits.{sizes_of}
+use Rattle.pack.specs.Laying.{Laying}
 use Rattle.pack.proofs.put.put_arrays.Given as goal
 
 abbrev pub invariant-loop-i : goal.invariant-loop-i

@@ -1,5 +1,5 @@
 -- `pack::put::put_axes` meets its contract: the axes left, put where the loop stands, are the whole put at the start.
-use Rattle.std.proofs.Common.{ℕ, ◌+◌, ◌-◌, ◌*◌, ◌≤◌, ◌≡◌, sym, ap, subst, ◌∙◌, arith, rules, length, get_or}
+use Rattle.std.proofs.Common.{ℕ, ◌+◌, ◌*◌, ◌≤◌, ◌≡◌, sym, ap, subst, ◌∙◌, arith, rules, length, get_or}
 use Rattle.laws.specs.Loops.{length-mapped}
 use Rattle.laws.specs.Put.{put}
 use Rattle.laws.specs.Sizes.{Fits, fits}
@@ -10,7 +10,7 @@ use Rattle.paper.specs.Limits.{most_axes, sizes_of}
 use Rattle.paper.specs.Axes.{no_name}
 use Rattle.paper.specs.Bundle.{axes_bytes}
 use Rattle.paper.specs.Answers.{axes_of, names_for}
-use Rattle.pack.specs.Put.{ranked, axis_part, AxesRoom, Writing, axes-start, axes-more, axes-done}
+use Rattle.pack.specs.Put.{ranked, axis_part, AxesRoom, axes-start, axes-more, axes-done}
 use Rattle.pack.proofs.put.put_axes.Goals as goal
 use Rattle.pack.proofs.put.put_axes.Goals.{After-put_axis, After-rank_of-rank, In-loop-i, Start}
 

@@ -1,7 +1,7 @@
 -- `pack::put::put_axis` meets its contract: five parts, one after the other.
 use Rattle.std.proofs.Common.{◌+◌, ◌≤◌, ◌≡◌, sym, ap, subst, ◌∙◌, arith, rules, length, take}
 use Rattle.paper.specs.declared.Sizes.{Sizes}
-use Rattle.paper.specs.Limits.{limits_bytes, sizes_of}
+use Rattle.paper.specs.Limits.{limits_bytes}
 use Rattle.paper.specs.Axes.{letters_of}
 use Rattle.laws.specs.Put.{put}
 use Rattle.laws.specs.Sizes.{Fits, fits}

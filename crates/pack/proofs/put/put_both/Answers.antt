@@ -1,5 +1,4 @@
 -- `pack::put::put_both` meets its contract: the first half, then the last.
-use Rattle.std.proofs.Common.{rules}
 use Rattle.pack.specs.Put.{long-put}
 use Rattle.pack.proofs.put.put_both.Goals as goal
 

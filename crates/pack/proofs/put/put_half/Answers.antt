@@ -1,5 +1,4 @@
 -- `pack::put::put_half` meets its contract: the lower four bytes, then the upper four.
-use Rattle.std.proofs.Common.{rules}
 use Rattle.pack.specs.Put.{half-put}
 use Rattle.pack.proofs.put.put_half.Goals as goal
 

@@ -1,5 +1,5 @@
 -- `pack::put::put_mark` meets its contract: six bytes, stored one by one.
-use Rattle.std.proofs.Common.{rules, ap, ◌∙◌, [], ◌∷◌, arith, length-set}
+use Rattle.std.proofs.Common.{ap, ◌∙◌, [], ◌∷◌, arith, length-set}
 use Rattle.cell.proofs.Runs.{stores_at-spliced}
 use Rattle.laws.specs.Put.{put}
 use Rattle.pack.specs.Put.{mark-bytes}

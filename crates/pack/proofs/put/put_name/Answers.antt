@@ -1,5 +1,5 @@
 -- `pack::put::put_name` meets its contract: each version by its own.
-use Rattle.std.proofs.Common.{ℕ, ◌+◌, ◌≤◌, List, ◌≡◌, sym, ap, subst, ◌∙◌, rules, length, take}
+use Rattle.std.proofs.Common.{◌+◌, ◌≤◌, ◌≡◌, sym, ap, subst, ◌∙◌, length, take}
 use Rattle.paper.specs.declared.Version.{Version}
 use Rattle.paper.specs.declared.Version.TheVariants.{One, Two}
 use Rattle.paper.specs.Limits.{sizes_of}

@@ -1,5 +1,5 @@
 -- `pack::put::whole_head` meets its contract.
-use Rattle.std.proofs.Common.{◌*◌, ◌≤◌, sym, ap, subst, arith, rules}
+use Rattle.std.proofs.Common.{◌*◌, ◌≤◌, sym, ap, subst, arith}
 use Rattle.laws.specs.Sizes.{Fits, fits}
 use Rattle.bundle.specs.Axes.{axes-small}
 use Rattle.pack.specs.Heads.{head_length}

@@ -1,6 +1,6 @@
 -- `quick::cells::quick_cells` meets its contract: each turn of the loop works out one cell. Assumes nothing.
-use Rattle.std.proofs.Common.{◌-◌, sym, arith, rules, length-take-le}
-use Rattle.quick.specs.Cells.{Upto, Turn, begins, counted, all-counted, place-there, first-there, second-there, no_nan, one_more}
+use Rattle.std.proofs.Common.{sym, arith, length-take-le}
+use Rattle.quick.specs.Cells.{Turn, begins, counted, all-counted, place-there, first-there, second-there, no_nan, one_more}
 use Rattle.quick.proofs.cells.quick_cells.Goals as goal
 use Rattle.quick.proofs.cells.quick_cells.Goals.{In-loop-off, Start}
 

@@ -1,6 +1,6 @@
 -- `quick::cells::quick_cells`: what its loops keep.
-use Rattle.std.proofs.Common.{◌-◌, sym, arith, rules, length-take-le}
-use Rattle.quick.specs.Cells.{Upto, Turn, begins, counted, all-counted, place-there, first-there, second-there, no_nan, one_more}
+use Rattle.std.proofs.Common.{◌-◌}
+use Rattle.quick.specs.Cells.{Upto}
 use Rattle.quick.proofs.cells.quick_cells.Given as goal
 
 abbrev pub invariant-loop-off : goal.invariant-loop-off

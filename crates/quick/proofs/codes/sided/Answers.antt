@@ -1,5 +1,5 @@
 -- `quick::codes::sided` meets its contract: which of the two operands is a scalar was tested. Assumes nothing.
-use Rattle.std.proofs.Common.{rules, eq-eqb, ne_eqb}
+use Rattle.std.proofs.Common.{eq-eqb, ne_eqb}
 use Rattle.quick.specs.Operands.{scalar_side}
 use Rattle.quick.specs.Cells.{none_yet}
 use Rattle.quick.proofs.codes.sided.Goals as goal

@@ -1,5 +1,5 @@
 -- `quick::operands::raw_of` meets its contract: it tells itself whether the operand is a scalar, which lies nowhere. Assumes nothing.
-use Rattle.std.proofs.Common.{◌^◌, ◌≡◌, sym, ◌∙◌, subst, true, false, arith, rules, eq-eqb, ne_eqb, T, eqb}
+use Rattle.std.proofs.Common.{◌^◌, ◌≡◌, sym, ◌∙◌, subst, true, false, arith, eq-eqb, ne_eqb, T, eqb}
 use Rattle.quick.specs.Operands.{scalar_side, bytes_most}
 use Rattle.quick.proofs.operands.raw_of.Goals as goal
 use Rattle.quick.proofs.operands.raw_of.Goals.{Else-from-eq-SCALAR, Then-from-eq-SCALAR}

@@ -1,5 +1,5 @@
 -- `quick::operands::raw_told` meets its contract: the scalar, or the bytes where the cell lies. Assumes nothing.
-use Rattle.std.proofs.Common.{ℕ, ◌+◌, ◌≤◌, ◌≡◌, ap, ◌∙◌, false, List, arith, rules, eqb, length}
+use Rattle.std.proofs.Common.{ℕ, ◌+◌, ◌≤◌, ◌≡◌, ap, ◌∙◌, false, List, arith, eqb, length}
 use Rattle.paper.specs.Limits.{cell_bytes}
 use Rattle.quick.specs.Operands.{scalar_side, raw-there, bytes_in}
 use Rattle.quick.proofs.operands.raw_told.Goals as goal

@@ -1,5 +1,4 @@
 -- `recipe::operands::no_operand` meets its contract.
-use Rattle.std.proofs.Common.{rules}
 use Rattle.recipe.proofs.operands.no_operand.Goals as goal
 
 pub returns : goal.returns

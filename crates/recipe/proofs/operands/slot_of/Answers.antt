@@ -1,5 +1,5 @@
 -- `recipe::operands::slot_of` meets its contract.
-use Rattle.std.proofs.Common.{◌+◌, arith, le-leb, rules}
+use Rattle.std.proofs.Common.{◌+◌, arith, le-leb}
 use borrow.Author.Tests.{lt-leb}
 use Rattle.paper.specs.Limits.{most_arrays, steps_from, most_steps}
 use Rattle.recipe.proofs.operands.slot_of.Goals as goal

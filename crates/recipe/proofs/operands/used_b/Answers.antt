@@ -1,5 +1,4 @@
 -- `recipe::operands::used_b` meets its contract.
-use Rattle.std.proofs.Common.{rules}
 use Rattle.recipe.proofs.operands.used_b.Goals as goal
 
 pub returns : goal.returns

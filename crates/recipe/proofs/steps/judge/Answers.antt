@@ -1,5 +1,5 @@
 -- `recipe::steps::judge` meets its contract: the operands, the tests, the result.
-use Rattle.std.proofs.Common.{◌≡◌, sym, ap, subst, ◌∙◌, Bool, true, length, rules}
+use Rattle.std.proofs.Common.{◌≡◌, sym, ap, subst, ◌∙◌, Bool, true, length}
 use borrow.Author.Tests.{not-true, not-false}
 use Rattle.paper.specs.Refusals.{if◌then◌else◌}
 use Rattle.paper.specs.Recipe.{step_tests}

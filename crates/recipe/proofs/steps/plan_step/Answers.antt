@@ -1,5 +1,5 @@
 -- `recipe::steps::plan_step` meets its contract.
-use Rattle.std.proofs.Common.{◌+◌, ◌^◌, ◌≤◌, ◌<◌, ◌≡◌, ap, ◌∙◌, length, arith, rules}
+use Rattle.std.proofs.Common.{◌+◌, ◌^◌, ◌≤◌, ◌<◌, ◌≡◌, ap, ◌∙◌, length, arith}
 use Rattle.paper.specs.Limits.{head_bytes, scalar_at}
 use Rattle.laws.specs.Sizes.{fits}
 use Rattle.step.specs.declared.operation.OperationGot.TheVariants.{Is}

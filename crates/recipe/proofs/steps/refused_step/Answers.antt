@@ -1,5 +1,4 @@
 -- `recipe::steps::refused_step` meets its contract.
-use Rattle.std.proofs.Common.{rules}
 use Rattle.recipe.proofs.steps.refused_step.Goals as goal
 
 pub returns : goal.returns

@@ -1,5 +1,5 @@
 -- `recipe::steps::step_refusal` meets its contract: the first test that fails, or none.
-use Rattle.std.proofs.Common.{ℕ, ◌≡◌, sym, ap, subst, ◌∙◌, Bool, true, false, not, ◌||◌, arith, length, ne_eqb, rules}
+use Rattle.std.proofs.Common.{ℕ, ◌≡◌, sym, ap, subst, ◌∙◌, Bool, true, false, not, ◌||◌, arith, length, ne_eqb}
 use borrow.Author.Tests.{not-true, not-false}
 use Rattle.paper.specs.Refusals.{outside6, between, ensure}
 use Rattle.paper.specs.Axes.{Shape}

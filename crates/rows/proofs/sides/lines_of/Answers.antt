@@ -1,5 +1,5 @@
 -- `rows::sides::lines_of` meets its contract: one line of the cells left, or as many lines as the axes before have cells side by side.
-use Rattle.std.proofs.Common.{arith, rules}
+use Rattle.std.proofs.Common.{arith}
 use Rattle.rows.specs.Sides.{one-lined}
 use Rattle.rows.specs.Fronts.{first-beside, first-lined}
 use Rattle.rows.proofs.sides.lines_of.Goals as goal

@@ -1,5 +1,5 @@
 -- `rows::sides::one_line` meets its contract.
-use Rattle.std.proofs.Common.{arith, rules}
+use Rattle.std.proofs.Common.{arith}
 use Rattle.rows.proofs.sides.one_line.Goals as goal
 
 pub returns : goal.returns

@@ -1,5 +1,5 @@
 -- `rows::sides::past_single` meets its contract: it counts down from c.
-use Rattle.std.proofs.Common.{◌≤◌, arith}
+use Rattle.std.proofs.Common.{arith}
 use Rattle.laws.specs.Answers.{axes-few}
 use Rattle.rows.proofs.sides.past_single.Goals as goal
 

@@ -1,6 +1,5 @@
 -- `rows::sides::past_single`: what its loops keep.
-use Rattle.std.proofs.Common.{◌≤◌, arith}
-use Rattle.laws.specs.Answers.{axes-few}
+use Rattle.std.proofs.Common.{◌≤◌}
 use Rattle.rows.proofs.sides.past_single.Given as goal
 
 abbrev pub invariant-loop-i : goal.invariant-loop-i

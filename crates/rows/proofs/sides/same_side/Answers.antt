@@ -1,5 +1,5 @@
 -- `rows::sides::same_side` meets its contract: x stands below axis e, above it or on it.
-use Rattle.std.proofs.Common.{◌≤◌, arith, rules}
+use Rattle.std.proofs.Common.{◌≤◌, arith}
 use Rattle.rows.specs.Sides.{side-below, side-above, side-on}
 use Rattle.rows.proofs.sides.same_side.Goals as goal
 

@@ -1,5 +1,5 @@
 -- `rows::sides::side_around` meets its contract: found by the axes before, as `side_by_side`; else all lines that are outside by them.
-use Rattle.std.proofs.Common.{sym, ◌∙◌, arith, rules}
+use Rattle.std.proofs.Common.{sym, ◌∙◌, arith}
 use Rattle.rows.specs.Fronts.{first-beside, around-few, around-side}
 use Rattle.rows.proofs.sides.side_around.Goals as goal
 

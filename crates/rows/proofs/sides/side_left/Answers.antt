@@ -1,5 +1,5 @@
 -- `rows::sides::side_left` meets its contract: so many blocks, less the cells passed of the first.
-use Rattle.std.proofs.Common.{ℕ, ◌+◌, ◌*◌, ◌/◌, ◌%◌, ◌≤◌, ◌<◌, refl, mod-lt, add-mul, arith, rules}
+use Rattle.std.proofs.Common.{ℕ, ◌+◌, ◌*◌, ◌/◌, ◌%◌, ◌≤◌, ◌<◌, refl, mod-lt, add-mul, arith}
 use Rattle.paper.specs.declared.Axis.{Axis}
 use Rattle.paper.specs.Axes.{width}
 use Rattle.rows.specs.Sides.{OneSide, side-blocks}

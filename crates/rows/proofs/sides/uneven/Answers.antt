@@ -1,5 +1,5 @@
 -- `rows::sides::uneven` meets its contract: it never counts past the axes.
-use Rattle.std.proofs.Common.{◌≤◌, arith, rules}
+use Rattle.std.proofs.Common.{arith}
 use Rattle.rows.proofs.sides.uneven.Goals as goal
 
 pub returns-then-not-same_limits : goal.returns-then-not-same_limits

@@ -1,5 +1,5 @@
 -- `rows::sides::uneven`: what its loops keep.
-use Rattle.std.proofs.Common.{◌≤◌, arith, rules}
+use Rattle.std.proofs.Common.{◌≤◌}
 use Rattle.rows.proofs.sides.uneven.Given as goal
 
 abbrev pub invariant-loop-i : goal.invariant-loop-i

@@ -1,5 +1,4 @@
 -- `shape::names::long_name` meets its contract.
-use Rattle.std.proofs.Common.{rules, arith}
 use Rattle.shape.specs.Names.{long-name}
 use Rattle.shape.proofs.names.long_name.Goals as goal
 

@@ -1,6 +1,5 @@
 -- `shape::names::name_at` meets its contract: each version by its own.
-use Rattle.std.proofs.Common.{ℕ, ◌≡◌, sym, ap, subst, ◌∙◌, rules}
-use Rattle.paper.specs.declared.Name.{Name}
+use Rattle.std.proofs.Common.{◌≡◌, sym, ap, subst, ◌∙◌}
 use Rattle.paper.specs.declared.Version.{Version}
 use Rattle.paper.specs.declared.Version.TheVariants.{One, Two}
 use Rattle.paper.specs.Limits.{sizes_of}

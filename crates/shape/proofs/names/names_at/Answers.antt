@@ -1,11 +1,11 @@
 -- `shape::names::names_at` meets its contract.
 -- The loop has as many of the new names as it has passed.
-use Rattle.std.proofs.Common.{ℕ, ◌*◌, ◌+◌, ◌-◌, ◌≤◌, ◌≡◌, refl, ap, ◌∙◌, arith, rules, length}
+use Rattle.std.proofs.Common.{ℕ, ◌*◌, ◌+◌, ◌≤◌, ◌≡◌, refl, ap, ◌∙◌, arith, length}
 use Rattle.paper.specs.declared.Sizes.{Sizes}
 use Rattle.paper.specs.Limits.{sizes_of}
 use Rattle.paper.specs.Numbers.{part}
 use Rattle.paper.specs.Bundle.{name_from}
-use Rattle.shape.specs.Names.{Renamed, renamed-more, renamed-all, names-room}
+use Rattle.shape.specs.Names.{renamed-more, renamed-all, names-room}
 use Rattle.shape.proofs.names.names_at.Goals as goal
 use Rattle.shape.proofs.names.names_at.Goals.{In-loop-i, Start}
 

@@ -1,10 +1,7 @@
 -- `shape::names::names_at`: what its loops keep.
-use Rattle.std.proofs.Common.{ℕ, ◌*◌, ◌+◌, ◌-◌, ◌≤◌, ◌≡◌, refl, ap, ◌∙◌, arith, rules, length}
-use Rattle.paper.specs.declared.Sizes.{Sizes}
+use Rattle.std.proofs.Common.{◌-◌, ◌≤◌}
 use Rattle.paper.specs.Limits.{sizes_of}
-use Rattle.paper.specs.Numbers.{part}
-use Rattle.paper.specs.Bundle.{name_from}
-use Rattle.shape.specs.Names.{Renamed, renamed-more, renamed-all, names-room}
+use Rattle.shape.specs.Names.{Renamed}
 use Rattle.shape.proofs.names.names_at.Given as goal
 
 abbrev pub invariant-loop-i : goal.invariant-loop-i

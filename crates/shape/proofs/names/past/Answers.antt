@@ -1,5 +1,4 @@
 -- `shape::names::past` meets its contract.
-use Rattle.std.proofs.Common.{rules}
 use Rattle.shape.proofs.names.past.Goals as goal
 
 pub returns-then-out : goal.returns-then-out

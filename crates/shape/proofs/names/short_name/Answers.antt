@@ -1,5 +1,4 @@
 -- `shape::names::short_name` meets its contract.
-use Rattle.std.proofs.Common.{rules}
 use Rattle.shape.specs.Names.{short-name}
 use Rattle.shape.proofs.names.short_name.Goals as goal
 

@@ -1,11 +1,11 @@
 -- `shape::names::without_name` meets its contract.
 -- The loop has kept the names passed, without the one.
-use Rattle.std.proofs.Common.{ℕ, ◌-◌, ◌≤◌, ◌<◌, List, ◌≡◌, sym, subst, ap, ◌∙◌, arith, rules, length, get_or, take, set, get_or-take, length-take-le}
+use Rattle.std.proofs.Common.{List, ◌≡◌, arith, rules, length, get_or, take, get_or-take, length-take-le}
 use Rattle.laws.specs.Loops.{length-mapped}
 use Rattle.paper.specs.declared.Name.{Name}
 use Rattle.paper.specs.Limits.{most_axes}
 use Rattle.paper.specs.Axes.{no_name}
-use Rattle.shape.specs.Names.{Kept, kept-start, kept_more, kept-all}
+use Rattle.shape.specs.Names.{kept-start, kept_more, kept-all}
 use Rattle.shape.proofs.names.without_name.Goals as goal
 use Rattle.shape.proofs.names.without_name.Goals.{Start}
 

@@ -1,5 +1,5 @@
 -- `step::agreeing::axis_differs` meets its contract: name, then lower, then upper limit.
-use Rattle.std.proofs.Common.{true, ◌≡◌, sym, ◌∙◌, arith, rules, eq-eqb, ne_eqb}
+use Rattle.std.proofs.Common.{true, ◌≡◌, sym, ◌∙◌, arith, eq-eqb, ne_eqb}
 use borrow.Author.Tests.{not-true, not-false}
 use Rattle.paper.specs.Axes.{same_name}
 use Rattle.paper.specs.Recipe.{axis_differs}

@@ -1,5 +1,5 @@
 -- `step::agreeing::difference` meets its contract: a move or a work.
-use Rattle.std.proofs.Common.{true, ◌≡◌, subst, rules, length}
+use Rattle.std.proofs.Common.{true, ◌≡◌, subst, length}
 use Rattle.paper.specs.declared.Operation.{Operation}
 use Rattle.paper.specs.Recipe.{uses, axis_in}
 use Rattle.paper.specs.Answers.{axes_of}

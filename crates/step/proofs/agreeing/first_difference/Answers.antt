@@ -1,14 +1,12 @@
 -- `step::agreeing::first_difference` meets its contract.
 -- As many axes; then the loop keeps the first difference of the axes left equal to the whole.
-use Rattle.std.proofs.Common.{ℕ, ◌+◌, ◌-◌, ◌*◌, ◌≤◌, ◌<◌, Bool, List, ◌≡◌, ap, sym, ◌∙◌, arith, rules, length, get_or}
-use Rattle.paper.specs.declared.Name.{Name}
+use Rattle.std.proofs.Common.{ℕ, ◌+◌, ◌*◌, ◌≤◌, ◌<◌, Bool, ◌≡◌, ap, sym, ◌∙◌, arith, rules, length, get_or}
 use Rattle.paper.specs.Limits.{most_axes}
 use Rattle.paper.specs.Axes.{no_name}
 use Rattle.paper.specs.Recipe.{axis_differs}
-use Rattle.paper.specs.Answers.{axes_of, names_for}
 use Rattle.laws.specs.Loops.{length-mapped}
 use Rattle.extent.specs.Rank.{axis_no}
-use Rattle.step.specs.Agreeing.{limits_in, index_in, differing, differing_from, count-differs, count_same}
+use Rattle.step.specs.Agreeing.{limits_in, index_in, count-differs, count_same}
 use Rattle.step.specs.Agreeing.{axis-found, axis-passed, none-differs}
 use Rattle.step.proofs.agreeing.first_difference.Goals as goal
 use Rattle.step.proofs.agreeing.first_difference.Goals.{After-axis_differs-d, Else-rank_of-rank, In-loop-j, Start}

@@ -1,5 +1,5 @@
 -- `step::agreeing::index_in` meets its contract: an axis that was left out counts, once it is passed.
-use Rattle.std.proofs.Common.{arith, rules, lt-ltb, le-ltb}
+use Rattle.std.proofs.Common.{arith, lt-ltb, le-ltb}
 use Rattle.step.proofs.agreeing.index_in.Goals as goal
 
 pub returns-in-Names : goal.returns-in-Names

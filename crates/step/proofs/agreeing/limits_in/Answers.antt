@@ -1,5 +1,4 @@
 -- `step::agreeing::limits_in` meets its contract: none, all, or all but one axis's.
-use Rattle.std.proofs.Common.{rules}
 use Rattle.step.proofs.agreeing.limits_in.Goals as goal
 
 pub returns-in-OtherLimits : goal.returns-in-OtherLimits

@@ -1,7 +1,6 @@
 -- `step::agreeing::moves_differ` meets its contract: each move by its own line of the table.
 use Rattle.std.proofs.Common.{true, ◌≡◌, ◌∙◌, refl, subst, rules, length}
 use Rattle.paper.specs.declared.Move.{Move}
-use Rattle.paper.specs.declared.Move.TheVariants.{Put}
 use Rattle.paper.specs.declared.Operation.TheVariants.{Moves}
 use Rattle.paper.specs.Refusals.{between}
 use Rattle.paper.specs.Recipe.{uses, axis_in, agree}

@@ -1,5 +1,5 @@
 -- `step::operation::of_pair` meets its contract: the operator's number, or none.
-use Rattle.std.proofs.Common.{sym, ap, ◌∙◌, rules}
+use Rattle.std.proofs.Common.{sym, ap, ◌∙◌}
 use mathlib.Core.Option.{map}
 use Rattle.operators.specs.Told.{told_pair}
 use Rattle.paper.specs.declared.Operation.TheVariants.{Works}

@@ -1,5 +1,5 @@
 -- `step::operation::operation_of` meets its contract.
-use Rattle.std.proofs.Common.{sym, ap, ◌∙◌, ℕ, rules}
+use Rattle.std.proofs.Common.{sym, ap, ◌∙◌, ℕ}
 use Rattle.paper.specs.Recipe.{operation}
 use Rattle.step.specs.Told.{no-operation}
 use Rattle.step.proofs.operation.operation_of.Goals as goal

@@ -1,5 +1,5 @@
 -- `step::tests::fits_in` meets its contract: a move or a work.
-use Rattle.std.proofs.Common.{◌≡◌, sym, ap, ◌∙◌, Bool, rules}
+use Rattle.std.proofs.Common.{◌≡◌, sym, ap, ◌∙◌, Bool}
 use Rattle.paper.specs.declared.Operation.{Operation}
 use Rattle.paper.specs.Answers.{shape_of}
 use Rattle.paper.specs.Recipe.{fits_in}

@@ -1,5 +1,5 @@
 -- `step::tests::move_fits` meets its contract: each move by its own line of the table.
-use Rattle.std.proofs.Common.{rules, ℕ, ◌*◌, ◌&&◌, List, ap, ◌∙◌, arith, length}
+use Rattle.std.proofs.Common.{ℕ, ◌*◌, ◌&&◌, List, ap, ◌∙◌, arith, length}
 use Rattle.paper.specs.Recipe.{fits_in}
 use Rattle.paper.specs.declared.Axis.{Axis}
 use Rattle.paper.specs.Limits.{limit_bytes, pair_bytes}

@@ -1,5 +1,5 @@
 -- `step::tests::moved_extent` meets its contract: each move by its own line of the table.
-use Rattle.std.proofs.Common.{ℕ, ◌*◌, ◌≡◌, ◌∙◌, subst, List, true, length, drop, rules}
+use Rattle.std.proofs.Common.{ℕ, ◌*◌, ◌≡◌, ◌∙◌, subst, List, true, length, drop}
 use Rattle.paper.specs.declared.Axis.{Axis}
 use Rattle.paper.specs.Limits.{limit_bytes, pair_bytes}
 use Rattle.paper.specs.Numbers.{part}

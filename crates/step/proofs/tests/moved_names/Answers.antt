@@ -1,5 +1,5 @@
 -- `step::tests::moved_names` meets its contract: each move by its own line of the table.
-use Rattle.std.proofs.Common.{ℕ, ◌*◌, ◌≤◌, List, ◌≡◌, ◌∙◌, ap, sym, subst, arith, rules, length, take}
+use Rattle.std.proofs.Common.{ℕ, ◌*◌, ◌≤◌, List, ◌≡◌, ap, sym, subst, arith, rules, length, take}
 use Rattle.paper.specs.declared.Name.{Name}
 use Rattle.paper.specs.declared.Axis.{Axis}
 use Rattle.paper.specs.declared.Move.{Move}

@@ -1,5 +1,4 @@
 -- `step::tests::one_type` meets its contract: where B is not used, its type is free.
-use Rattle.std.proofs.Common.{rules}
 use borrow.Author.Tests.{not-false}
 use Rattle.step.proofs.tests.one_type.Goals as goal
 

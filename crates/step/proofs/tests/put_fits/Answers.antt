@@ -1,5 +1,5 @@
 -- `step::tests::put_fits` meets its contract.
-use Rattle.std.proofs.Common.{sym, ap, ◌∙◌, List, rules}
+use Rattle.std.proofs.Common.{sym, ap, ◌∙◌, List}
 use borrow.Author.Tests.{not-true, not-false}
 use Rattle.paper.specs.declared.Axis.{Axis}
 use Rattle.paper.specs.Answers.{axes_of}

@@ -1,5 +1,5 @@
 -- `step::tests::result_extent` meets its contract: a move's, or A's.
-use Rattle.std.proofs.Common.{◌≡◌, sym, ap, subst, ◌∙◌, true, List, length, rules}
+use Rattle.std.proofs.Common.{◌≡◌, sym, ap, subst, ◌∙◌, true, List, length}
 use Rattle.paper.specs.declared.Axis.{Axis}
 use Rattle.paper.specs.declared.Operation.{Operation}
 use Rattle.paper.specs.Answers.{axes_of}

@@ -1,5 +1,5 @@
 -- `step::tests::scalar_fits` meets its contract.
-use Rattle.std.proofs.Common.{sym, ap, ◌∙◌, rules}
+use Rattle.std.proofs.Common.{sym, ap, ◌∙◌}
 use borrow.Author.Tests.{not-true, not-false}
 use Rattle.laws.specs.Tests.{and_no}
 use Rattle.paper.specs.Recipe.{is_scalar}

@@ -1,6 +1,6 @@
 -- `step::tests::slice_fits` meets its contract.
 -- The axis, and the position where it lies.
-use Rattle.std.proofs.Common.{◌∙◌, ap₂, rules}
+use Rattle.std.proofs.Common.{◌∙◌, ap₂}
 use Rattle.paper.specs.Axes.{on_axis}
 use Rattle.step.proofs.tests.slice_fits.Goals as goal
 

@@ -1,5 +1,5 @@
 -- `step::tests::takes_type` meets its contract: each by its own line of the table.
-use Rattle.std.proofs.Common.{rules, ◌+◌}
+use Rattle.std.proofs.Common.{◌+◌}
 use Rattle.paper.specs.Recipe.{takes_type}
 use Rattle.paper.specs.Limits.{scalar_at, word_bytes}
 use Rattle.laws.specs.Sizes.{fits}

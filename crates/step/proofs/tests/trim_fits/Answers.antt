@@ -1,5 +1,5 @@
 -- `step::tests::trim_fits` meets its contract.
-use Rattle.std.proofs.Common.{ap, ◌∙◌, List, rules}
+use Rattle.std.proofs.Common.{ap, ◌∙◌, List}
 use Rattle.paper.specs.declared.Axis.{Axis}
 use Rattle.paper.specs.Answers.{axes_of}
 use Rattle.paper.specs.Recipe.{covers}

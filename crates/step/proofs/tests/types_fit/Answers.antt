@@ -1,5 +1,5 @@
 -- `step::tests::types_fit` meets its contract: one type, and what the operator takes.
-use Rattle.std.proofs.Common.{◌≡◌, sym, ap, ◌∙◌, Bool, not, ◌||◌, eqb, rules}
+use Rattle.std.proofs.Common.{◌≡◌, sym, ap, ◌∙◌, Bool, not, ◌||◌, eqb}
 use borrow.Author.Tests.{not-true, not-false}
 use Rattle.paper.specs.declared.Operation.{Operation}
 use Rattle.paper.specs.Recipe.{uses, types_fit}

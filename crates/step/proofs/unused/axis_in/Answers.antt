@@ -1,5 +1,4 @@
 -- `step::unused::axis_in` meets its contract: free, or 1 to n.
-use Rattle.std.proofs.Common.{rules}
 use borrow.Author.Tests.{not-false}
 use Rattle.step.proofs.unused.axis_in.Goals as goal
 

@@ -1,5 +1,5 @@
 -- `step::unused::detail_zero` meets its contract.
-use Rattle.std.proofs.Common.{sym, ◌∙◌, rules}
+use Rattle.std.proofs.Common.{sym, ◌∙◌}
 use borrow.Author.Tests.{not-true, not-false}
 use Rattle.step.specs.Using.{rest-used, no-scalar, by_scalar}
 use Rattle.step.proofs.unused.detail_zero.Goals as goal

@@ -1,5 +1,5 @@
 -- `step::unused::moves_use` meets its contract: each move by its own line of the table.
-use Rattle.std.proofs.Common.{rules, mul-le-mul, arith}
+use Rattle.std.proofs.Common.{mul-le-mul, arith}
 use Rattle.step.specs.Using.{used_by}
 use Rattle.step.proofs.unused.moves_use.Goals as goal
 

@@ -1,5 +1,5 @@
 -- `step::unused::unused_zero` meets its contract: one byte, the other, the detail.
-use Rattle.std.proofs.Common.{◌∙◌, ap, sym, arith, rules}
+use Rattle.std.proofs.Common.{◌∙◌, ap, sym, arith}
 use Rattle.laws.specs.Sizes.{fits}
 use Rattle.paper.specs.declared.Sizes.{Sizes}
 use Rattle.paper.specs.Numbers.{part, zeros}

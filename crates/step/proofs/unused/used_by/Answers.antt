@@ -1,5 +1,4 @@
 -- `step::unused::used_by` meets its contract: a move or a work.
-use Rattle.std.proofs.Common.{rules}
 use Rattle.laws.specs.Sizes.{fits}
 use Rattle.step.proofs.unused.used_by.Goals as goal
 

@@ -1,5 +1,4 @@
 -- `step::unused::used_or_zero` meets its contract.
-use Rattle.std.proofs.Common.{rules}
 use Rattle.step.proofs.unused.used_or_zero.Goals as goal
 
 pub returns : goal.returns

@@ -1,5 +1,4 @@
 -- `step::unused::works_use` meets its contract: each by its own line of the table.
-use Rattle.std.proofs.Common.{rules}
 use Rattle.step.specs.Using.{used_by}
 use Rattle.step.proofs.unused.works_use.Goals as goal
 

@@ -1,6 +1,5 @@
 -- `step::unused::zero_between` meets its contract: what is left are zeros exactly if all are, in both loops.
-use Rattle.std.proofs.Common.{◌≡◌, refl, sym, ◌∙◌, eq-eqb, ne_eqb, ◌+◌, ◌-◌, ◌≤◌, arith}
-use Rattle.paper.specs.Numbers.{part, zeros}
+use Rattle.std.proofs.Common.{refl, sym, ◌∙◌, eq-eqb, ne_eqb, arith}
 use Rattle.step.specs.Using.{zeros-up, zeros-word, zeros-end}
 use Rattle.step.proofs.unused.zero_between.Goals as goal
 
@@ -20,13 +19,12 @@ returns-then-word-ne0 c =
     ∙ c.loop-i.invariant.1
 
 pub loop-i-preserved : goal.loop-i-preserved
-loop-i-preserved c =
-    (
-      omega (arith, c.loop-i-test.true, c.loop-i.invariant.0),
-      sym (zeros-word c.args.s.now c.args.to c.loop-i.i c.loop-i-test.true
-          ∙ rw (← c.word.ensures, eq-eqb _ 0 c.if-word-ne0.false))
-          ∙ c.loop-i.invariant.1,
-    )
+loop-i-preserved c = (
+  omega (arith, c.loop-i-test.true, c.loop-i.invariant.0),
+  sym (zeros-word c.args.s.now c.args.to c.loop-i.i c.loop-i-test.true
+      ∙ rw (← c.word.ensures, eq-eqb _ 0 c.if-word-ne0.false))
+      ∙ c.loop-i.invariant.1,
+)
 
 pub loop-i-2-init : goal.loop-i-2-init
 loop-i-2-init c = refl

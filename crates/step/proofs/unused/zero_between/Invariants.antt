@@ -1,7 +1,6 @@
 -- `step::unused::zero_between`: what its loops keep.
-use Rattle.std.proofs.Common.{◌≡◌, refl, sym, ◌∙◌, eq-eqb, ne_eqb, ◌+◌, ◌-◌, ◌≤◌, arith}
+use Rattle.std.proofs.Common.{◌≡◌, ◌-◌, ◌≤◌}
 use Rattle.paper.specs.Numbers.{part, zeros}
-use Rattle.step.specs.Using.{zeros-up, zeros-word, zeros-end}
 use Rattle.step.proofs.unused.zero_between.Given as goal
 
 abbrev pub invariant-loop-i : goal.invariant-loop-i
