@@ -11,8 +11,9 @@ use Rattle.paper.specs.Axes.{cells, coordinate, Shape}
 use Rattle.paper.specs.Listing.{row}
 use Rattle.paper.specs.Rests.{digits, decimal, spaced, row_text}
 use Rattle.laws.specs.Numbers.{le_of-le_bytes}
-use Rattle.laws.specs.Positions.{position-read}
-use Rattle.laws.specs.Places.{Inside, coordinate-inside}
+use Rattle.laws.proofs.Positions.{position-read}
+use Rattle.laws.specs.Places.{Inside}
+use Rattle.laws.proofs.Places.{coordinate-inside}
 use Rattle.laws.specs.Limits.{Sound}
 use Rattle.decimal.specs.Wrote.{Wrote, wrote_then, wrote_as}
 use Rattle.decimal.specs.Digits.{digits-most, decimal-most}

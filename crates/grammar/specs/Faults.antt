@@ -11,11 +11,11 @@ use Rattle.paper.specs.Machine.{given, chosen, settled, move, step, complete, fa
 use Rattle.grammar.specs.Going.{chosen-rule, map-some, step-made}
 use Rattle.grammar.specs.Tables.{no_true, loose, sound, rules-orderly, rule-orderly, orderly-sound}
 use Rattle.grammar.specs.Single.{reads, followed, rest-sound, all_read}
-use Rattle.grammar.specs.Finish.{finish_all, finished-all}
+use Rattle.grammar.specs.Finish.{finish_all}
 
 -- ---- the parts stay in order
 
-settled-sound : (gs : List Part) (b : ℕ) → sound gs ≡ true → sound (settled gs b) ≡ true
+pub settled-sound : (gs : List Part) (b : ℕ) → sound gs ≡ true → sound (settled gs b) ≡ true
 unfolding settled
 settled-sound [] b s = s
 settled-sound (g ∷ gs) b s = go (optional g) (chosen (rules g) b)
@@ -25,7 +25,7 @@ settled-sound (g ∷ gs) b s = go (optional g) (chosen (rules g) b)
     go true (some ps) = s
     go false c = s
 
-move-sound : (gs : List Part) (b : ℕ) (hs : List Part) → move gs b ≡ some hs → sound gs ≡ true → sound hs ≡ true
+pub move-sound : (gs : List Part) (b : ℕ) (hs : List Part) → move gs b ≡ some hs → sound gs ≡ true → sound hs ≡ true
 unfolding move
 move-sound [] b hs e s = go (among blank b) e
   where
@@ -51,61 +51,14 @@ pub record Broken (gs : List Part) (i : ℕ) (bs : List ℕ) (k : ℕ) : Type 0 
   pub stops : (b : ℕ) (rest end : List ℕ) → left ≡ b ∷ rest → Made gs (read ++ (b ∷ end)) → ⊥
   pub missing : left ≡ [] → Made gs read → ⊥
 
-none_made : (gs : List Part) (b : ℕ) (bs : List ℕ) → step gs b ≡ none → sound gs ≡ true → Made gs (b ∷ bs) → ⊥
+pub none_made : (gs : List Part) (b : ℕ) (bs : List ℕ) → step gs b ≡ none → sound gs ≡ true → Made gs (b ∷ bs) → ⊥
 none_made gs b bs h s m = let v = reads m s in no_none v.after (sym h ∙ v.stepped)
 
-some-made : (gs : List Part) (b : ℕ) (ks : List Part) (bs : List ℕ) → step gs b ≡ some ks → sound gs ≡ true → Made gs (b ∷ bs) → Made ks bs
+pub some-made : (gs : List Part) (b : ℕ) (ks : List Part) (bs : List ℕ) → step gs b ≡ some ks → sound gs ≡ true → Made gs (b ∷ bs) → Made ks bs
 some-made gs b ks bs h s m = let v = reads m s in rw (some_one v.after ks (sym v.stepped ∙ h)) at v.made
 
-first-is : {A : Type 0} (a b : A) (l m : List A) → a ∷ l ≡ b ∷ m → a ≡ b
+pub first-is : {A : Type 0} (a b : A) (l m : List A) → a ∷ l ≡ b ∷ m → a ≡ b
 first-is a b l m e = cc
 
-no-cons : {A : Type 0} (a : A) (l : List A) → [] ≡ a ∷ l → ⊥
+pub no-cons : {A : Type 0} (a : A) (l : List A) → [] ≡ a ∷ l → ⊥
 no-cons a l e = let z : ◌≡◌ {A = ℕ} 0 1 = cc in omega arith
-
-pub broken : (gs : List Part) (i : ℕ) (bs : List ℕ) (k : ℕ) → sound gs ≡ true → fault_from gs i bs ≡ some k → Broken gs i bs k
-unfolding fault_from
-broken gs i [] k s e = go (complete gs) refl e
-  where
-    go : (t : Bool) → complete gs ≡ t → (if t then none else some i) ≡ some k → Broken gs i [] k
-    go true h f = absurd (no_none k f)
-    go false h f =
-        let p : i ≡ k = some_one i k f in
-        record {
-          read = [];
-          left = [];
-          whole = refl;
-          place = omega arith;
-          more = finish_all gs;
-          begins = finished-all gs s;
-          stops = λ b rest end q m. absurd (no-cons b rest q);
-          missing = λ q m. no_true (sym h ∙ all_read gs s m);
-        }
-broken gs i (b ∷ bs) k s e = go (step gs b) refl e (λ ks t f. broken ks (i + 1) bs k t f)
-  where
-    go : (o : Option (List Part)) → step gs b ≡ o → given o (some i) (λ ks. fault_from ks (i + 1) bs) ≡ some k
-        → ((ks : List Part) → sound ks ≡ true → fault_from ks (i + 1) bs ≡ some k → Broken ks (i + 1) bs k) → Broken gs i (b ∷ bs) k
-    go none h f ih =
-        let p : i ≡ k = some_one i k f in
-        record {
-          read = [];
-          left = b ∷ bs;
-          whole = refl;
-          place = omega arith;
-          more = finish_all gs;
-          begins = finished-all gs s;
-          stops = λ c rest end q m. none_made gs b end h s (rw (← first-is b c bs rest q) at m);
-          missing = λ q m. no-cons b bs (sym q);
-        }
-    go (some ks) h f ih =
-        let v = ih ks (move-sound (settled gs b) b ks h (settled-sound gs b s)) f in
-        record {
-          read = b ∷ v.read;
-          left = v.left;
-          whole = ap (λ l. b ∷ l) v.whole;
-          place = omega (arith, v.place);
-          more = v.more;
-          begins = step-made gs b ks (v.read ++ v.more) h v.begins;
-          stops = λ c rest end q m. v.stops c rest end q (some-made gs b ks (v.read ++ (c ∷ end)) h s m);
-          missing = λ q m. v.missing q (some-made gs b ks v.read h s m);
-        }

@@ -11,11 +11,10 @@ use Rattle.grammar.specs.Made.{Made}
 use Rattle.grammar.specs.Going.{faultless-made}
 use Rattle.grammar.specs.Tables.{loose, is_value, full, sound}
 use Rattle.grammar.specs.Single.{made-faultless}
-use Rattle.grammar.specs.Faults.{broken}
 use Rattle.grammar.specs.Generated.{generated-made}
 use Rattle.grammar.specs.Printed.{made-generated}
 
-start-sound : sound start ≡ true
+pub start-sound : sound start ≡ true
 unfolding sound loose is_value full
 start-sound = refl
 
@@ -36,19 +35,6 @@ pub record FaultAt (bs : List ℕ) (k : ℕ) : Type 0 where
   pub begins : Begins read
   pub stops : (b : ℕ) (rest : List ℕ) → left ≡ b ∷ rest → Begins (read ++ (b ∷ [])) → ⊥
   pub missing : left ≡ [] → JsonObject bs → ⊥
-
-pub fault-some : (bs : List ℕ) (k : ℕ) → fault bs ≡ some k → FaultAt bs k
-fault-some bs k e =
-    let v = broken start 1 bs k start-sound e in
-    record {
-      read = v.read;
-      left = v.left;
-      whole = v.whole;
-      place = omega (arith, v.place);
-      begins = (v.more, (made-is _).0 v.begins);
-      stops = λ b rest q m. v.stops b rest m.0 q (rw append_assoc at ((made-is _).1 m.1));
-      missing = λ q o. no_none k (sym ((fault-none bs).1 o) ∙ e);
-    }
 
 -- so every text is decided
 pub fault-decides : (bs : List ℕ) → Dec (JsonObject bs)

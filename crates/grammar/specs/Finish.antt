@@ -65,10 +65,3 @@ finished (at more_members n) gs bs f m = by _ (there (there here)) refl m
 unfoldable pub finish_all : List Part → List ℕ
 finish_all [] = []
 finish_all (g ∷ gs) = finish g ++ finish_all gs
-
-pub finished-all : (gs : List Part) → sound gs ≡ true → Made gs (finish_all gs)
-unfolding finish_all sound
-finished-all [] s = nothing
-finished-all (g ∷ gs) s =
-    let t : (full g && sound gs) ≡ true = and_right (not (loose g) || leads gs) (full g && sound gs) s in
-    finished g gs (finish_all gs) (and_left (full g) (sound gs) t) (finished-all gs (and_right (full g) (sound gs) t))

@@ -429,7 +429,7 @@ name-signed true true g s i ks a = a
 name-signed true false g s i ks a = a
 name-signed false x g s i ks a = a
 
-signed_by : (g : Begun) (d : ℕ) (x : Bool) (s : List ℕ) (i : ℕ) (ks : List Token) → (g ≡ Begun.Nothing → ⊥)
+pub signed_by : (g : Begun) (d : ℕ) (x : Bool) (s : List ℕ) (i : ℕ) (ks : List Token) → (g ≡ Begun.Nothing → ⊥)
     → TokensAt g (named_by g d x) s i ks
     → SignedBy (sign_of g d x) g s i ks
 unfolding SignedBy TokensAt named_by sign_of
@@ -450,20 +450,20 @@ unfolding sign_of
 from_nothing g d x e = ap (λ (z : Begun). sign_of z d x) e
 
 -- nothing, or another sign
-unfoldable number : Sign → ℕ
+unfoldable pub number : Sign → ℕ
 number Sign.Nothing = 0
 number Sign.Comma = 1
 number Sign.Data = 1
 number Sign.Other = 1
 
 -- another sign than nothing's
-other_sign : (g : Begun) (d : ℕ) (x : Bool) (z : Sign) → sign_of g d x ≡ z → number z ≡ 1 → g ≡ Begun.Nothing → ⊥
+pub other_sign : (g : Begun) (d : ℕ) (x : Bool) (z : Sign) → sign_of g d x ≡ z → number z ≡ 1 → g ≡ Begun.Nothing → ⊥
 unfolding number
 other_sign g d x z e q h = let k : number (sign_of g d x) ≡ 0 = ap number (from_nothing g d x h) in let m : number (sign_of g d x)
     ≡ 1 = ap number e ∙ q in omega arith
 
 module _ (t : ℕ) (E : List Axis) (s : List ℕ) (i : ℕ) (g : Begun) (d : ℕ) (f : Fit) (out : List ℕ) (y : Ready E f (length out)) where
-  abbrev spelt : Bool
+  abbrev pub spelt : Bool
   spelt = spells (text "data") (drop (i + 1) s)
 
   pub nothing-met : sign_of g d spelt ≡ Sign.Nothing → TokenMet t E s i g d f out (stopping f i) out
@@ -503,7 +503,7 @@ module _ (t : ℕ) (E : List Axis) (s : List ℕ) (i : ℕ) (g : Begun) (d : ℕ
       }
 
   -- `data`
-  data-stored : (x : Stage) → f.stage ≡ x → Stored E f out [] (after_by x f i) out
+  pub data-stored : (x : Stage) → f.stage ≡ x → Stored E f out [] (after_by x f i) out
   unfolding after_by Counts concat
   data-stored Before w =
       let z : f.done ≡ 0 = subst (λ (q : Stage). Counts E q f.done f.cursor) w y.counts in
@@ -527,7 +527,7 @@ module _ (t : ℕ) (E : List Axis) (s : List ℕ) (i : ℕ) (g : Begun) (d : ℕ
   data-stored Wrong w = stop-stored E f out y i
   data-stored Stopped w = same-stored E f out y
 
-  data-goes : (x : Stage) → f.stage ≡ x → (n : ℕ) (k : Token) → k.place ≡ i + 1 → is_data k ≡ true → (R : Rest)
+  pub data-goes : (x : Stage) → f.stage ≡ x → (n : ℕ) (k : Token) → k.place ≡ i + 1 → is_data k ≡ true → (R : Rest)
       → outcome t n (phase_by E x f.place f.cursor) (preceded (k ∷ []) R) ≡ outcome t n (phase_of E (after_by x f i)) R
   unfolding after_by phase_by outcome
   data-goes Before w n k p a R = before-data t n k R a (due E)
@@ -535,21 +535,6 @@ module _ (t : ℕ) (E : List Axis) (s : List ℕ) (i : ℕ) (g : Begun) (d : ℕ
   data-goes Within w n k p a R = within-data t n k R a (rest_of E f.cursor) ∙ ap (λ (z : ℕ). outcome t n (twice z) R) p
   data-goes Wrong w n k p a R = wrong-data t n k R a f.place ∙ ap (λ (z : ℕ). outcome t n (twice z) R) p
   data-goes Stopped w n k p a R = sym (ap (λ (x : Stage). outcome t n (phase_by E x f.place f.cursor) R) w)
-
-  pub data-met : sign_of g d spelt ≡ Sign.Data → (r : Fit) → r ≡ after_data f i → TokenMet t E s i g d f out r out
-  unfolding SignedBy number
-  data-met e r q =
-      subst (λ (h : Fit). TokenMet t E s i g d f out h out) (sym q)
-      (record {
-        new = [];
-        stored = data-stored f.stage refl;
-        stopped = λ h. absurd (other_sign g d spelt Sign.Data e refl h);
-        goes = λ n ks u a R.
-            let k : TokenAt true s i ks = subst (λ (z : Sign). SignedBy z g s i ks) e (signed_by g d spelt s i ks u a) in
-            ap (λ (l : List Token). outcome t n (phase_of E f) (preceded l R)) k.alone
-            ∙ data-goes f.stage refl n k.token k.place k.data? R
-            ∙ with_none (outcome t n (phase_of E (after_data f i)) R);
-      })
 
 -- ---- way by way
 

@@ -76,33 +76,6 @@ round_trip u v t N E cs room w h b n e f l k r =
     let g = brackets-give t f E s d.0 levels_inside m (at more_members levels_inside ∷ []) (text "}") 9 cs l k in
     rw (w, h, b, n, e, f, its-tokens t E cs g, its-cells t E cs g, le-leb (cells E * cell_bytes) room r)
 
--- so for every valid array that is not FLOAT
-pub valid-trip : (u : Version) (v : ℕ) (A : Array) (room : ℕ) → version_told v ≡ got (sizes_of u) → Valid (sizes_of u) A
-    → eqb A.shape.type FLOAT ≡ false → cells A.shape.axes * cell_bytes ≤ room
-    → cells_in v A.shape.type A.shape.names A.shape.axes (json_text A.shape.axes A.cells) room ≡ got A.cells
-valid-trip u v A room w a f r =
-    round_trip u v A.shape.type A.shape.names A.shape.axes A.cells room w a.type a.rank a.short a.extent f
-    a.full
-    a.kinds r
-
--- and for whatever is written of a bundle, with the bundle's version told
-pub written-trip : (bundle : List ℕ) (k out room v : ℕ) (w : List ℕ) → Bytes bundle → written bundle k out ≡ got w
-    → version_told v ≡ got (sizes_in bundle)
-    → (A : Array) × (chosen bundle k ≡ got A) × (cells A.shape.axes * cell_bytes ≤ room
-    → cells_in v A.shape.type A.shape.names A.shape.axes w room ≡ got A.cells)
-unfolding written
-written-trip bundle k out room v w h e y =
-    let a = bind-got (chosen bundle k) _ w e in
-    let A = a.0 in
-    let f = ensure-got (not (eqb A.shape.type FLOAT)) unfit7 k _ w a.2 in
-    let g = ensure-got (leb (length (json_text A.shape.axes A.cells)) out) small_output14 0 _ w f.1 in
-    let x = chosen-valid bundle k A h a.1 in (
-      A,
-      a.1,
-      λ r. ap (λ (l : List ℕ). cells_in v A.shape.type A.shape.names A.shape.axes l room) (sym (got-one _ w g.1))
-          ∙ valid-trip (version_in bundle) v A room y x (not-true (eqb A.shape.type FLOAT) f.0) r,
-    )
-
 -- a refusal leaves the cell buffer as it was
 fill-leaves : (buffer : List ℕ) (m : Res (List Cell)) (r : Refusal) → (fill_with buffer m).answer ≡ refused r
     → (fill_with buffer m).buffer ≡ buffer

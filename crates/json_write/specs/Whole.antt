@@ -27,7 +27,7 @@ use Rattle.laws.specs.Tests.{between-true, some_one, no_none, bind-got, present-
 use Rattle.laws.specs.Judged.{or_empty, cells_from}
 use Rattle.laws.specs.Limits.{Sound}
 use Rattle.roundtrip.specs.Valid.{Valid, EachValid}
-use Rattle.roundtrip.specs.Reading.{bundle-read}
+use Rattle.roundtrip.proofs.Reading.{bundle-read}
 use Rattle.extent.specs.Judged.{Small, good-small}
 use Rattle.bundle.specs.Read.{array_at}
 use Rattle.refer.specs.declared.Chosen.{Chosen}

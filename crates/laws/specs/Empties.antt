@@ -28,7 +28,7 @@ abbrev pub not_logic : PairOp → Bool
 not_logic o = leb (pair_no o) (pair_no Ge)
 
 -- the cell given, if one is, is empty exactly if e
-abbrev EmptyIf : Bool → Answer → Type 0
+abbrev pub EmptyIf : Bool → Answer → Type 0
 EmptyIf e (Is c) = empty_cell c ≡ e
 EmptyIf e (Refused n) = Unit {0}
 
@@ -99,7 +99,7 @@ other takes? kind k y n e = subst T (sym y ∙ ap takes? e ∙ n) tt
 no : false ≡ true → ⊥
 no e = subst T (sym e) tt
 
-empty-pair : (o : PairOp) (kind : ℕ) (a b : Cell) → not_logic o ≡ true → takes o kind ≡ true → OfKind kind a → OfKind kind b
+pub empty-pair : (o : PairOp) (kind : ℕ) (a b : Cell) → not_logic o ≡ true → takes o kind ≡ true → OfKind kind a → OfKind kind b
     → EmptyIf (empty_cell a || empty_cell b) (pair_cell o a b)
 unfolding applied takes
 empty-pair Add kind a b n t =
@@ -124,11 +124,6 @@ empty-pair Gt kind a b n t = empty-compared (λ x y. lt_z y x) (λ x y. Ieee.lt 
 empty-pair Ge kind a b n t = empty-compared (λ x y. le_z y x) (λ x y. Ieee.le y x) (λ x y. false) kind a b
 empty-pair And kind a b n t = absurd (no n)
 empty-pair Or kind a b n t = absurd (no n)
-
--- arithmetic or a comparison of two cells of a type that it takes: where it gives a cell, that is empty exactly if one of the two is
-pub pair-empty : (o : PairOp) (kind : ℕ) (a b c : Cell) → not_logic o ≡ true → takes o kind ≡ true → OfKind kind a → OfKind kind b
-    → pair_cell o a b ≡ Is c → empty_cell c ≡ (empty_cell a || empty_cell b)
-pair-empty o kind a b c n t h k e = subst (EmptyIf (empty_cell a || empty_cell b)) e (empty-pair o kind a b n t h k)
 
 -- ---- one cell
 

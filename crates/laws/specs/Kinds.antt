@@ -27,48 +27,43 @@ use Rattle.laws.specs.Parts.{one-part, le_yes, parts-fit}
 use Rattle.laws.specs.Cells.{OfKind}
 
 -- a cell of the type, or a refusal
-abbrev Fine : ℕ → Answer → Type 0
+abbrev pub Fine : ℕ → Answer → Type 0
 Fine kind (Is c) = OfKind kind c
 Fine kind (Refused n) = Unit {0}
 
-by : (kind : ℕ) (b : Bool) (x y : Answer) → (b ≡ true → Fine kind x) → Fine kind y → Fine kind (if b then x else y)
+pub by : (kind : ℕ) (b : Bool) (x y : Answer) → (b ≡ true → Fine kind x) → Fine kind y → Fine kind (if b then x else y)
 by kind true x y f g = f refl
 by kind false x y f g = g
 
 -- ---- numbers
 
-fine-int : (z : ℤ) → Fine INT (fit_int z)
+pub fine-int : (z : ℤ) → Fine INT (fit_int z)
 unfolding fit_int OfKind
 fine-int z =
     by INT (le_z smallest_int z && le_z z largest_int) (Is (Int z)) _
     (λ e. (refl, parts-fit w64 z (omega (arith, one-part z, le_yes smallest_int z (and_left (le_z smallest_int z) (le_z z largest_int) e), le_yes z largest_int (and_right (le_z smallest_int z) (le_z z largest_int) e)))))
     tt
 
-fine-float : (x : Ieee.Float) → T (Ieee.fits binary64 x) → Fine FLOAT (fit_float x)
+pub fine-float : (x : Ieee.Float) → T (Ieee.fits binary64 x) → Fine FLOAT (fit_float x)
 unfolding fit_float OfKind
 fine-float x h = by FLOAT (finite x) (Is (Float x)) _ (λ e. (refl, (h, subst T (sym e) tt))) tt
 
-fine-by : (f : ℤ → ℤ → ℤ) (x y : ℤ) → Fine INT (int_by f x y)
+pub fine-by : (f : ℤ → ℤ → ℤ) (x y : ℤ) → Fine INT (int_by f x y)
 unfolding int_by
 fine-by f x y = by INT (eq_z y (pos 0)) _ (fit_int (f x y)) (λ e. tt) (fine-int (f x y))
-
-fine-over : (x y : Ieee.Float) → Fine FLOAT (float_div x y)
-unfolding float_div
-fine-over x y =
-    by FLOAT (Ieee.eq y (fin false 0 (pos 0))) _ (fit_float (Ieee.div binary64 x y)) (λ e. tt) (fine-float (Ieee.div binary64 x y) (div-fits binary64 x y))
 
 -- an empty cell is of every type
 pub nothing : (kind : ℕ) → OfKind kind Empty
 unfolding OfKind
 nothing kind = tt
 
-truth : (b : Bool) → OfKind BOOLEAN (Truth b)
+pub truth : (b : Bool) → OfKind BOOLEAN (Truth b)
 unfolding OfKind
 truth b = refl
 
 -- ---- two cells
 
-fine-worked : (f : ℤ → ℤ → Answer) (g : Ieee.Float → Ieee.Float → Answer) → ((x y : ℤ) → Fine INT (f x y))
+pub fine-worked : (f : ℤ → ℤ → Answer) (g : Ieee.Float → Ieee.Float → Answer) → ((x y : ℤ) → Fine INT (f x y))
     → ((x y : Ieee.Float) → Fine FLOAT (g x y))
     → (kind : ℕ) (a b : Cell) → OfKind kind a → Fine kind (worked f g (two a b))
 unfolding worked two OfKind
@@ -86,7 +81,7 @@ fine-worked f g p q kind (Truth x) (Int y) h = tt
 fine-worked f g p q kind (Truth x) (Float y) h = tt
 fine-worked f g p q kind (Truth x) (Truth y) h = tt
 
-fine-compared : (f : ℤ → ℤ → Bool) (g : Ieee.Float → Ieee.Float → Bool) (h : Bool → Bool → Bool) (t : Two) → Fine BOOLEAN (compared f g h t)
+pub fine-compared : (f : ℤ → ℤ → Bool) (g : Ieee.Float → Ieee.Float → Bool) (h : Bool → Bool → Bool) (t : Two) → Fine BOOLEAN (compared f g h t)
 unfolding compared
 fine-compared f g h (Ints x y) = truth (f x y)
 fine-compared f g h (Floats x y) = truth (g x y)
@@ -95,48 +90,32 @@ fine-compared f g h OneEmpty = nothing BOOLEAN
 fine-compared f g h Unlike = nothing BOOLEAN
 
 -- a truth value, another one, or unknown
-one_of : (p q u v : Bool) → OfKind BOOLEAN (if p then Truth u else (if q then Truth v else Empty))
+pub one_of : (p q u v : Bool) → OfKind BOOLEAN (if p then Truth u else (if q then Truth v else Empty))
 one_of true q u v = truth u
 one_of false true u v = truth v
 one_of false false u v = nothing BOOLEAN
 
-fine-pair : (op : PairOp) (kind : ℕ) (a b : Cell) → OfKind kind a → Fine (gives op kind) (pair_cell op a b)
-unfolding applied gives and_cell or_cell
-fine-pair Add kind a b h = fine-worked _ _ (λ x y. fine-int (x +ℤ y)) (λ x y. fine-float (Ieee.add binary64 x y) (add-fits binary64 x y)) kind a b h
-fine-pair Sub kind a b h = fine-worked _ _ (λ x y. fine-int (x -ℤ y)) (λ x y. fine-float (Ieee.sub binary64 x y) (sub-fits binary64 x y)) kind a b h
-fine-pair Mul kind a b h = fine-worked _ _ (λ x y. fine-int (x *ℤ y)) (λ x y. fine-float (Ieee.mul binary64 x y) (mul-fits binary64 x y)) kind a b h
-fine-pair Div kind a b h = fine-worked (int_by quot_z) float_div (fine-by quot_z) fine-over kind a b h
-fine-pair Mod kind a b h = fine-worked (int_by rem_z) (λ x y. Is Empty) (fine-by rem_z) (λ x y. nothing FLOAT) kind a b h
-fine-pair Eq kind a b h = fine-compared eq_z Ieee.eq beq (two a b)
-fine-pair Ne kind a b h = fine-compared (λ x y. not (eq_z x y)) Ieee.ne (λ x y. not (beq x y)) (two a b)
-fine-pair Lt kind a b h = fine-compared lt_z Ieee.lt (λ x y. false) (two a b)
-fine-pair Le kind a b h = fine-compared le_z Ieee.le (λ x y. false) (two a b)
-fine-pair Gt kind a b h = fine-compared (λ x y. lt_z y x) (λ x y. Ieee.lt y x) (λ x y. false) (two a b)
-fine-pair Ge kind a b h = fine-compared (λ x y. le_z y x) (λ x y. Ieee.le y x) (λ x y. false) (two a b)
-fine-pair And kind a b h = one_of (is_false a || is_false b) (is_true a && is_true b) false true
-fine-pair Or kind a b h = one_of (is_true a || is_true b) (is_false a && is_false b) true false
-
 -- ---- one cell: the sign of a FLOAT alone changes
 
-neg-finite : (x : Ieee.Float) → T (finite x) → T (finite (Ieee.neg x))
+pub neg-finite : (x : Ieee.Float) → T (finite x) → T (finite (Ieee.neg x))
 unfolding finite Ieee.neg
 neg-finite nan h = h
 neg-finite (inf s) h = h
 neg-finite (fin s m e) h = tt
 
-abs-finite : (x : Ieee.Float) → T (finite x) → T (finite (abs_float x))
+pub abs-finite : (x : Ieee.Float) → T (finite x) → T (finite (abs_float x))
 unfolding finite abs_float
 abs-finite nan h = h
 abs-finite (inf s) h = h
 abs-finite (fin s m e) h = tt
 
-abs-fits : (x : Ieee.Float) → T (Ieee.fits binary64 x) → T (Ieee.fits binary64 (abs_float x))
+pub abs-fits : (x : Ieee.Float) → T (Ieee.fits binary64 x) → T (Ieee.fits binary64 (abs_float x))
 unfolding Ieee.fits abs_float
 abs-fits nan h = h
 abs-fits (inf s) h = h
 abs-fits (fin s m e) h = h
 
-fine-signed : (f : ℤ → ℤ) (g : Ieee.Float → Ieee.Float) → ((x : Ieee.Float) → T (finite x) → T (finite (g x)))
+pub fine-signed : (f : ℤ → ℤ) (g : Ieee.Float → Ieee.Float) → ((x : Ieee.Float) → T (finite x) → T (finite (g x)))
     → ((x : Ieee.Float) → T (Ieee.fits binary64 x) → T (Ieee.fits binary64 (g x))) → (kind : ℕ) (c : Cell) → OfKind kind c → Fine kind (signed f g c)
 unfolding signed OfKind
 fine-signed f g p q kind Empty h = tt
@@ -144,20 +123,4 @@ fine-signed f g p q kind (Int x) h = subst (λ (k : ℕ). Fine k (fit_int (f x))
 fine-signed f g p q kind (Float x) h = (h.0, (q x h.1.0, p x h.1.1))
 fine-signed f g p q kind (Truth b) h = tt
 
-fine-single : (op : SingleOp) (kind : ℕ) (c : Cell) → OfKind kind c → Fine (gives_one op kind) (single_cell op c)
-unfolding single_cell gives_one not_cell
-fine-single Negate kind c h = fine-signed neg_ℤ Ieee.neg neg-finite (neg-fits binary64) kind c h
-fine-single Absolute kind c h = fine-signed (λ x. pos (nat_abs x)) abs_float abs-finite abs-fits kind c h
-fine-single Not kind c h = one_of (is_true c) (is_false c) false true
-fine-single IsEmpty kind c h = truth _
-fine-single IsTrue kind c h = truth _
-fine-single IsFalse kind c h = truth _
-fine-single IsUnknown kind c h = truth _
-
 -- ---- where the operator gives a cell
-
-pub pair-kind : (o : PairOp) (t : ℕ) (a b c : Cell) → OfKind t a → pair_cell o a b ≡ Is c → OfKind (gives o t) c
-pair-kind o t a b c h e = subst (Fine (gives o t)) e (fine-pair o t a b h)
-
-pub single-kind : (o : SingleOp) (t : ℕ) (a c : Cell) → OfKind t a → single_cell o a ≡ Is c → OfKind (gives_one o t) c
-single-kind o t a c h e = subst (Fine (gives_one o t)) e (fine-single o t a h)

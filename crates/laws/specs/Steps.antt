@@ -27,7 +27,7 @@ use Rattle.paper.specs.declared.PairOp.TheVariants.{Mod}
 use Rattle.paper.specs.declared.SingleOp.{SingleOp}
 use Rattle.paper.specs.declared.SingleOp.TheVariants.{Absolute}
 use Rattle.laws.specs.Cells.{OfKind, filled-kind}
-use Rattle.laws.specs.Kinds.{nothing, pair-kind, single-kind}
+use Rattle.laws.specs.Kinds.{nothing}
 
 -- every cell of the array is of its type (past the end there is Empty, which is of every type)
 abbrev pub Kept : Array → Type 0
@@ -44,17 +44,9 @@ pub at-kept : (A : Array) (p : List ℕ) → Kept A → OfKind A.shape.type (at 
 unfolding at
 at-kept A p k = one_of A.shape.type (inside A.shape.axes p) _ Empty (k (ordinality A.shape.axes p - 1)) (nothing A.shape.type)
 
--- the scalar, or nothing
-scalar-kept : (s : Step) (A : Array) → is_type A.shape.type ≡ true → scalar_of s < 2 ^ 64 → OfKind A.shape.type (scalar s A)
-scalar-kept s A t h = by (filled A.shape.type (scalar_of s)) refl
-  where
-    by : (o : Option Cell) → filled A.shape.type (scalar_of s) ≡ o → OfKind A.shape.type (Option.get_or o Empty)
-    by none e = nothing A.shape.type
-    by (some c) e = filled-kind A.shape.type (scalar_of s) c t h e
-
 -- ---- a step's cell
 
-is_one : (c d : Cell) → Is c ≡ Is d → c ≡ d
+pub is_one : (c d : Cell) → Is c ≡ Is d → c ≡ d
 is_one c d e = cc
 
 -- where cells are moved: A's, B's, which has A's type, or an empty one
@@ -62,44 +54,15 @@ module _ (s : Step) (A B : Array) (p : List ℕ) (k : Kept A) (l : Kept B) where
   abbrev kind : ℕ
   kind = A.shape.type
 
-  either : (b : Bool) (v w : Whence) → OfKind kind (taken A B v) → OfKind kind (taken A B w) → OfKind kind (taken A B (if b then v else w))
+  pub either : (b : Bool) (v w : Whence) → OfKind kind (taken A B v) → OfKind kind (taken A B w) → OfKind kind (taken A B (if b then v else w))
   either true v w x y = x
   either false v w x y = y
 
-  first : (q : List ℕ) → OfKind kind (at A q)
+  pub first : (q : List ℕ) → OfKind kind (at A q)
   first q = at-kept A q k
 
-  second : eqb kind B.shape.type ≡ true → (q : List ℕ) → OfKind kind (at B q)
+  pub second : eqb kind B.shape.type ≡ true → (q : List ℕ) → OfKind kind (at B q)
   second e q = subst (λ (u : ℕ). OfKind u (at B q)) (sym (eqb-true kind B.shape.type e)) (at-kept B q l)
-
-  moved-kept : (m : Move) → types_fit (Moves m) s kind B.shape.type ≡ true
-      → OfKind kind (taken A B (whence m s A.shape.axes B.shape.axes p))
-  unfolding types_fit uses whence taken
-  moved-kept Trim f = first p
-  moved-kept Slice f = first _
-  moved-kept Reshape f = either (inside A.shape.axes p) (from_a p) nowhere (first p) (nothing kind)
-  moved-kept Shift f = first _
-  moved-kept Rename f = first p
-  moved-kept Update f = either (inside B.shape.axes p) (from_b p) (from_a p) (second f p) (first p)
-  moved-kept Put f =
-      either (eqb (get_or p (s.axis - 1) 0) (position_at 0 s.detail)) (overlaid B.shape.axes (without s.axis p) p) (from_a p)
-      (either (inside B.shape.axes (without s.axis p)) (from_b _) (from_a p) (second f _) (first p)) (first p)
-  moved-kept Glue f = either (in_first s.axis A.shape.axes p) (from_a p) (from_b _) (first p) (second f _)
-
--- where they are worked out
-made_kept : (w : Work) (t : ℕ) (a b x c : Cell) → OfKind t a → OfKind t x → made w a b x ≡ Is c → OfKind (result_type (Works w) t) c
-unfolding made result_type
-made_kept (Pair o) t a b x c k l e = pair-kind o t a b c k e
-made_kept (Scalar Right o) t a b x c k l e = pair-kind o t a x c k e
-made_kept (Scalar Left o) t a b x c k l e = pair-kind o t x a c l e
-made_kept (Single o) t a b x c k l e = single-kind o t a c k e
-
--- each cell of a step's result is of the result's type
-pub cell-kept : (op : Operation) (s : Step) (A B : Array) (p : List ℕ) (c : Cell) → is_type A.shape.type ≡ true → Kept A → Kept B
-    → types_fit op s A.shape.type B.shape.type ≡ true → scalar_of s < 2 ^ 64 → cell_at op s A B p ≡ Is c → OfKind (result_type op A.shape.type) c
-unfolding cell_at result_type
-cell-kept (Moves m) s A B p c t k l f h e = subst (OfKind A.shape.type) (is_one _ c e) (moved-kept s A B p k l m f)
-cell-kept (Works w) s A B p c t k l f h e = made_kept w A.shape.type (at A p) (at B p) (scalar s A) c (at-kept A p k) (scalar-kept s A t h) e
 
 -- ---- the result's type
 

@@ -6,7 +6,8 @@ use Rattle.paper.specs.declared.Axis.{Axis}
 use Rattle.paper.specs.Limits.{reach, most_axes}
 use Rattle.paper.specs.Axes.{cells, no_axis, axis_at, offset, ordinality, at_offset, coordinate}
 use Rattle.laws.specs.Joins.{inside-axis}
-use Rattle.laws.specs.Places.{Inside, coordinate-inside, coordinate-ordinality, offset-at_offset}
+use Rattle.laws.specs.Places.{Inside, coordinate-ordinality, offset-at_offset}
+use Rattle.laws.proofs.Places.{coordinate-inside}
 
 -- the positions of p on the axes before the last, and x on the last
 unfoldable pub with_last : ℕ → List ℕ → ℕ → List ℕ

@@ -18,7 +18,7 @@ use Rattle.laws.specs.Places.{on_axis-true}
 use Rattle.laws.specs.Limits.{sound-at}
 use Rattle.laws.specs.Sizes.{fits}
 use Rattle.laws.specs.Joins.{cells-without, sound-without}
-use Rattle.laws.specs.Glue.{Gluable, gluable}
+use Rattle.laws.proofs.Glue.{Gluable, gluable}
 use Rattle.positions.specs.Runs.{Holds}
 use Rattle.extent.specs.Judged.{Small}
 use Rattle.extent.specs.Tests.{sound-axis}

@@ -8,7 +8,8 @@ use Rattle.paper.specs.Refusals.{if◌then◌else◌}
 use Rattle.paper.specs.Axes.{cells, offset, at_offset, axis_at, without, put_in}
 use Rattle.paper.specs.Recipe.{glued}
 use Rattle.paper.specs.Values.{from_a, from_b, in_second}
-use Rattle.laws.specs.Glue.{glued_from, turn, in_turn, block_cells, Gluable, glued-side, glued-left, glued-right}
+use Rattle.laws.specs.Glue.{turn, in_turn, block_cells}
+use Rattle.laws.proofs.Glue.{glued_from, Gluable, glued-side, glued-left, glued-right}
 use Rattle.extent.specs.Tests.{sound-axis}
 use Rattle.origin.specs.declared.Origin.{Origin}
 use Rattle.origin.specs.declared.Origin.TheVariants.{FromA, FromB}

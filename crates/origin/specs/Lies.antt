@@ -17,7 +17,7 @@ use Rattle.laws.specs.Tests.{and_left, and_right}
 use Rattle.laws.specs.Places.{Inside, inside-true, offset-at_offset, at_offset-inside}
 use Rattle.laws.specs.Limits.{Sound}
 use Rattle.laws.specs.Joins.{inside-put_in}
-use Rattle.laws.specs.Glue.{glued-first, glued-second}
+use Rattle.laws.proofs.Glue.{glued-first, glued-second}
 use Rattle.origin.specs.declared.Origin.TheVariants.{FromB}
 use Rattle.origin.specs.Origins.{Moving, origin_at, Lies}
 use Rattle.origin.specs.Asks.{slice-asks, glue-asks}

@@ -22,8 +22,8 @@ use Rattle.laws.specs.Numbers.{Bytes}
 use Rattle.laws.specs.Tests.{between-true, bind-got}
 use Rattle.extent.specs.Judged.{good-small}
 use Rattle.roundtrip.specs.Valid.{EachValid}
-use Rattle.roundtrip.specs.Reading.{bundle-read}
-use Rattle.roundtrip.specs.Packing.{valid-length, array_long}
+use Rattle.roundtrip.proofs.Reading.{bundle-read}
+use Rattle.roundtrip.proofs.Packing.{valid-length, array_long}
 use Rattle.bundle.specs.Read.{array_at, ReadAll}
 use Rattle.pack.specs.Laid.{most_bytes}
 use Rattle.refer.specs.declared.Chosen.{Chosen}

@@ -1,6 +1,3 @@
 -- Demand 2's last sentence, of the definitions: packing and reading give one another back. RoundTrip.antt says it; the others lead there.
 pub mod Valid
 pub mod Names
-pub mod Reading
-pub mod Packing
-pub mod Lying

@@ -29,7 +29,7 @@ use Rattle.laws.specs.Answers.{no_head, unless-refused, unless-got}
 use Rattle.laws.specs.Lists.{get_d_any, get_or-mapped}
 use Rattle.laws.specs.Passed.{recipe-passed}
 use Rattle.roundtrip.specs.Valid.{EachOfKind, EachValid}
-use Rattle.roundtrip.specs.Reading.{bundle-read}
+use Rattle.roundtrip.proofs.Reading.{bundle-read}
 use Rattle.bundle.specs.Read.{array_at, ReadAll}
 use Rattle.recipe.specs.declared.Operand.{Operand}
 use Rattle.recipe.specs.declared.Plan.{Plan}

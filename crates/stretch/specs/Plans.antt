@@ -17,7 +17,8 @@ use Rattle.paper.specs.Recipe.{glued}
 use Rattle.paper.specs.Stretch.{Side, glue_tests, stretch_in, stretch}
 use Rattle.paper.specs.Answers.{axes_of, stretch_said}
 use Rattle.laws.specs.Tests.{between-true}
-use Rattle.laws.specs.Glue.{Gluable, block_cells, cells-glued}
+use Rattle.laws.specs.Glue.{block_cells}
+use Rattle.laws.proofs.Glue.{Gluable, cells-glued}
 use Rattle.extent.specs.Judged.{Small}
 use Rattle.origin.specs.Asks.{Axial}
 use Rattle.stretch.specs.Sides.{sided, SidePassed, side-clean, glue-passed}

@@ -21,7 +21,7 @@ use Rattle.paper.specs.Answers.{axes_of, names_for, unless}
 use Rattle.laws.specs.Tests.{and_right, between-true, ensure-got, ensured}
 use Rattle.laws.specs.Answers.{unless-refused, unless-got}
 use Rattle.laws.specs.Agreeing.{same-got}
-use Rattle.laws.specs.Glue.{Gluable, gluable, length-glued}
+use Rattle.laws.proofs.Glue.{Gluable, gluable, length-glued}
 use Rattle.extent.specs.Judged.{good_cells, Small, good-small}
 
 -- a side as it is lent: its type, the names of its axes, its extent, its cell buffer

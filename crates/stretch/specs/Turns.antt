@@ -16,8 +16,9 @@ use Rattle.paper.specs.Values.{in_first, in_second}
 use Rattle.paper.specs.Stretch.{stay, span, stretch_at}
 use Rattle.laws.specs.Places.{right-pos}
 use Rattle.laws.specs.Limits.{Sound}
-use Rattle.laws.specs.Glue.{turn, in_turn, block_cells, Gluable, cells-first, cells-second, cells-blocks, glued-side, glued-left, glued-right}
-use Rattle.laws.specs.Stretch.{onward, stay-left, stay-right}
+use Rattle.laws.specs.Glue.{turn, in_turn, block_cells}
+use Rattle.laws.proofs.Glue.{Gluable, cells-first, cells-second, cells-blocks, glued-side, glued-left, glued-right}
+use Rattle.laws.proofs.Stretch.{onward, stay-left, stay-right}
 use Rattle.origin.specs.declared.Origin.{Origin}
 use Rattle.origin.specs.declared.Origin.TheVariants.{Nowhere, FromA, FromB}
 use Rattle.origin.specs.Origins.{turn_origin}

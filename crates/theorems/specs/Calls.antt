@@ -17,7 +17,7 @@ use Rattle.paper.specs.Answers.{page_said}
 use Rattle.paper.specs.Listing.{planned, bytes_of_all, last_shape, row_bytes, Paged, page}
 use Rattle.laws.specs.Rows.{row_of}
 use Rattle.theorems.specs.Made.{PageCall, Pages, rows_left, pages}
-use Rattle.theorems.specs.Listings.{true_coordinates, page_then, pages_from, demand-3}
+use Rattle.theorems.specs.Listings.{true_coordinates, page_then, pages_from}
 use Rattle.paper.specs.declared.PageAnswer.TheVariants as Page
 
 -- call i from `start` on is a page call over work area `area i` and row buffer `buffer i`; the start and where to go on are 32-bit numbers
@@ -30,27 +30,3 @@ unfoldable pub calls_from : (ℕ → ℕ → PageCall) → Shape → ℕ → ℕ
 calls_from call s zero i start = none
 calls_from call s (suc n) i start =
     page_then s (rows_left (call i start)) (page_said (call i start).answer) (λ next. calls_from call s n (i + 1) next)
-
--- only where the page says to go on is looked at
-then_same : (s : Shape) (rows : List ℕ) (a : PageAnswer) (f g : ℕ → Option (List ℕ))
-    → ((l : Listed) → a ≡ Page.Got l → f l.next.0 ≡ g l.next.0) → page_then s rows (page_said a) f ≡ page_then s rows (page_said a) g
-unfolding page_then
-then_same s rows (Page.Got l) f g h = rw (h l refl)
-then_same s rows (Page.Refused r) f g h = refl
-
-module _ (B bs : List ℕ) (area buffer : ℕ → List ℕ) (call : ℕ → ℕ → PageCall) (k : InTurn B bs area buffer call) where
-  calls-pages : (s : Shape) (n i start : ℕ) → start < 2 ^ 32 → calls_from call s n i start ≡ pages_from B bs area buffer s n i start
-  unfolding calls_from pages_from
-  calls-pages s zero i start h = refl
-  calls-pages s (suc n) i start h =
-      then_same s (rows_left (call i start)) (call i start).answer _ _ (λ l e. calls-pages s n (i + 1) l.next.0 (k.next i start l e))
-      ∙ ap (λ (p : Paged). page_then s p.rows p.answer (λ next. pages_from B bs area buffer s n (i + 1) next))
-      (pages (call i start) (k.made i start h))
-
-  pub demand-3-of-calls : (As : List Array) (ps : List Planned) (Rs : List Array)
-      → planned B bs ≡ got (As, ps) → (last_shape ps).type ≡ BOOLEAN → values As ps ≡ got Rs
-      → ((i : ℕ) → bytes_of_all ps ≤ length (area i)) → ((i : ℕ) → row_bytes (last_shape ps) ≤ length (buffer i))
-      → let A : Array = last_of no_array Rs in
-      calls_from call (last_shape ps) (cells A.shape.axes) 0 1 ≡ some (concat (map (row_of A.shape.axes) (true_coordinates A)))
-  demand-3-of-calls As ps Rs e t v w r =
-      calls-pages (last_shape ps) (cells (last_of no_array Rs).shape.axes) 0 1 (omega arith) ∙ demand-3 B bs area buffer As ps Rs e t v w r

@@ -23,8 +23,8 @@ use Rattle.paper.specs.Values.{in_first, in_second}
 use Rattle.paper.specs.Stretch.{Side, judge, stay, span, stretch_at, glue_tests, stretch_in, stretch, handed_out}
 use Rattle.laws.specs.Tests.{between-true, bind-got, ensure-got, got-one}
 use Rattle.laws.specs.Limits.{Sound}
-use Rattle.laws.specs.Glue.{Gluable, glued_cell}
-use Rattle.laws.specs.Stretch.{onward, stretch-left, stretch-right}
+use Rattle.laws.proofs.Glue.{Gluable, glued_cell}
+use Rattle.laws.proofs.Stretch.{onward, stretch-left, stretch-right}
 use Rattle.laws.specs.Results.{cell-bytes}
 use Rattle.stretch.specs.Sides.{judge-passed, glue-passed}
 use Rattle.stretch.specs.Handed.{figures}

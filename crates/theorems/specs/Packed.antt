@@ -15,8 +15,8 @@ use Rattle.paper.specs.Bundle.{version_told, version_in, sizes_in, read_bundle, 
 use Rattle.laws.specs.Numbers.{Bytes}
 use Rattle.laws.specs.Tests.{no-refusal, got-one}
 use Rattle.roundtrip.specs.Valid.{AllValid, shapes, all_cells}
-use Rattle.roundtrip.specs.Reading.{bundle-read}
-use Rattle.roundtrip.specs.Packing.{AllNamed, bundle-accepted, bundle-back, bundle-packed, version-back}
+use Rattle.roundtrip.proofs.Reading.{bundle-read}
+use Rattle.roundtrip.proofs.Packing.{AllNamed, bundle-accepted, bundle-back, bundle-packed, version-back}
 
 -- ---- the version told
 

@@ -23,8 +23,8 @@ use Rattle.laws.specs.Numbers.{Bytes}
 use Rattle.laws.specs.Sizes.{fits}
 use Rattle.laws.specs.Tests.{between-true, got-one}
 use Rattle.roundtrip.specs.Valid.{named-length, EachValid, AllValid, shapes, all_cells}
-use Rattle.roundtrip.specs.Packing.{AllNamed, bundle-back, version-back}
-use Rattle.roundtrip.specs.Lying.{Lying, reading-lies}
+use Rattle.roundtrip.proofs.Packing.{AllNamed, bundle-back, version-back}
+use Rattle.roundtrip.proofs.Lying.{Lying, reading-lies}
 use Rattle.theorems.specs.Made.{ReadCall, reads, PackCall, Packs, packed_out, packs}
 use Rattle.theorems.specs.Packed.{gave, pack-valid, read-pack, accepted-read}
 use Rattle.bundle.specs.Read.{read_of, ReadAll}

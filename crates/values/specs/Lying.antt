@@ -13,7 +13,7 @@ use Rattle.paper.specs.Axes.{cells, Array}
 use Rattle.paper.specs.Cells.{is_type, cell_of, encode, cells_bytes}
 use Rattle.paper.specs.Values.{no_array}
 use Rattle.paper.specs.Listing.{result_bytes}
-use Rattle.laws.specs.Cells.{cell-back}
+use Rattle.laws.proofs.Cells.{cell-back}
 use Rattle.laws.specs.Judged.{is?, or_empty, cells_from, cell-no, cell-is, length-cells}
 use Rattle.laws.specs.Steps.{Kept}
 use Rattle.laws.specs.Rows.{concat-at}

@@ -35,7 +35,8 @@ use Rattle.laws.specs.Arrays.{at-inside}
 use Rattle.laws.specs.Alike.{SameLimits, cells-alike, at_offset-alike}
 use Rattle.laws.specs.Agreeing.{Agree, pair-limits}
 use Rattle.laws.specs.Passed.{Tested}
-use Rattle.laws.specs.Steps.{Kept, cell-kept, result-type}
+use Rattle.laws.specs.Steps.{Kept, result-type}
+use Rattle.laws.proofs.Steps.{cell-kept}
 use Rattle.coded.specs.Codes.{standing, NoNan, kind_of, pair_code_of, single_code_of, code_cell}
 use Rattle.coded.proofs.Standing.{standing-is, no-nan-from}
 use Rattle.coded.proofs.Codes.{pair-code-kind, pair-code-cell, single-code-kind, single-code-cell}

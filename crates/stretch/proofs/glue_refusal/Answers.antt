@@ -11,7 +11,7 @@ use Rattle.paper.specs.Answers.{axes_of, names_for}
 use Rattle.paper.specs.Stretch.{glue_tests}
 use Rattle.laws.specs.Tests.{between-true}
 use Rattle.laws.specs.Agreeing.{Agree}
-use Rattle.laws.specs.Glue.{Gluable, gluable}
+use Rattle.laws.proofs.Glue.{Gluable, gluable}
 use Rattle.extent.specs.Judged.{good_cells, good-zero, good-some}
 use Rattle.stretch.specs.Sides.{glued-some, glued-cells}
 use Rattle.stretch.proofs.glue_refusal.Goals as goal

@@ -2,7 +2,8 @@
 use Rattle.std.proofs.Common.{◌∙◌, subst, sym}
 use Rattle.paper.specs.Answers.{axes_of}
 use Rattle.json_read.specs.declared.fit.Fit.{Fit}
-use Rattle.json_read.specs.Fit.{TokenMet, nothing-met, comma-met, data-met, other-met}
+use Rattle.json_read.specs.Fit.{TokenMet, nothing-met, comma-met, other-met}
+use Rattle.json_read.proofs.Data.{data-met}
 use Rattle.json_read.proofs.fit.token_met.Goals as goal
 
 pub returns-in-Nothing : goal.returns-in-Nothing

@@ -14,9 +14,8 @@ use Rattle.paper.specs.Values.{in_first, in_second}
 use Rattle.paper.specs.Stretch.{stay}
 use Rattle.laws.specs.Places.{right-pos, length-build, get_or-build}
 use Rattle.laws.specs.Limits.{Sound}
-use Rattle.laws.specs.Glue.{turn, in_turn, by_turns, block_cells, block-pos, Gluable, cells-first, cells-second, cells-blocks, glued-side, glued-left, glued-right, glued_cell, glued_cell-at}
-
--- ---- turns of w cells
+use Rattle.laws.specs.Glue.{turn, in_turn, by_turns, block_cells}
+use Rattle.laws.proofs.Glue.{block-pos, Gluable, cells-first, cells-second, cells-blocks, glued-side, glued-left, glued-right, glued_cell, glued_cell-at}
 
 module _ (w j i : ℕ) where
   -- i further, still in the same turn

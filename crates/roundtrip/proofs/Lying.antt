@@ -14,10 +14,9 @@ use Rattle.laws.specs.Numbers.{Bytes}
 use Rattle.laws.specs.Sizes.{Fits, fits}
 use Rattle.laws.specs.Tests.{bind-got, got-one}
 use Rattle.roundtrip.specs.Valid.{EachValid}
-use Rattle.roundtrip.specs.Reading.{bundle-read}
-use Rattle.roundtrip.specs.Packing.{array-cells, array_long, valid-length}
+use Rattle.roundtrip.proofs.Reading.{bundle-read}
+use Rattle.roundtrip.proofs.Packing.{array-cells, array_long, valid-length}
 
--- each array has the shape that is said, and its cells' bytes stand in bs from the byte that is said
 abbrev pub Lying : List ℕ → List (Shape × ℕ) → List Array → Type 0
 Lying bs [] [] = Unit {0}
 Lying bs [] (A ∷ As) = ⊥

@@ -1,0 +1,9 @@
+pub mod Empties
+pub mod Cells
+pub mod OfKinds
+pub mod Steps
+pub mod Positions
+pub mod Places
+pub mod Fill
+pub mod Glue
+pub mod Stretch
