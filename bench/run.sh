@@ -8,7 +8,7 @@ here=$(cd "$(dirname "$0")" && pwd)
 root=$(dirname "$here")
 out=$root/target/bench
 mkdir -p "$out"
-[ -n "$RMA_LIB_DIR" ] || (cd "$root" && rt staticlib rma >"$out/staticlib.log" 2>&1) || { tail -5 "$out/staticlib.log"; exit 1; }
+[ -n "$RMA_LIB_DIR" ] || (cd "$root" && tools/staticlib.sh >"$out/staticlib.log" 2>&1) || { tail -5 "$out/staticlib.log"; exit 1; }
 drivers="bench json json_read calls reads moves"
 [ -z "$PAGE_ONLY" ] || drivers=bench
 [ -n "$CASE$PAGE$ONLY$OPS" ] || drivers="$drivers saturday"

@@ -14,7 +14,7 @@ plan16 20518
 page16 25485'
 command -v valgrind >/dev/null || { echo "valgrind is missing: apt-get install valgrind" >&2; exit 2; }
 mkdir -p "$out"
-[ -n "$RMA_LIB_DIR" ] || (cd "$root" && rt staticlib rma >"$out/staticlib.log" 2>&1) || { tail -5 "$out/staticlib.log"; exit 2; }
+[ -n "$RMA_LIB_DIR" ] || (cd "$root" && tools/staticlib.sh >"$out/staticlib.log" 2>&1) || { tail -5 "$out/staticlib.log"; exit 2; }
 rustc --edition 2021 -O -C codegen-units=1 "$here/small.rs" -o "$out/small" -C link-arg="${RMA_LIB_DIR:-$root/target/staticlib}/librma.a"
 
 # All instructions of a program that makes a call so many times.

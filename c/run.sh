@@ -5,7 +5,7 @@
 set -eu
 cd "$(dirname "$0")/.."
 if [ -z "${RMA_LIB:-}" ]; then
-    rt staticlib rma
+    tools/staticlib.sh
     RMA_LIB=target/staticlib/librma.a
 fi
 built=target/c

@@ -44,7 +44,7 @@ mkdir -p "$folder"
 for package in $sources; do fetched source "$package"; done
 for package in $binaries; do fetched binary "$package"; done
 if [ -z "${RMA_LIB_DIR:-}" ]; then
-    rt staticlib rma >"$folder/staticlib.log" 2>&1 || { tail -5 "$folder/staticlib.log"; exit 2; }
+    tools/staticlib.sh >"$folder/staticlib.log" 2>&1 || { tail -5 "$folder/staticlib.log"; exit 2; }
     RMA_LIB_DIR=target/staticlib
 fi
 "${CC:-cc}" -std=c99 -Wall -Wextra -Wpedantic -Werror -O2 -I include clients/read.c "$RMA_LIB_DIR/librma.a" -o "$folder/read"

@@ -32,7 +32,7 @@ compiled() {
 # Makes the texts. The status is the number of checks that failed.
 write_texts() {
     if [ -z "${RMA_LIB_DIR:-}" ]; then
-        rt staticlib rma >"$built/staticlib.log" 2>&1 || { tail -5 "$built/staticlib.log"; exit 1; }
+        tools/staticlib.sh >"$built/staticlib.log" 2>&1 || { tail -5 "$built/staticlib.log"; exit 1; }
         RMA_LIB_DIR=target/staticlib
     fi
     compiled write

@@ -1,5 +1,5 @@
 /* The C face of Rovgrint, a proved engine for small multi-dimensional arrays: thirteen functions of librma.a (x86-64 Linux).
- * `rt staticlib rma` at the repository's root proves and writes target/staticlib/librma.a. An example is c/example.c. docs/FORMAT.md
+ * `tools/staticlib.sh` at the repository's root proves and writes target/staticlib/librma.a. An example is c/example.c. docs/FORMAT.md
  * has bundles, recipes, rows, heads and answers byte by byte.
  *
  * Rules of every call:

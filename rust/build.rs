@@ -12,7 +12,7 @@ fn main() {
     let library = folder.join("librma.a");
     println!("cargo:rerun-if-changed={}", library.display());
     if !library.is_file() {
-        eprintln!("{} is missing: run `rt staticlib rma` at the repository's root, or set RMA_LIB_DIR to its folder", library.display());
+        eprintln!("{} is missing: run `tools/staticlib.sh` at the repository's root, or set RMA_LIB_DIR to its folder", library.display());
         exit(1);
     }
     println!("cargo:rustc-link-search=native={}", folder.display());

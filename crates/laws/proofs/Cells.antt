@@ -1,23 +1,13 @@
 -- Cells: a cell and its nine bytes give one another back, so that no cell has two forms, and what was read is a cell of its type.
-use Rattle.std.specs.Prelude.{◌≡◌, refl, Bool, true, false, not, ◌&&◌, List, [], ◌∷◌, ℕ, zero, suc, ◌^◌, ◌≤◌, ◌<◌, T, eqb, leb, length}
-use Rattle.std.proofs.Common.{sym, ap, ap₂, ◌∙◌, subst, arith, eqb-true, leb-true}
-use Rattle.std.proofs.Math.Option.{Option, none, some}
-use Rattle.std.proofs.lemmas.Bool.{eqb-false}
-use Rattle.std.specs.Float.{binary64, nan, inf, fin}
-use Rattle.std.specs.Float.Ieee.{of_bits, to_bits, is_nan}
-use Rattle.std.specs.Float.Ieee as Ieee
-use Rattle.std.specs.Float.Ieee.Bits.{of_bits-to_bits, to_bits-of_bits, to_bits-lt, of_bits-fits}
-use Rattle.std.specs.Int.{w64}
-use mir.Val.{to_z, of_z, bool_byte, SFits}
-use mir.ValLaws.{to_z-of_z, of_z-to_z, of_z_fits, to_z-Fits}
-use Rattle.paper.specs.Limits.{INT, FLOAT, BOOLEAN, word_bytes, cell_bytes}
-use Rattle.paper.specs.Refusals.{if◌then◌else◌}
-use Rattle.paper.specs.Numbers.{le_of, le_bytes}
-use Rattle.paper.specs.Cells.{finite, filled, cell_from, cell_of, mark_of, word_of, encode, is_type}
+use Rattle.std.specs.Prelude.{◌≡◌, true, ◌&&◌, List, [], ◌∷◌, ℕ, suc, ◌^◌, ◌<◌, eqb, length}
+use Rattle.std.proofs.Common.{ap, ◌∙◌, subst, arith}
+use Rattle.std.proofs.Math.Option.{some}
+use Rattle.paper.specs.Limits.{word_bytes, cell_bytes}
+use Rattle.paper.specs.Numbers.{le_of}
+use Rattle.paper.specs.Cells.{cell_from, cell_of, mark_of, word_of, encode, is_type}
 use Rattle.paper.specs.declared.Cell.{Cell}
-use Rattle.paper.specs.declared.Cell.TheVariants.{Empty, Int, Float, Truth}
-use Rattle.laws.specs.Numbers.{Bytes, le_bytes-le_of, le_of-le_bytes, le_of-lt}
-use Rattle.laws.specs.Tests.{and_left, and_right}
+use Rattle.paper.specs.declared.Cell.TheVariants.{Empty}
+use Rattle.laws.specs.Numbers.{Bytes, le_of-le_bytes, le_of-lt}
 use Rattle.laws.specs.Cells.{OfKind, word_lt, parts-back, inj, bad, either, eight, filled-kind}
 
 -- a cell's bytes are read as that cell

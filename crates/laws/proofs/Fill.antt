@@ -1,16 +1,13 @@
 -- An array's cells as bytes, w to a cell, and what a loop that writes them one after the other into a buffer cites: after k cells
 -- the buffer is `paste d at (bytes_of E f) (k * w)`, where d is the buffer before, at its place and f a coordinate's w bytes.
-use Prim.Native.Nat.{ℕ, zero, suc, ◌+◌, ◌*◌, ◌≤◌, ◌<◌}
-use Rattle.std.specs.Prelude.{◌≡◌, length, get_or, take, drop, set}
+use Prim.Native.Nat.{ℕ, ◌+◌, ◌*◌, ◌≤◌, ◌<◌}
+use Rattle.std.specs.Prelude.{◌≡◌, length, take, drop}
 use Rattle.std.proofs.Math.Path.{sym, ap}
-use Rattle.std.proofs.Common.{ap₂, ◌∙◌, not-suc-le-zero, le_of_suc-le-suc, add_assoc, mul-le-mul_right, le_of_lt, arith, add-one, length-drop, take_at, drop_at, take-add, drop-drop, take-take, get_or-drop}
-use mathlib.Core.List.{List, [], ◌∷◌, ◌++◌, append_assoc}
-use Rattle.std.proofs.Math.Nat.{zero-mul, suc-mul, add_comm}
-use Rattle.std.proofs.Math.ListN.{length-append}
-use Rattle.std.proofs.Math.Seq.{paste, paste-suc}
-use Rattle.std.proofs.lemmas.List.Edits.{take-paste, drop-paste}
+use Rattle.std.proofs.Common.{◌∙◌, mul-le-mul_right, le_of_lt, arith, add-one, take-take}
+use mathlib.Core.List.{List, [], ◌++◌}
+use Rattle.std.proofs.Math.Nat.{suc-mul}
+use Rattle.std.proofs.Math.Seq.{paste}
 use Rattle.paper.specs.declared.Axis.{Axis}
-use Rattle.paper.specs.Numbers.{concat}
 use Rattle.paper.specs.Axes.{cells, at_offset, build}
 use Rattle.laws.specs.Places.{Inside, length-build, get_or-build, at_offset-inside}
 use Rattle.laws.specs.Fill.{piece_at, bytes_of, Each, length-concat, piece-concat, paste-paste}

@@ -18,7 +18,7 @@ use Rattle.paper.specs.declared.Cell.{Cell}
 use Rattle.paper.specs.declared.Move.TheVariants.{Glue}
 use Rattle.paper.specs.declared.Operation.TheVariants.{Moves}
 use Rattle.paper.specs.Refusals.{if◌then◌else◌}
-use Rattle.paper.specs.Axes.{width, cells, limited, offset, at_offset, axis_at, without, put_in, Array}
+use Rattle.paper.specs.Axes.{width, cells, offset, at_offset, axis_at, without, put_in, Array}
 use Rattle.paper.specs.Recipe.{glued}
 use Rattle.paper.specs.Values.{Whence, from_a, from_b, in_first, in_second, taken}
 use Rattle.laws.specs.Places.{Inside, right-pos, offset-at_offset, at_offset-inside, inside-length}

@@ -1,17 +1,14 @@
 -- Cells keep their type through every step: where the operands' cells are of their types, and the types passed test 7, each cell of
 -- the result is of the result's type, which is a type.
-use Rattle.std.specs.Prelude.{ℕ, ◌-◌, ◌^◌, ◌<◌, ◌≡◌, refl, Bool, true, false, List, eqb, leb, get_or}
-use Rattle.std.proofs.Common.{sym, subst, eqb-true}
+use Rattle.std.specs.Prelude.{ℕ, ◌-◌, ◌^◌, ◌<◌, ◌≡◌, refl, true, List, eqb, get_or}
+use Rattle.std.proofs.Common.{subst}
 use Rattle.std.proofs.Math.Option
 use Rattle.std.proofs.Math.Option.{Option, none, some}
-use Rattle.paper.specs.Limits.{BOOLEAN}
-use Rattle.paper.specs.Refusals.{if◌then◌else◌}
 use Rattle.paper.specs.Numbers.{position_at}
-use Rattle.paper.specs.Axes.{Array, inside, ordinality, at, without}
+use Rattle.paper.specs.Axes.{Array, inside, at, without}
 use Rattle.paper.specs.Cells.{is_type, filled}
-use Rattle.paper.specs.Operators.{pair_no, single_no, gives, gives_one}
 use Rattle.paper.specs.Recipe.{Step, scalar_of, uses, types_fit, result_type}
-use Rattle.paper.specs.Values.{Whence, from_a, from_b, nowhere, overlaid, in_first, whence, taken, made, scalar, cell_at}
+use Rattle.paper.specs.Values.{from_a, from_b, nowhere, overlaid, in_first, whence, taken, made, scalar, cell_at}
 use Rattle.paper.specs.declared.Answer.TheVariants.{Is}
 use Rattle.paper.specs.declared.Cell.{Cell}
 use Rattle.paper.specs.declared.Cell.TheVariants.{Empty}
@@ -22,10 +19,6 @@ use Rattle.paper.specs.declared.Move.TheVariants.{Trim, Slice, Reshape, Shift, R
 use Rattle.paper.specs.declared.Hand.TheVariants.{Right, Left}
 use Rattle.paper.specs.declared.Work.{Work}
 use Rattle.paper.specs.declared.Work.TheVariants.{Pair, Scalar, Single}
-use Rattle.paper.specs.declared.PairOp.{PairOp}
-use Rattle.paper.specs.declared.PairOp.TheVariants.{Mod}
-use Rattle.paper.specs.declared.SingleOp.{SingleOp}
-use Rattle.paper.specs.declared.SingleOp.TheVariants.{Absolute}
 use Rattle.laws.specs.Cells.{OfKind, filled-kind}
 use Rattle.laws.specs.Kinds.{nothing}
 use Rattle.laws.proofs.OfKinds.{pair-kind, single-kind}

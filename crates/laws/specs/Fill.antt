@@ -3,7 +3,7 @@
 use Prim.Native.Nat.{ℕ, zero, suc, ◌+◌, ◌*◌, ◌≤◌, ◌<◌}
 use Rattle.std.specs.Prelude.{◌≡◌, length, get_or, take, drop, set}
 use Rattle.std.proofs.Math.Path.{sym, ap}
-use Rattle.std.proofs.Common.{ap₂, ◌∙◌, not-suc-le-zero, le_of_suc-le-suc, add_assoc, mul-le-mul_right, le_of_lt, arith, add-one, length-drop, take_at, drop_at, take-add, drop-drop, take-take, get_or-drop}
+use Rattle.std.proofs.Common.{ap₂, ◌∙◌, not-suc-le-zero, le_of_suc-le-suc, add_assoc, arith, add-one, length-drop, take_at, drop_at, take-add, drop-drop, get_or-drop}
 use mathlib.Core.List.{List, [], ◌∷◌, ◌++◌, append_assoc}
 use Rattle.std.proofs.Math.Nat.{zero-mul, suc-mul, add_comm}
 use Rattle.std.proofs.Math.ListN.{length-append}
@@ -11,8 +11,7 @@ use Rattle.std.proofs.Math.Seq.{paste, paste-suc}
 use Rattle.std.proofs.lemmas.List.Edits.{take-paste, drop-paste}
 use Rattle.paper.specs.declared.Axis.{Axis}
 use Rattle.paper.specs.Numbers.{concat}
-use Rattle.paper.specs.Axes.{cells, at_offset, build}
-use Rattle.laws.specs.Places.{Inside, length-build, get_or-build, at_offset-inside}
+use Rattle.paper.specs.Axes.{build}
 
 -- the bytes of cell k of a buffer, w to a cell
 abbrev pub piece_at : ℕ → List ℕ → ℕ → List ℕ

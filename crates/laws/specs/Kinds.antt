@@ -1,27 +1,21 @@
 -- What an operator gives is a cell of its result's type: a number that fits, a finite FLOAT, a truth value, or nothing. So it can be
 -- written, and read back as the same cell.
-use Rattle.std.specs.Prelude.{ℕ, ◌≡◌, refl, Bool, true, false, not, ◌&&◌, ◌||◌, T, ℤ, pos, neg_ℤ, nat_abs, ◌+ℤ◌, ◌-ℤ◌, ◌*ℤ◌}
+use Rattle.std.specs.Prelude.{ℕ, ◌≡◌, refl, Bool, true, false, ◌&&◌, T, ℤ, pos}
 use Rattle.std.proofs.Common.{sym, subst, arith}
-use Rattle.std.specs.Bool.{beq}
-use Rattle.std.specs.Int.Signed.{lt_z, le_z, quot_z, rem_z}
+use Rattle.std.specs.Int.Signed.{le_z}
 use Rattle.std.specs.Float.Ieee as Ieee
 use Rattle.std.specs.Float.{binary64, nan, inf, fin}
-use Rattle.std.specs.Float.Ieee.Fits.{neg-fits, add-fits, sub-fits, mul-fits, div-fits}
 use Rattle.std.specs.Int.{w64}
 use Rattle.paper.specs.Limits.{INT, FLOAT, BOOLEAN, smallest_int, largest_int}
 use Rattle.paper.specs.Refusals.{if◌then◌else◌}
-use Rattle.paper.specs.Cells.{finite, is_true, is_false}
-use Rattle.paper.specs.Operators.{two, worked, compared, and_cell, or_cell, not_cell, applied, pair_cell, gives, gives_one, fit_int, fit_float, int_by, float_div, eq_z, abs_float, signed, single_cell}
+use Rattle.paper.specs.Cells.{finite}
+use Rattle.paper.specs.Operators.{two, worked, compared, fit_int, fit_float, int_by, eq_z, abs_float, signed}
 use Rattle.paper.specs.declared.Cell.{Cell}
 use Rattle.paper.specs.declared.Cell.TheVariants.{Empty, Int, Float, Truth}
 use Rattle.paper.specs.declared.Two.{Two}
 use Rattle.paper.specs.declared.Two.TheVariants.{Ints, Floats, Truths, OneEmpty, Unlike}
 use Rattle.paper.specs.declared.Answer.{Answer}
 use Rattle.paper.specs.declared.Answer.TheVariants.{Is, Refused}
-use Rattle.paper.specs.declared.PairOp.{PairOp}
-use Rattle.paper.specs.declared.PairOp.TheVariants.{Add, Sub, Mul, Div, Mod, Eq, Ne, Lt, Le, Gt, Ge, And, Or}
-use Rattle.paper.specs.declared.SingleOp.{SingleOp}
-use Rattle.paper.specs.declared.SingleOp.TheVariants.{Negate, Absolute, Not, IsEmpty, IsTrue, IsFalse, IsUnknown}
 use Rattle.laws.specs.Tests.{and_left, and_right}
 use Rattle.laws.specs.Parts.{one-part, le_yes, parts-fit}
 use Rattle.laws.specs.Cells.{OfKind}
