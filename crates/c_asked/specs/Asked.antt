@@ -1,5 +1,5 @@
 -- What is asked by numbers and bytes, as the paper's own questions: heads of arrays, a coordinate, a walking place, a total's number.
-use Rattle.std.specs.Prelude.{ℕ, zero, suc, ◌*◌, ◌/◌, ◌%◌, ◌&&◌, List, [], ◌∷◌, eqb, leb, take, drop, length, get_or, ℤ}
+use Rattle.std.specs.Prelude.{ℕ, zero, suc, ◌*◌, ◌/◌, ◌%◌, ◌&&◌, List, [], ◌∷◌, eqb, leb, take, drop, length, get_or, ℤ, if◌then◌else◌}
 use Rattle.std.proofs.Math.Option.{none, some}
 use Rattle.paper.specs.declared.Sizes.{Sizes}
 use Rattle.paper.specs.declared.Part.{Part}
@@ -7,7 +7,7 @@ use Rattle.paper.specs.declared.Total.{Total}
 use Rattle.paper.specs.declared.Total.TheVariants.{Filled, Trues, Smallest, Largest, Sum, Average}
 use Rattle.paper.specs.declared.Totalled.{Totalled}
 use Rattle.paper.specs.Limits.{most_arrays, most_axes, limit_bytes, type_bytes}
-use Rattle.paper.specs.Refusals.{Res, got, refused, ◌>>=◌, if◌then◌else◌, refusal, unknown4}
+use Rattle.paper.specs.Refusals.{Res, got, refused, ◌>>=◌, refusal, unknown4}
 use Rattle.paper.specs.Numbers.{le_of, le_bytes, signed_at, nth, over}
 use Rattle.paper.specs.Axes.{Shape, shaped}
 use Rattle.paper.specs.Bundle.{version_told, name_of, axis_of, maximum_of, each_axis, read_bundle, packed, After, put_into}

@@ -1,5 +1,5 @@
 -- Heads of arrays, read from bytes: the form of each; the shapes that are packed, or taken for a stretch's sides, are the heads'.
-use Rattle.std.specs.Prelude.{ℕ, zero, suc, ◌+◌, ◌*◌, ◌≤◌, ◌<◌, ◌≡◌, refl, Bool, true, false, List, [], ◌∷◌, map, eqb, leb, take, drop, length, get_or}
+use Rattle.std.specs.Prelude.{ℕ, zero, suc, ◌+◌, ◌*◌, ◌≤◌, ◌<◌, ◌≡◌, refl, Bool, true, false, List, [], ◌∷◌, map, eqb, leb, take, drop, length, get_or, if◌then◌else◌}
 use Rattle.std.proofs.Common.{sym, ap, ap₂, ◌∙◌, mul-le-mul_right, arith, eq-eqb, ne_eqb, leb-true, le-leb, length-take, drop-drop, get_or-drop}
 use Rattle.std.proofs.lemmas.Bool.{lt-leb}
 use Rattle.paper.specs.declared.Sizes.{Sizes}
@@ -7,7 +7,6 @@ use Rattle.paper.specs.declared.Name.{Name}
 use Rattle.paper.specs.declared.Extent.{Extent}
 use Rattle.paper.specs.declared.Form.{Form}
 use Rattle.paper.specs.Limits.{most_arrays, type_bytes}
-use Rattle.paper.specs.Refusals.{if◌then◌else◌}
 use Rattle.paper.specs.Axes.{Shape, shaped}
 use Rattle.paper.specs.Bundle.{name_of, axis_of, maximum_of, each_axis}
 use Rattle.paper.specs.Answers.{extent_of, names_of, shape_of}

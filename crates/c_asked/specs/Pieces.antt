@@ -1,7 +1,7 @@
 -- Bytes cut into pieces of one size: how many there are, and a loop that puts what each of them tells into an array, one after the
 -- other. Then what the bytes of a walking place and a total's number come to, each way out of the code by its tests.
 use Prim.Native.Nat.{ℕ, zero, suc, ◌+◌, ◌-◌, ◌*◌, ◌/◌, ◌%◌, ◌≤◌, ◌<◌}
-use Rattle.std.specs.Prelude.{◌≡◌, Bool, true, false, ◌&&◌, eqb, leb, take, drop, set}
+use Rattle.std.specs.Prelude.{◌≡◌, Bool, true, false, ◌&&◌, eqb, leb, take, drop, set, if◌then◌else◌}
 use Rattle.std.proofs.Math.Path.{refl}
 use Rattle.std.proofs.Common.{ap, ◌∙◌, div-mul-le_self, le_of_mul-le-mul_right, le_trans, add-one, eq-eqb, ne_eqb, le-leb, leb-true}
 use mathlib.Core.List.{List, [], ◌∷◌, ◌++◌, append_assoc, append-nil}
@@ -13,7 +13,7 @@ use Rattle.std.proofs.Math.Seq.{drop-drop, take-suc-set}
 use Rattle.paper.specs.declared.Total.{Total}
 use Rattle.paper.specs.declared.Totalled.{Totalled}
 use Rattle.paper.specs.Limits.{limit_bytes}
-use Rattle.paper.specs.Refusals.{Res, refused, if◌then◌else◌, refusal, unknown4}
+use Rattle.paper.specs.Refusals.{Res, refused, refusal, unknown4}
 use Rattle.paper.specs.Numbers.{le_of, le_bytes, part, nth}
 use Rattle.paper.specs.Totals.{totals}
 use Rattle.laws.specs.Lists.{nth_past}

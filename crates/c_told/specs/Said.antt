@@ -1,8 +1,8 @@
 -- What a call says: a number, and bytes in a buffer that is lent, as many as there is room for.
-use Rattle.std.specs.Prelude.{ℕ, List, [], ◌∷◌, ◌++◌, leb, take, length}
+use Rattle.std.specs.Prelude.{ℕ, List, [], ◌∷◌, ◌++◌, leb, take, length, if◌then◌else◌}
 use Rattle.paper.specs.declared.Refusal.{Refusal}
 use Rattle.paper.specs.Limits.{limit_bytes}
-use Rattle.paper.specs.Refusals.{Res, got, refused, if◌then◌else◌}
+use Rattle.paper.specs.Refusals.{Res, got, refused}
 use Rattle.paper.specs.Numbers.{le_bytes, over}
 
 -- numbers one after the other, four bytes each

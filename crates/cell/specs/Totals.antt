@@ -1,10 +1,10 @@
 -- What the running totals stand for: an exact total its cells' sum, a mean what is left to do with the cells to come.
-use Rattle.std.specs.Prelude.{◌≡◌, ℕ, ◌+◌, ◌*◌, ◌^◌, ◌≤◌, List, length, ℤ, pos, ◌-ℤ◌, ◌==◌}
+use Rattle.std.specs.Prelude.{◌≡◌, ℕ, ◌+◌, ◌*◌, ◌^◌, ◌≤◌, List, length, ℤ, pos, ◌-ℤ◌, ◌==◌, if◌then◌else◌}
 use Rattle.std.specs.Float.Ieee as Ieee
 use Rattle.paper.specs.declared.Cell.{Cell}
 use Rattle.paper.specs.declared.Cell.TheVariants.{Float}
 use Rattle.paper.specs.Limits.{most_cells}
-use Rattle.paper.specs.Refusals.{Res, got, refused, ◌>>=◌, if◌then◌else◌, refusal, no_fit12}
+use Rattle.paper.specs.Refusals.{Res, got, refused, ◌>>=◌, refusal, no_fit12}
 use Rattle.paper.specs.Totals.{Numbered, int_total, Running, sum_on, float_sum}
 use Rattle.cell.specs.declared.sums.Exact.{Exact}
 use Rattle.cell.specs.declared.means.Mean.{Mean}

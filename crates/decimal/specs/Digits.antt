@@ -1,10 +1,9 @@
 -- Numbers and positions in decimal: a number below 2 ^ 64 is the number without its last digit, and that digit; and how many bytes a
 -- number takes at most.
-use Rattle.std.specs.Prelude.{ℕ, zero, suc, ◌+◌, ◌-◌, ◌/◌, ◌%◌, ◌^◌, ◌≤◌, ◌<◌, ◌≡◌, Bool, true, false, List, [], ◌∷◌, ◌++◌, ltb, ℤ, pos, negsuc, length}
+use Rattle.std.specs.Prelude.{ℕ, zero, suc, ◌+◌, ◌-◌, ◌/◌, ◌%◌, ◌^◌, ◌≤◌, ◌<◌, ◌≡◌, Bool, true, false, List, [], ◌∷◌, ◌++◌, ltb, ℤ, pos, negsuc, length, if◌then◌else◌}
 use Prim.Native.Char.{code}
 use Rattle.std.proofs.Common.{ap, arith, lt-ltb, le-ltb, length-append}
 use Rattle.paper.specs.Limits.{reach}
-use Rattle.paper.specs.Refusals.{if◌then◌else◌}
 use Rattle.paper.specs.Numbers.{text, position}
 use Rattle.paper.specs.Rests.{digits, decimal}
 use Rattle.laws.specs.Parts.{parts-eq}

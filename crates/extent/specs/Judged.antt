@@ -1,11 +1,10 @@
 -- An extent's number of cells where it is good, and 0 where it isn't: one number for the test and the count, since a good extent has a
 -- cell.
-use Rattle.std.specs.Prelude.{ℕ, ◌≤◌, ◌≡◌, refl, Bool, true, false, ◌&&◌, List, leb}
+use Rattle.std.specs.Prelude.{ℕ, ◌≤◌, ◌≡◌, refl, Bool, true, false, ◌&&◌, List, leb, if◌then◌else◌}
 use Rattle.std.proofs.Common.{arith}
 use Rattle.paper.specs.declared.Name.{Name}
 use Rattle.paper.specs.declared.Axis.{Axis}
 use Rattle.paper.specs.Limits.{most_cells}
-use Rattle.paper.specs.Refusals.{if◌then◌else◌}
 use Rattle.paper.specs.Axes.{good_names, good_limits, good_extent, cells, within}
 use Rattle.laws.specs.Tests.{and_left}
 use Rattle.laws.specs.Limits.{Sound, extent-true, cells-pos}

@@ -1,9 +1,8 @@
 -- Where the machine has a fault: the bytes before that place can be completed, and with the byte there they cannot, or the text ends there
 -- and is not complete.
-use Rattle.std.specs.Prelude.{ℕ, ◌+◌, ◌≡◌, refl, Bool, true, false, List, [], ◌∷◌, ◌++◌, length}
+use Rattle.std.specs.Prelude.{ℕ, ◌+◌, ◌≡◌, refl, Bool, true, false, List, [], ◌∷◌, ◌++◌, length, if◌then◌else◌}
 use Rattle.std.proofs.Common.{sym, ap, ◌∙◌, arith}
 use Rattle.std.proofs.Math.Option.{Option, none, some}
-use Rattle.paper.specs.Refusals.{if◌then◌else◌}
 use Rattle.laws.specs.Tests.{no_none, some_one}
 use Rattle.grammar.specs.Made.{Made}
 use Rattle.paper.specs.Grammar.{Part, among, blank, optional, rules}

@@ -1,8 +1,7 @@
 -- What the machine reads the grammar makes: after each byte, a text made of the parts to come completes one made of the parts before.
-use Rattle.std.specs.Prelude.{ℕ, ◌+◌, ◌≡◌, refl, Bool, true, false, List, [], ◌∷◌, ◌++◌}
+use Rattle.std.specs.Prelude.{ℕ, ◌+◌, ◌≡◌, refl, Bool, true, false, List, [], ◌∷◌, ◌++◌, if◌then◌else◌}
 use Rattle.std.proofs.Common.{sym, ap, ◌∙◌}
 use Rattle.std.proofs.Math.Option.{Option, none, some, map}
-use Rattle.paper.specs.Refusals.{if◌then◌else◌}
 use Rattle.grammar.specs.Made.{OneOf, here, there, Made, nothing, space, without, by}
 use Rattle.paper.specs.Grammar.{Part, Rule, among, blank, optional, rules}
 use Rattle.paper.specs.Machine.{given, chosen, settled, move, step, complete, fault_from}

@@ -1,9 +1,8 @@
 -- What the grammar makes the machine reads: where the parts are in order, the byte decides the rule, and what is left is made of the parts
 -- after it.
-use Rattle.std.specs.Prelude.{ℕ, ◌+◌, ◌≡◌, refl, Bool, true, false, not, ◌&&◌, ◌||◌, List, [], ◌∷◌, ◌++◌}
+use Rattle.std.specs.Prelude.{ℕ, ◌+◌, ◌≡◌, refl, Bool, true, false, not, ◌&&◌, ◌||◌, List, [], ◌∷◌, ◌++◌, if◌then◌else◌}
 use Rattle.std.proofs.Math.Option.{Option, none, some, map}
 use Rattle.std.proofs.Common.{arith}
-use Rattle.paper.specs.Refusals.{if◌then◌else◌}
 use Rattle.laws.specs.Tests.{and_left, and_right, no_none}
 use Rattle.grammar.specs.Made.{Made, space, without, by}
 use Rattle.paper.specs.Grammar.{Part, among, blank, optional, rules}

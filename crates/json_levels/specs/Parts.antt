@@ -1,7 +1,6 @@
 -- The levels that are open as the parts that are still to come, and what a byte begins as the parts in front of them.
-use Rattle.std.specs.Prelude.{ℕ, zero, suc, ◌+◌, ◌-◌, ◌/◌, ◌%◌, ◌≤◌, ◌<◌, ◌≡◌, Bool, false, ◌&&◌, List, [], ◌∷◌, ◌++◌, eqb}
+use Rattle.std.specs.Prelude.{ℕ, zero, suc, ◌+◌, ◌-◌, ◌/◌, ◌%◌, ◌≤◌, ◌<◌, ◌≡◌, Bool, false, ◌&&◌, List, [], ◌∷◌, ◌++◌, eqb, if◌then◌else◌}
 use Rattle.std.proofs.Math.Option.{Option, none, some}
-use Rattle.paper.specs.Refusals.{if◌then◌else◌}
 use Rattle.paper.specs.Grammar.{Part, Spot, number, chars, colon, at, word, unsigned, after_zero, after_digit, levels_inside}
 use Rattle.paper.specs.Grammar.{value, items, more_items, object, members, member, more_members}
 use Rattle.paper.specs.Grammar.{among, blank, digit}

@@ -1,10 +1,10 @@
 -- The token that begins with a byte: none with a comma; else one, which is a name `data` of the outermost object exactly if a name begins
 -- there in the first level and spells so.
-use Rattle.std.specs.Prelude.{ℕ, zero, suc, ◌+◌, ◌/◌, ◌-◌, ◌<◌, ◌≡◌, refl, Bool, true, false, ◌&&◌, ◌||◌, List, [], ◌∷◌, ◌++◌, eqb, length, get_or}
+use Rattle.std.specs.Prelude.{ℕ, zero, suc, ◌+◌, ◌/◌, ◌-◌, ◌<◌, ◌≡◌, refl, Bool, true, false, ◌&&◌, ◌||◌, List, [], ◌∷◌, ◌++◌, eqb, length, get_or, if◌then◌else◌}
 use Rattle.std.proofs.Common.{sym, ap, ◌∙◌, add-one, drop-cons}
 use Rattle.std.proofs.Math.Option.{none}
 use Rattle.std.proofs.Math.ListN.{drop}
-use Rattle.paper.specs.Refusals.{if◌then◌else◌, between}
+use Rattle.paper.specs.Refusals.{between}
 use Rattle.paper.specs.Numbers.{text, alike}
 use Rattle.paper.specs.Grammar.{Part, Spot, Bytes, among, blank, these, optional, at, levels_inside}
 use Rattle.paper.specs.Grammar.{value, object, member, more_items, more_members}

@@ -1,10 +1,9 @@
 -- What is left of a text from byte i on (i from 0) while parts are still to come: where it stops being JSON, and its tokens. A reader of a
 -- part says how what is left with the part in front follows from what is left behind it.
-use Rattle.std.specs.Prelude.{◌≡◌, ℕ, ◌+◌, ◌<◌, ◌≤◌, false, List, [], ◌∷◌, ◌++◌, length, drop, slice_index, refl}
+use Rattle.std.specs.Prelude.{◌≡◌, ℕ, ◌+◌, ◌<◌, ◌≤◌, false, List, [], ◌∷◌, ◌++◌, length, drop, slice_index, refl, if◌then◌else◌}
 use Rattle.std.proofs.Common.{sym, ap, ◌∙◌, add-one, drop-cons}
 use Rattle.std.proofs.Math.Option.{Option, none, some}
 use Rattle.std.proofs.Math.ListN.{drop_of_length-le}
-use Rattle.paper.specs.Refusals.{if◌then◌else◌}
 use Rattle.paper.specs.Grammar.{Part}
 use Rattle.paper.specs.Machine.{settled, step, complete, fault_from}
 use Rattle.paper.specs.JsonRead.{Token, token_of, tokens_from}

@@ -1,9 +1,8 @@
 -- Numbers from a byte on: digits passed over, a digit that is due, and how what is left after a number follows from its parts.
-use Rattle.std.specs.Prelude.{◌≡◌, ℕ, ◌+◌, ◌<◌, ◌≤◌, Bool, true, false, List, [], ◌∷◌, ◌++◌, length, drop, ◌≢◌, nat_le, slice_index, slice_index_or, refl}
+use Rattle.std.specs.Prelude.{◌≡◌, ℕ, ◌+◌, ◌<◌, ◌≤◌, Bool, true, false, List, [], ◌∷◌, ◌++◌, length, drop, ◌≢◌, nat_le, slice_index, slice_index_or, refl, if◌then◌else◌}
 use Rattle.std.proofs.Common.{sym, ap, ◌∙◌, leb-true, leb-false}
 use Rattle.std.proofs.Math.Option.{none, some}
 use native.Mathlib.Omega.{arith}
-use Rattle.paper.specs.Refusals.{if◌then◌else◌}
 use Rattle.paper.specs.Grammar.{Bytes, Part, Spot, Digits, Rule, among, digit, these, ends, optional, rules, fraction, power}
 use Rattle.paper.specs.Grammar.{one, number, at, unsigned, after_zero, after_digit, after_fraction, after_e}
 use Rattle.paper.specs.Grammar.{after_exponent}

@@ -1,11 +1,11 @@
 -- A part that is neither left out nor the beginning of a token, at a byte: by the rule that has the byte, or by none. Which rule that
 -- is, is computed for all bytes from one to another at once.
-use Rattle.std.specs.Prelude.{◌≡◌, ℕ, ◌+◌, ◌<◌, ◌≤◌, Bool, true, false, ◌&&◌, ◌||◌, List, [], ◌∷◌, ◌++◌, length, drop, nat_le, nat_lt, slice_index}
+use Rattle.std.specs.Prelude.{◌≡◌, ℕ, ◌+◌, ◌<◌, ◌≤◌, Bool, true, false, ◌&&◌, ◌||◌, List, [], ◌∷◌, ◌++◌, length, drop, nat_le, nat_lt, slice_index, if◌then◌else◌}
 use Rattle.std.proofs.Math.Path.{refl}
 use Rattle.std.proofs.Common.{sym, subst, ◌∙◌, arith}
 use Rattle.std.proofs.Math.Option.{Option, none, some}
 use borrow.Author.Tests.{leb-true, ltb-true}
-use Rattle.paper.specs.Refusals.{if◌then◌else◌, between}
+use Rattle.paper.specs.Refusals.{between}
 use Rattle.paper.specs.Grammar.{Part, Rule, Bytes, among, optional, rules, one}
 use Rattle.paper.specs.Machine.{chosen, settled, move}
 use Rattle.paper.specs.JsonRead.{token_of}

@@ -1,9 +1,8 @@
 -- A name's letters, each as itself or escaped.
-use Rattle.std.specs.Prelude.{◌≡◌, ℕ, ◌+◌, ◌≤◌, Bool, true, false, ◌||◌, List, [], ◌∷◌, length, drop, ◌==◌, ◌≢◌, nat_eq, refl}
+use Rattle.std.specs.Prelude.{◌≡◌, ℕ, ◌+◌, ◌≤◌, Bool, true, false, ◌||◌, List, [], ◌∷◌, length, drop, ◌==◌, ◌≢◌, nat_eq, refl, if◌then◌else◌}
 use Rattle.std.proofs.Common.{sym, ap, ◌∙◌, arith, eq-eqb, ne_eqb, eqb-true, drop-drop}
 use Rattle.std.proofs.Math.ListN.{length-drop}
 use Rattle.paper.specs.Numbers.{text, alike}
-use Rattle.paper.specs.Refusals.{if◌then◌else◌}
 use Rattle.laws.specs.Tests.{and_left, and_right}
 use Rattle.paper.specs.JsonRead.{begins, escaped, spells}
 

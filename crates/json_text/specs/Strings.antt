@@ -1,9 +1,8 @@
 -- The characters of a string, one after the other.
-use Rattle.std.specs.Prelude.{◌≡◌, ℕ, zero, suc, ◌+◌, ◌-◌, ◌<◌, ◌≤◌, Bool, true, false, leb, List, [], ◌∷◌, ◌++◌, length, drop, replicate, ◌==◌, ◌≢◌, nat_eq, nat_le, slice_index, slice_index_or}
+use Rattle.std.specs.Prelude.{◌≡◌, ℕ, zero, suc, ◌+◌, ◌-◌, ◌<◌, ◌≤◌, Bool, true, false, leb, List, [], ◌∷◌, ◌++◌, length, drop, replicate, ◌==◌, ◌≢◌, nat_eq, nat_le, slice_index, slice_index_or, if◌then◌else◌}
 use Rattle.std.proofs.Math.Path.{refl, sym, ap}
 use Rattle.std.proofs.Common.{◌∙◌, append_assoc, arith, eq-eqb, ne_eqb, le-leb, leb-true, leb-false}
 use Rattle.std.proofs.Math.Option.{Option, none, some}
-use Rattle.paper.specs.Refusals.{if◌then◌else◌}
 use Rattle.paper.specs.Grammar.{Part, Rule, Bytes, among, range, these, hex_digit, plain, optional, rules, one, chars, escape}
 use Rattle.paper.specs.Machine.{chosen}
 use Rattle.paper.specs.JsonRead.{token_of}

@@ -1,5 +1,5 @@
 -- Whole numbers read digit by digit, and cells from them. The reader counts no further than the cap, which is beyond any INT.
-use Rattle.std.specs.Prelude.{◌≡◌, ℕ, ◌+◌, ◌-◌, ◌*◌, ◌%◌, ◌^◌, ◌<◌, ◌≤◌, Bool, true, false, ◌&&◌, List, [], ◌∷◌, length, drop, ℤ, pos, neg_ℤ, ◌==◌, ◌≢◌, int_le, nat_eq, nat_le, nat_lt, slice_index, slice_index_or, refl}
+use Rattle.std.specs.Prelude.{◌≡◌, ℕ, ◌+◌, ◌-◌, ◌*◌, ◌%◌, ◌^◌, ◌<◌, ◌≤◌, Bool, true, false, ◌&&◌, List, [], ◌∷◌, length, drop, ℤ, pos, neg_ℤ, ◌==◌, ◌≢◌, int_le, nat_eq, nat_le, nat_lt, slice_index, slice_index_or, refl, if◌then◌else◌}
 use Rattle.std.proofs.Common.{sym, ap, ◌∙◌, arith, add-one, drop_of_length-le, drop-cons, get_or-drop, to_z}
 use Rattle.std.proofs.Math.Option.{Option, none, some, map}
 use borrow.Author.Tests.{eq-eqb, ne_eqb, eqb-true, eqb-false, ltb-true, ltb-false, leb-true, leb-false}
@@ -10,7 +10,6 @@ use Rattle.std.proofs.Math.Facts.{to_z_pos}
 use Rattle.paper.specs.declared.Cell.{Cell}
 use Rattle.paper.specs.declared.Cell.TheVariants.{Empty, Int, Truth}
 use Rattle.paper.specs.Limits.{INT, smallest_int, largest_int}
-use Rattle.paper.specs.Refusals.{if◌then◌else◌}
 use Rattle.paper.specs.Numbers.{text}
 use Rattle.paper.specs.Grammar.{among, these, digit}
 use Rattle.paper.specs.Machine.{given}

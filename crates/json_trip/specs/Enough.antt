@@ -1,12 +1,12 @@
 -- The tokens of a whole object do not run out: the last is its closing brace, which fits nothing. So where reading refuses with 16, its
 -- place is a token's.
-use Rattle.std.specs.Prelude.{ℕ, ◌+◌, ◌≡◌, refl, Bool, true, false, ◌&&◌, ◌||◌, List, [], ◌∷◌, ◌++◌, eqb, leb, ◌⊎◌}
+use Rattle.std.specs.Prelude.{ℕ, ◌+◌, ◌≡◌, refl, Bool, true, false, ◌&&◌, ◌||◌, List, [], ◌∷◌, ◌++◌, eqb, leb, ◌⊎◌, if◌then◌else◌}
 use Rattle.std.proofs.Common.{sym, ap, ◌∙◌, subst, arith, eqb-true, leb-true, inl, inr}
 use Rattle.std.proofs.Math.Option.{Option, none, some, map}
 use Rattle.paper.specs.declared.Cell.{Cell}
 use Rattle.paper.specs.declared.Refusal.{Refusal}
 use Rattle.paper.specs.Limits.{INT}
-use Rattle.paper.specs.Refusals.{Res, got, refused, ◌>>=◌, if◌then◌else◌, refusal, present, misfit16}
+use Rattle.paper.specs.Refusals.{Res, got, refused, ◌>>=◌, refusal, present, misfit16}
 use Rattle.paper.specs.Numbers.{text, alike}
 use Rattle.laws.specs.Tests.{and_left, and_right, none-refused, no_none, some_one}
 use Rattle.paper.specs.Grammar.{Spot, Part, among, blank, these, optional, rules, start}

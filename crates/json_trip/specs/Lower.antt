@@ -1,8 +1,7 @@
 -- "whichever is lower": a second `data` always stands before the fault, since every token does.
-use Rattle.std.specs.Prelude.{ℕ, ◌+◌, ◌≤◌, ◌<◌, ◌≡◌, refl, Bool, true, false, List, [], ◌∷◌, ◌++◌}
+use Rattle.std.specs.Prelude.{ℕ, ◌+◌, ◌≤◌, ◌<◌, ◌≡◌, refl, Bool, true, false, List, [], ◌∷◌, ◌++◌, if◌then◌else◌}
 use Rattle.std.proofs.Common.{ap, arith}
 use Rattle.std.proofs.Math.Option.{Option, none, some}
-use Rattle.paper.specs.Refusals.{if◌then◌else◌}
 use Rattle.paper.specs.Grammar.{Part, among, these, start}
 use Rattle.paper.specs.Grammar.{one, chars, escape, number, colon, at}
 use Rattle.paper.specs.Machine.{given, settled, step, complete, fault_from, fault}

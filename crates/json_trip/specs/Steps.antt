@@ -1,10 +1,10 @@
 -- Along a text from one place to a later one: the fault and the names `data` are those of what is left, and the tokens passed give cells.
-use Rattle.std.specs.Prelude.{ℕ, ◌+◌, ◌≡◌, refl, Bool, true, false, List, [], ◌∷◌, ◌++◌, map}
+use Rattle.std.specs.Prelude.{ℕ, ◌+◌, ◌≡◌, refl, Bool, true, false, List, [], ◌∷◌, ◌++◌, map, if◌then◌else◌}
 use Rattle.std.proofs.Common.{sym, ap, ◌∙◌, append_assoc}
 use Rattle.std.proofs.Math.Option
 use Rattle.std.proofs.Math.Option.{Option, none, some}
 use Rattle.paper.specs.declared.Cell.{Cell}
-use Rattle.paper.specs.Refusals.{Res, got, refused, ◌>>=◌, if◌then◌else◌}
+use Rattle.paper.specs.Refusals.{Res, got, refused, ◌>>=◌}
 use Rattle.paper.specs.Grammar.{Part, Rule, among, blank, these, optional, rules, values, before}
 use Rattle.paper.specs.Grammar.{at, value, items, more_items}
 use Rattle.paper.specs.Machine.{chosen, settled, move, step, fault_from}

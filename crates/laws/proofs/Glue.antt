@@ -1,6 +1,6 @@
 -- Two arrays glued along an axis. The glued array goes in blocks, one for each coordinate of the axes before: a block of the first
 -- array, then the same block of the second, where a block is the cells of the gluing axis and the axes after it.
-use Rattle.std.specs.Prelude.{ℕ, ◌+◌, ◌-◌, ◌*◌, ◌/◌, ◌%◌, ◌≤◌, ◌<◌, ◌≡◌, Bool, get_or, take, drop}
+use Rattle.std.specs.Prelude.{ℕ, ◌+◌, ◌-◌, ◌*◌, ◌/◌, ◌%◌, ◌≤◌, ◌<◌, ◌≡◌, Bool, get_or, take, drop, if◌then◌else◌}
 use Rattle.std.proofs.Math.Path.{refl, sym, ap, ap₂}
 use Rattle.std.proofs.Common.{subst, ◌∙◌, mod-lt, div-lt_iff_lt-mul, mul-add}
 use Rattle.std.proofs.Math.Bool.{true, false}
@@ -17,7 +17,6 @@ use Rattle.paper.specs.declared.Cell.TheVariants.{Empty}
 use Rattle.paper.specs.declared.Cell.{Cell}
 use Rattle.paper.specs.declared.Move.TheVariants.{Glue}
 use Rattle.paper.specs.declared.Operation.TheVariants.{Moves}
-use Rattle.paper.specs.Refusals.{if◌then◌else◌}
 use Rattle.paper.specs.Axes.{width, cells, offset, at_offset, axis_at, without, put_in, Array}
 use Rattle.paper.specs.Recipe.{glued}
 use Rattle.paper.specs.Values.{Whence, from_a, from_b, in_first, in_second, taken}

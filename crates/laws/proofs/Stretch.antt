@@ -1,13 +1,12 @@
 -- A stretch of a glued array: how many coordinates stay on the side of the first, which is up to the end of its block, and that the
 -- cells there are as many cells of that side, one after the other.
-use Rattle.std.specs.Prelude.{ℕ, zero, suc, ◌+◌, ◌-◌, ◌*◌, ◌/◌, ◌%◌, ◌≤◌, ◌<◌, ◌≡◌, refl, Bool, true, false, not, List, map, ltb, length, get_or, take, drop}
+use Rattle.std.specs.Prelude.{ℕ, zero, suc, ◌+◌, ◌-◌, ◌*◌, ◌/◌, ◌%◌, ◌≤◌, ◌<◌, ◌≡◌, refl, Bool, true, false, not, List, map, ltb, length, get_or, take, drop, if◌then◌else◌}
 use Rattle.std.proofs.Common.{sym, ap, ap₂, ◌∙◌, mod-lt, div-lt_iff_lt-mul, div-add-mod', add-zero, suc-mul, mul-le-mul_right, arith, ltb-true, ltb-false, lt-ltb, le-ltb, length-take, length-drop, ext_get_or, get_or-take, get_or-drop}
 use Rattle.std.specs.Bool.{beq}
 use Rattle.std.proofs.Math.Arith.{digits_div, digits_mod}
 use Rattle.paper.specs.Numbers.{from}
 use Rattle.paper.specs.declared.Axis.{Axis}
 use Rattle.paper.specs.declared.Cell.TheVariants.{Empty}
-use Rattle.paper.specs.Refusals.{if◌then◌else◌}
 use Rattle.paper.specs.Axes.{cells, ordinality, at_offset, coordinate, build, Array}
 use Rattle.paper.specs.Recipe.{glued}
 use Rattle.paper.specs.Values.{in_first, in_second}

@@ -1,7 +1,7 @@
 -- Two arrays that agree as an operation asks, and what that says of their axes: as many, and the limits that are compared are the same.
 -- Who moves or works out cells cites these laws, never the comparison itself.
 use Prim.Native.Nat.{ℕ, zero, suc, ◌+◌, ◌-◌, ◌*◌, ◌≤◌}
-use Rattle.std.specs.Prelude.{◌≡◌, Bool, true, false, ◌&&◌, List, [], ◌∷◌, ◌++◌, eqb, length, take}
+use Rattle.std.specs.Prelude.{◌≡◌, Bool, true, false, ◌&&◌, List, [], ◌∷◌, ◌++◌, eqb, length, take, if◌then◌else◌}
 use Rattle.std.proofs.Math.Path.{refl, subst}
 use Rattle.std.proofs.Common.{sym, ap, arith, eqb-true, ne_eqb}
 use Rattle.std.proofs.Math.Bool.{not}
@@ -14,7 +14,7 @@ use Rattle.paper.specs.declared.Move.TheVariants.{Update, Put, Glue}
 use Rattle.paper.specs.declared.Work.TheVariants.{Pair}
 use Rattle.paper.specs.declared.Operation.{Operation}
 use Rattle.paper.specs.declared.Operation.TheVariants.{Moves, Works}
-use Rattle.paper.specs.Refusals.{Res, got, refused, ◌>>◌, if◌then◌else◌, refusal, differ8, ensure_same}
+use Rattle.paper.specs.Refusals.{Res, got, refused, ◌>>◌, refusal, differ8, ensure_same}
 use Rattle.paper.specs.Numbers.{from}
 use Rattle.paper.specs.Axes.{same_name, name_at, without}
 use Rattle.paper.specs.Recipe.{as_many, axis_differs, in_step, first_difference, indices, agree}

@@ -1,6 +1,6 @@
 -- The answers of the callable parts: two answers with the same figures are equal, so that a promise about the figures fixes the answer.
 -- A reading is a struct with room for the most arrays and axes: it is fixed where nothing stands past the last of each.
-use Rattle.std.specs.Prelude.{ℕ, ◌-◌, ◌≤◌, ◌≡◌, refl, Bool, true, false, List, [], ◌++◌, map, leb, length, replicate}
+use Rattle.std.specs.Prelude.{ℕ, ◌-◌, ◌≤◌, ◌≡◌, refl, Bool, true, false, List, [], ◌++◌, map, leb, length, replicate, if◌then◌else◌}
 use Rattle.std.proofs.Common.{ap, ◌∙◌, arith, eq-eqb, ne_eqb, le-leb, leb-true, length-take, take_at}
 use Rattle.paper.specs.declared.Version.{Version}
 use Rattle.paper.specs.declared.Version.TheVariants.{One}
@@ -12,7 +12,7 @@ use Rattle.paper.specs.declared.Head.{Head}
 use Rattle.paper.specs.declared.Reading.{Reading}
 use Rattle.paper.specs.declared.Refusal.{Refusal}
 use Rattle.paper.specs.Limits.{most_axes, most_arrays}
-use Rattle.paper.specs.Refusals.{Res, got, refused, if◌then◌else◌, refusal}
+use Rattle.paper.specs.Refusals.{Res, got, refused, refusal}
 use Rattle.paper.specs.Axes.{no_name, cells, no_axis, Shape, shaped}
 use Rattle.paper.specs.Answers.{axis_count, axes_of, names_for, extent_of, names_of, shape_of, unless}
 

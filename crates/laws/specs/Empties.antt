@@ -1,13 +1,12 @@
 -- When a result is empty. Arithmetic and comparisons: where they don't refuse, exactly if an operand is empty. AND and OR are not among
 -- them: FALSE AND empty is FALSE. Is-empty, is-true, is-false and is-unknown: never.
-use Rattle.std.specs.Prelude.{ℕ, ◌≡◌, refl, Bool, true, false, not, ◌&&◌, ◌||◌, T, leb, ℤ, pos, ◌+ℤ◌, ◌-ℤ◌, ◌*ℤ◌}
+use Rattle.std.specs.Prelude.{ℕ, ◌≡◌, refl, Bool, true, false, not, ◌&&◌, ◌||◌, T, leb, ℤ, pos, ◌+ℤ◌, ◌-ℤ◌, ◌*ℤ◌, if◌then◌else◌}
 use Rattle.std.proofs.Common.{sym, ap, ◌∙◌, subst, arith}
 use Rattle.std.specs.Bool.{beq}
 use Rattle.std.specs.Int.Signed.{lt_z, le_z, quot_z, rem_z}
 use Rattle.std.specs.Float.Ieee as Ieee
 use Rattle.std.specs.Float.{binary64, fin}
 use Rattle.paper.specs.Limits.{INT, FLOAT, BOOLEAN, smallest_int, largest_int}
-use Rattle.paper.specs.Refusals.{if◌then◌else◌}
 use Rattle.paper.specs.Cells.{finite, is_true, is_false}
 use Rattle.paper.specs.Operators.{pair_no, single_no, takes, takes_one, two, worked, compared, applied, pair_cell, empty_cell}
 use Rattle.paper.specs.Operators.{signed, single_cell, fit_int, fit_float, int_by, float_div, eq_z}

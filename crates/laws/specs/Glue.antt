@@ -1,10 +1,9 @@
 -- Two arrays glued along an axis. The glued array goes in blocks, one for each coordinate of the axes before: a block of the first
 -- array, then the same block of the second, where a block is the cells of the gluing axis and the axes after it.
-use Rattle.std.specs.Prelude.{ℕ, ◌+◌, ◌-◌, ◌*◌, ◌/◌, ◌%◌, get_or, drop}
+use Rattle.std.specs.Prelude.{ℕ, ◌+◌, ◌-◌, ◌*◌, ◌/◌, ◌%◌, get_or, drop, if◌then◌else◌}
 use mathlib.Core.List.{List}
 use Rattle.std.proofs.Math.Dec.{ltb}
 use Rattle.paper.specs.declared.Axis.{Axis}
-use Rattle.paper.specs.Refusals.{if◌then◌else◌}
 use Rattle.paper.specs.Axes.{width, cells, limited}
 
 -- a's axis made longer by b's

@@ -1,7 +1,7 @@
 -- Cells judged one after the other: the first that is none, and what the paper's reading of them then is. A loop that judges cells
 -- carries a number; what reads them later cites the cell at an index, and that it is one.
 use Prim.Native.Nat.{ℕ, zero, suc, ◌+◌, ◌-◌, ◌*◌, ◌≤◌, ◌<◌}
-use Rattle.std.specs.Prelude.{◌≡◌, refl, Bool, true, false, List, [], ◌∷◌, eqb, length, get_or, take, drop}
+use Rattle.std.specs.Prelude.{◌≡◌, refl, Bool, true, false, List, [], ◌∷◌, eqb, length, get_or, take, drop, if◌then◌else◌}
 use Rattle.std.proofs.Common.{sym, ap, ◌∙◌, ne_eqb}
 use Rattle.std.proofs.Math.Option.{Option, none, some}
 use native.Mathlib.Omega.{arith}
@@ -9,7 +9,7 @@ use Rattle.std.proofs.Math.Seq.{drop-drop}
 use Rattle.paper.specs.declared.Cell.{Cell}
 use Rattle.paper.specs.declared.Cell.TheVariants.{Empty}
 use Rattle.paper.specs.declared.Refusal.{Refusal}
-use Rattle.paper.specs.Refusals.{Res, got, refused, ◌>>=◌, if◌then◌else◌, refusal, present, bad_cell3}
+use Rattle.paper.specs.Refusals.{Res, got, refused, ◌>>=◌, refusal, present, bad_cell3}
 use Rattle.paper.specs.Cells.{cell_of}
 use Rattle.paper.specs.Bundle.{cells_of}
 use Rattle.paper.specs.Limits.{cell_bytes}

@@ -1,10 +1,9 @@
 -- Those of a list that pass a test: each that passes is kept, no other is, and what rises along the list rises along what is kept.
 -- So with numbers that rise, no two of the kept are the same.
 use Prim.Native.Nat.{ℕ, zero, suc, ◌<◌}
-use Rattle.std.specs.Prelude.{◌≡◌, Bool, true, false, List, [], ◌∷◌, leb, length, get_or}
+use Rattle.std.specs.Prelude.{◌≡◌, Bool, true, false, List, [], ◌∷◌, leb, length, get_or, if◌then◌else◌}
 use Rattle.std.proofs.Math.Path.{refl, subst}
 use Rattle.std.proofs.Common.{sym, ap, arith, leb-true, leb-false}
-use Rattle.paper.specs.Refusals.{if◌then◌else◌}
 
 -- those of a list that pass a test, in order
 unfoldable pub keep : {C : Type 0} → (C → Bool) → List C → List C

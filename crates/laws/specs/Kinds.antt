@@ -1,13 +1,12 @@
 -- What an operator gives is a cell of its result's type: a number that fits, a finite FLOAT, a truth value, or nothing. So it can be
 -- written, and read back as the same cell.
-use Rattle.std.specs.Prelude.{ℕ, ◌≡◌, refl, Bool, true, false, ◌&&◌, T, ℤ, pos}
+use Rattle.std.specs.Prelude.{ℕ, ◌≡◌, refl, Bool, true, false, ◌&&◌, T, ℤ, pos, if◌then◌else◌}
 use Rattle.std.proofs.Common.{sym, subst, arith}
 use Rattle.std.specs.Int.Signed.{le_z}
 use Rattle.std.specs.Float.Ieee as Ieee
 use Rattle.std.specs.Float.{binary64, nan, inf, fin}
 use Rattle.std.specs.Int.{w64}
 use Rattle.paper.specs.Limits.{INT, FLOAT, BOOLEAN, smallest_int, largest_int}
-use Rattle.paper.specs.Refusals.{if◌then◌else◌}
 use Rattle.paper.specs.Cells.{finite}
 use Rattle.paper.specs.Operators.{two, worked, compared, fit_int, fit_float, int_by, eq_z, abs_float, signed}
 use Rattle.paper.specs.declared.Cell.{Cell}

@@ -1,5 +1,5 @@
 -- Refusals that come from values: an operator at a cell, a step and a recipe refuse with 12 or 13 alone.
-use Rattle.std.specs.Prelude.{ℕ, ◌+◌, ◌≡◌, refl, Bool, true, false, ◌&&◌, ◌⊎◌, List, [], ◌∷◌, ◌++◌, map, ℤ, pos, ◌+ℤ◌, ◌-ℤ◌, ◌*ℤ◌}
+use Rattle.std.specs.Prelude.{ℕ, ◌+◌, ◌≡◌, refl, Bool, true, false, ◌&&◌, ◌⊎◌, List, [], ◌∷◌, ◌++◌, map, ℤ, pos, ◌+ℤ◌, ◌-ℤ◌, ◌*ℤ◌, if◌then◌else◌}
 use Rattle.std.proofs.Common.{subst, inl, inr}
 use Rattle.std.specs.Int.Signed.{le_z, quot_z, rem_z}
 use Rattle.std.specs.Float.Ieee.{add, div, eq}
@@ -20,7 +20,7 @@ use Rattle.paper.specs.declared.Work.TheVariants.{Pair, Scalar, Single}
 use Rattle.paper.specs.declared.Hand.TheVariants.{Right, Left}
 use Rattle.paper.specs.Limits.{smallest_int, largest_int}
 use Rattle.paper.specs.Numbers.{from}
-use Rattle.paper.specs.Refusals.{Res, got, refused, ◌>>=◌, if◌then◌else◌, refusal, no_fit12, by_zero13}
+use Rattle.paper.specs.Refusals.{Res, got, refused, ◌>>=◌, refusal, no_fit12, by_zero13}
 use Rattle.paper.specs.Axes.{build, at_offset, cells, at, Shape, Array}
 use Rattle.paper.specs.Cells.{finite}
 use Rattle.paper.specs.declared.Two.{Two}

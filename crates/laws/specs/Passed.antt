@@ -1,11 +1,11 @@
 -- A step that was planned passed its tests: what each test says of it, over the bundle's arrays and the results of earlier steps.
-use Rattle.std.specs.Prelude.{ℕ, zero, suc, ◌+◌, ◌/◌, ◌%◌, ◌≤◌, ◌<◌, ◌≡◌, refl, true, ◌&&◌, List, [], ◌∷◌, ◌++◌, map, eqb, leb, length, get_or, take, drop}
+use Rattle.std.specs.Prelude.{ℕ, zero, suc, ◌+◌, ◌/◌, ◌%◌, ◌≤◌, ◌<◌, ◌≡◌, refl, true, ◌&&◌, List, [], ◌∷◌, ◌++◌, map, eqb, leb, length, get_or, take, drop, if◌then◌else◌}
 use Rattle.std.proofs.Common.{sym, ap, subst, append_assoc, append-nil, arith, leb-true}
 use Rattle.std.proofs.Math.Option.{Option, some}
 use Rattle.paper.specs.declared.Sizes.{Sizes}
 use Rattle.paper.specs.declared.Operation.{Operation}
 use Rattle.paper.specs.Limits.{head_bytes, most_steps}
-use Rattle.paper.specs.Refusals.{Res, got, ◌>>◌, if◌then◌else◌, refusal, present, between, unknown4, bad_axis5, outside6, unfit7, bad_result9}
+use Rattle.paper.specs.Refusals.{Res, got, ◌>>◌, refusal, present, between, unknown4, bad_axis5, outside6, unfit7, bad_result9}
 use Rattle.paper.specs.Axes.{Shape}
 use Rattle.paper.specs.Recipe.{Step, Planned, operation, step_of, operand, no_shape, uses, unused_zero, axis_in, types_fit, agree, fits_in, result_of, good_result, step_tests, step_result, step_over, plan_step, plan_steps, plan_recipe}
 use Rattle.laws.specs.Agreeing.{Agree, same-got}

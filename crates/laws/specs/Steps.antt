@@ -1,9 +1,8 @@
 -- Cells keep their type through every step: where the operands' cells are of their types, and the types passed test 7, each cell of
 -- the result is of the result's type, which is a type.
-use Rattle.std.specs.Prelude.{ℕ, ◌-◌, ◌≡◌, refl, Bool, true, false, List, eqb, leb, get_or}
+use Rattle.std.specs.Prelude.{ℕ, ◌-◌, ◌≡◌, refl, Bool, true, false, List, eqb, leb, get_or, if◌then◌else◌}
 use Rattle.std.proofs.Common.{sym, subst, eqb-true}
 use Rattle.paper.specs.Limits.{BOOLEAN}
-use Rattle.paper.specs.Refusals.{if◌then◌else◌}
 use Rattle.paper.specs.Axes.{Array, inside, ordinality, at}
 use Rattle.paper.specs.Cells.{is_type}
 use Rattle.paper.specs.Operators.{pair_no, single_no, gives, gives_one}

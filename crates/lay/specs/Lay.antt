@@ -1,14 +1,13 @@
 -- Moved cells as bytes: cells of an operand side by side as they lie, or empty ones; what is asked to lay them down, and what is then
 -- there.
 use Prim.Native.Nat.{ℕ, suc, ◌+◌, ◌-◌, ◌*◌, ◌≤◌}
-use Rattle.std.specs.Prelude.{◌≡◌, Bool, true, false, List, [], ◌∷◌, ◌++◌, eqb, length, get_or, take, drop}
+use Rattle.std.specs.Prelude.{◌≡◌, Bool, true, false, List, [], ◌∷◌, ◌++◌, eqb, length, get_or, take, drop, if◌then◌else◌}
 use Rattle.std.proofs.Math.Path.{refl, sym, ap}
 use Rattle.std.proofs.Common.{◌∙◌, add-one, eq-eqb, ne_eqb, length-take, drop-cons}
 use native.Mathlib.Omega.{arith}
 use Rattle.std.proofs.Math.ListN.{replicate}
 use Rattle.std.proofs.lemmas.List.{replicate-append-replicate}
 use Rattle.paper.specs.Limits.{cell_bytes, word_bytes}
-use Rattle.paper.specs.Refusals.{if◌then◌else◌}
 use Rattle.paper.specs.Numbers.{part, le_of, le_bytes}
 use Rattle.laws.specs.Put.{put, put-none, before-put, part-add, length_part, copied}
 use Rattle.laws.specs.Numbers.{Bytes, le_bytes-le_of, bytes_take, bytes_drop}

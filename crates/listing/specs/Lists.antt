@@ -1,7 +1,7 @@
 -- A page row after row: the rows of the TRUE cells met so far stand in the buffer, and with those that are still to be met there are as
 -- many as there is room for. The loop ends with the buffer full or the cells used up, and in both cases goes on where it stands.
 use Prim.Native.Nat.{ℕ, suc, ◌+◌, ◌-◌, ◌*◌, ◌/◌, ◌≤◌, ◌<◌}
-use Rattle.std.specs.Prelude.{◌≡◌, Bool, drop, get_or}
+use Rattle.std.specs.Prelude.{◌≡◌, Bool, drop, get_or, if◌then◌else◌}
 use Rattle.std.proofs.Math.Path.{refl, sym, ap, ap₂}
 use Rattle.std.proofs.Common.{◌∙◌, suc-mul, mul-le-mul_right, div-mul-le_self, le-div_iff_mul-le, add-one, length-append, drop_of_length-le, take_at, drop_at, take_all, drop-cons, drop-drop}
 use Rattle.std.proofs.Math.Bool.{true, false}
@@ -16,7 +16,7 @@ use Rattle.paper.specs.declared.Cell.{Cell}
 use Rattle.paper.specs.declared.Cell.TheVariants.{Empty}
 use Rattle.paper.specs.declared.Listed.{Listed}
 use Rattle.paper.specs.Limits.{BOOLEAN, limit_bytes, cell_bytes}
-use Rattle.paper.specs.Refusals.{got, if◌then◌else◌}
+use Rattle.paper.specs.Refusals.{got}
 use Rattle.paper.specs.Numbers.{part, le_bytes, position_bytes, last_of, concat, over}
 use Rattle.paper.specs.Axes.{cells, coordinate, Shape, Array}
 use Rattle.paper.specs.Cells.{cell_of, is_true, trues}

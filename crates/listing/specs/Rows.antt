@@ -1,5 +1,5 @@
 -- A row put into the row buffer: its ordinality, then a coordinate's positions one after the other. And a cell's nine bytes, as TRUE.
-use Rattle.std.specs.Prelude.{ℕ, ◌+◌, ◌*◌, ◌≤◌, ◌<◌, ◌≡◌, Bool, true, false, ◌&&◌, eqb, leb, take, drop, get_or}
+use Rattle.std.specs.Prelude.{ℕ, ◌+◌, ◌*◌, ◌≤◌, ◌<◌, ◌≡◌, Bool, true, false, ◌&&◌, eqb, leb, take, drop, get_or, if◌then◌else◌}
 use Rattle.std.proofs.Math.Path.{refl, ap, ap₂}
 use Rattle.std.proofs.Common.{sym, ◌∙◌, ne_eqb, leb-false, take_at, drop_at, take_all, of_z}
 use mathlib.Core.List.{List, [], ◌∷◌, ◌++◌, map, append_assoc}
@@ -12,7 +12,6 @@ use Rattle.std.specs.Int.{w32}
 use Rattle.paper.specs.declared.Axis.{Axis}
 use Rattle.paper.specs.declared.Cell.TheVariants.{Empty, Truth}
 use Rattle.paper.specs.Limits.{BOOLEAN, limit_bytes, word_bytes, cell_bytes}
-use Rattle.paper.specs.Refusals.{if◌then◌else◌}
 use Rattle.paper.specs.Numbers.{le_of, le_bytes, part, position, position_bytes, concat}
 use Rattle.paper.specs.Axes.{coordinate, Shape, result}
 use Rattle.paper.specs.Cells.{filled, cell_from, cell_of, is_truth, is_true}

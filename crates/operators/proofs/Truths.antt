@@ -1,9 +1,9 @@
 -- The ways out of the logic of truth values, each by the tests that lead to it. Assumes nothing.
+use Rattle.std.specs.Prelude.{if◌then◌else◌}
 use Prim.Native.Nat.{ℕ}
 use mathlib.Core.Path.{◌≡◌, refl, sym, ◌∙◌}
 use mathlib.Core.Bool.{Bool, true, false, not, ◌&&◌, ◌||◌, beq}
 use native.Mathlib.Omega.{arith}
-use Rattle.paper.specs.Refusals.{if◌then◌else◌}
 use Rattle.paper.specs.Cells.{is_truth}
 use Rattle.paper.specs.Operators.{not_cell}
 use Rattle.paper.specs.declared.Cell.{Cell}

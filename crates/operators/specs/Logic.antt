@@ -1,6 +1,5 @@
 -- AND and OR as one: AND is decided by FALSE and OR by TRUE, so that `decided_by false` is `and_cell` and `decided_by true` is `or_cell`.
-use Rattle.std.specs.Prelude.{Bool, not, ◌&&◌, ◌||◌}
-use Rattle.paper.specs.Refusals.{if◌then◌else◌}
+use Rattle.std.specs.Prelude.{Bool, not, ◌&&◌, ◌||◌, if◌then◌else◌}
 use Rattle.paper.specs.Cells.{is_truth}
 use Rattle.paper.specs.declared.Cell.{Cell}
 use Rattle.paper.specs.declared.Cell.TheVariants.{Empty, Truth}

@@ -1,7 +1,7 @@
 -- Where cell k of a moved result comes from, a line a move: found in an extent, counted in blocks, or the same cell. The code answers
 -- these lines, and the runs of a result are read off them.
 use Prim.Native.Nat.{ℕ, ◌+◌, ◌-◌, ◌*◌, ◌/◌, ◌%◌, ◌≤◌, ◌<◌}
-use Rattle.std.specs.Prelude.{◌≡◌, Bool, true, false, eqb, length, get_or, drop}
+use Rattle.std.specs.Prelude.{◌≡◌, Bool, true, false, eqb, length, get_or, drop, if◌then◌else◌}
 use Rattle.std.proofs.Math.Path.{refl, sym}
 use Rattle.std.proofs.Common.{ap, ◌∙◌, arith, eqb-true}
 use mathlib.Core.List.{List}
@@ -9,7 +9,6 @@ use Rattle.std.proofs.lemmas.Bool.{eqb-false}
 use Rattle.paper.specs.declared.Axis.{Axis}
 use Rattle.paper.specs.declared.Move.{Move}
 use Rattle.paper.specs.declared.Move.TheVariants.{Trim, Slice, Reshape, Shift, Rename, Update, Put, Glue}
-use Rattle.paper.specs.Refusals.{if◌then◌else◌}
 use Rattle.paper.specs.Numbers.{position_at}
 use Rattle.paper.specs.Axes.{cells, offset, at_offset, axis_at, without, put_in}
 use Rattle.paper.specs.Recipe.{Step, result_axes}

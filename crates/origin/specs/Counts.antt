@@ -1,10 +1,9 @@
 -- What the code counts, told as the definitions have it: blocks and layers around an axis, turns of two arrays. Names of the code's values
 -- stand for themselves, each with the fact that it was promised with.
-use Rattle.std.specs.Prelude.{ℕ, ◌+◌, ◌-◌, ◌*◌, ◌/◌, ◌%◌, ◌≤◌, ◌<◌, ◌≡◌, refl, Bool, true, false, List, ltb, drop}
+use Rattle.std.specs.Prelude.{ℕ, ◌+◌, ◌-◌, ◌*◌, ◌/◌, ◌%◌, ◌≤◌, ◌<◌, ◌≡◌, refl, Bool, true, false, List, ltb, drop, if◌then◌else◌}
 use Rattle.std.proofs.Common.{sym, ap, mul-le-mul, mod-lt, div-le_self, arith, ltb-false}
 use Rattle.paper.specs.declared.Axis.{Axis}
 use Rattle.paper.specs.Limits.{reach, most_cells}
-use Rattle.paper.specs.Refusals.{if◌then◌else◌}
 use Rattle.paper.specs.Axes.{cells, offset, at_offset, axis_at, without, put_in}
 use Rattle.paper.specs.Recipe.{glued}
 use Rattle.paper.specs.Values.{from_a, from_b, in_second}

@@ -1,6 +1,6 @@
 -- Where a moved cell comes from lies in its array, and in B only where the move uses one: laws of the paper's definitions, apart from the
 -- code.
-use Rattle.std.specs.Prelude.{ℕ, ◌-◌, ◌<◌, ◌≡◌, refl, Bool, false, List, [], ◌∷◌, map, eqb, get_or}
+use Rattle.std.specs.Prelude.{ℕ, ◌-◌, ◌<◌, ◌≡◌, refl, Bool, false, List, [], ◌∷◌, map, eqb, get_or, if◌then◌else◌}
 use Rattle.std.proofs.Math.Path.{ap}
 use Rattle.std.proofs.Math.Bool.{true}
 use Rattle.std.proofs.Common.{arith, leb-true, leb-false}
@@ -8,7 +8,6 @@ use Rattle.paper.specs.declared.Axis.{Axis}
 use Rattle.paper.specs.declared.Move.{Move}
 use Rattle.paper.specs.declared.Move.TheVariants.{Trim, Slice, Reshape, Shift, Rename, Update, Put, Glue}
 use Rattle.paper.specs.declared.Operation.TheVariants.{Moves}
-use Rattle.paper.specs.Refusals.{if◌then◌else◌}
 use Rattle.paper.specs.Numbers.{position_at}
 use Rattle.paper.specs.Axes.{cells, inside, offset, at_offset, without}
 use Rattle.paper.specs.Recipe.{Step, uses, fits_in, result_axes, covers, glued, shifted}

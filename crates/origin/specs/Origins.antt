@@ -1,6 +1,6 @@
 -- Where a cell of a moved result comes from: the paper's coordinate of A or of B, as a cell of that array counted from 0, and the cell
 -- that stands there. Then the forms in which the code finds it: a coordinate in an extent, and two arrays' cells in turn.
-use Rattle.std.specs.Prelude.{ℕ, ◌+◌, ◌-◌, ◌*◌, ◌<◌, ◌≡◌, Bool, List, ltb, length, get_or}
+use Rattle.std.specs.Prelude.{ℕ, ◌+◌, ◌-◌, ◌*◌, ◌<◌, ◌≡◌, Bool, List, ltb, length, get_or, if◌then◌else◌}
 use Rattle.std.proofs.Math.Path.{refl}
 use Rattle.std.proofs.Math.Bool.{true, false}
 use native.Mathlib.Omega.{arith}
@@ -9,7 +9,6 @@ use Rattle.paper.specs.declared.Cell.{Cell}
 use Rattle.paper.specs.declared.Cell.TheVariants.{Empty}
 use Rattle.paper.specs.declared.Move.{Move}
 use Rattle.paper.specs.declared.Operation.TheVariants.{Moves}
-use Rattle.paper.specs.Refusals.{if◌then◌else◌}
 use Rattle.paper.specs.Axes.{cells, inside, offset, ordinality, Shape, Array, at}
 use Rattle.paper.specs.Recipe.{Step, uses, axis_in, fits_in, result_axes}
 use Rattle.paper.specs.Values.{Whence, from_a, from_b, nowhere, overlaid, taken}

@@ -1,6 +1,6 @@
 -- Forms whose cells stand one after the other in a buffer: what it is that each was judged good, the bytes that the bundle then has, and
 -- that packing gives these bytes.
-use Rattle.std.specs.Prelude.{ℕ, zero, suc, ◌+◌, ◌*◌, ◌≤◌, ◌<◌, ◌≡◌, refl, false, ◌&&◌, List, [], ◌∷◌, ◌++◌, map, drop, replicate}
+use Rattle.std.specs.Prelude.{ℕ, zero, suc, ◌+◌, ◌*◌, ◌≤◌, ◌<◌, ◌≡◌, refl, false, ◌&&◌, List, [], ◌∷◌, ◌++◌, map, drop, replicate, if◌then◌else◌}
 use Rattle.std.proofs.Common.{sym, ap, ◌∙◌, arith, length-append, length-take, length-drop, take-add}
 use Rattle.std.proofs.Math.Bool.{true}
 use Rattle.std.proofs.Math.Option.{Option, none, some}
@@ -15,7 +15,7 @@ use Rattle.paper.specs.declared.Axis.{Axis}
 use Rattle.paper.specs.declared.Cell.{Cell}
 use Rattle.paper.specs.declared.Form.{Form}
 use Rattle.paper.specs.Limits.{most_arrays, most_axes, most_cells, half_name, limits_bytes, type_bytes, cell_bytes}
-use Rattle.paper.specs.Refusals.{got, refused, ◌>>◌, if◌then◌else◌, refusal, ensure, between, bad_bytes1, small_output14}
+use Rattle.paper.specs.Refusals.{got, refused, ◌>>◌, refusal, ensure, between, bad_bytes1, small_output14}
 use Rattle.paper.specs.Numbers.{concat, none?}
 use Rattle.paper.specs.Axes.{good_extent, axis_within, within, Shape, Array}
 use Rattle.paper.specs.Cells.{is_type, cell_of, cells_bytes}

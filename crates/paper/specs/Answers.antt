@@ -1,6 +1,6 @@
 -- The answers of the callable parts: each enum or struct that the engine answers with, as the paper's values or its refusal, for
 -- every case. A promise says that the answer, so read, is what the definitions above give.
-use Rattle.std.specs.Prelude.{ℕ, ◌+◌, ◌-◌, ◌*◌, ◌≡◌, List, [], ◌∷◌, ◌++◌, map, eqb, leb, take, length, replicate}
+use Rattle.std.specs.Prelude.{ℕ, ◌+◌, ◌-◌, ◌*◌, ◌≡◌, List, [], ◌∷◌, ◌++◌, map, eqb, leb, take, length, replicate, if◌then◌else◌}
 use Rattle.paper.specs.declared.Sizes.{Sizes}
 use Rattle.paper.specs.declared.Name.{Name}
 use Rattle.paper.specs.declared.Axis.{Axis}
@@ -32,7 +32,7 @@ use Rattle.paper.specs.declared.Part.{Part}
 use Rattle.paper.specs.declared.StretchAnswer.{StretchAnswer}
 use Rattle.paper.specs.declared.StretchAnswer.TheVariants as Stretch
 use Rattle.paper.specs.Limits.{most_axes, type_bytes, cell_bytes}
-use Rattle.paper.specs.Refusals.{Res, got, refused, ◌>>=◌, if◌then◌else◌, refusal, not_json15, misfit16}
+use Rattle.paper.specs.Refusals.{Res, got, refused, ◌>>=◌, refusal, not_json15, misfit16}
 use Rattle.paper.specs.Axes.{no_name, cells, no_axis, Shape, Array, shaped}
 use Rattle.paper.specs.Bundle.{mark_bytes, sizes_in, read_bundle}
 use Rattle.paper.specs.Reference.{Walked}

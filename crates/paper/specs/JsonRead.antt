@@ -1,6 +1,6 @@
 -- Paper 02, request [5], "Read what agencies send back": a text into the cells of an array whose type and extent the caller names.
 -- The place of every refusal is 0.
-use Rattle.std.specs.Prelude.{ℕ, ◌+◌, ◌-◌, ◌*◌, ◌/◌, ◌%◌, Bool, true, false, ◌&&◌, ◌||◌, not, List, [], ◌∷◌, ◌++◌, eqb, leb, take, drop, length, get_or, replicate, ℤ, pos, neg_ℤ}
+use Rattle.std.specs.Prelude.{ℕ, ◌+◌, ◌-◌, ◌*◌, ◌/◌, ◌%◌, Bool, true, false, ◌&&◌, ◌||◌, not, List, [], ◌∷◌, ◌++◌, eqb, leb, take, drop, length, get_or, replicate, ℤ, pos, neg_ℤ, if◌then◌else◌}
 use Prim.Native.Char.{code}
 use Rattle.std.proofs.Math.Option.{Option, none, some, map}
 use Rattle.std.specs.Int.Signed.{le_z}
@@ -10,7 +10,7 @@ use Rattle.paper.specs.declared.Cell.TheVariants.{Empty, Int, Truth}
 use Rattle.paper.specs.declared.Name.{Name}
 use Rattle.paper.specs.declared.Sizes.{Sizes}
 use Rattle.paper.specs.Limits.{INT, FLOAT, cell_bytes, smallest_int, largest_int}
-use Rattle.paper.specs.Refusals.{Res, got, refused, ◌>>=◌, ◌>>◌, if◌then◌else◌, refusal, ensure, present, between}
+use Rattle.paper.specs.Refusals.{Res, got, refused, ◌>>=◌, ◌>>◌, refusal, ensure, present, between}
 use Rattle.paper.specs.Refusals.{bad_bytes1, bad_extent2, unfit7, small_output14, not_json15, misfit16}
 use Rattle.paper.specs.Numbers.{text, same, none?, concat, over}
 use Rattle.paper.specs.Axes.{width, cells, good_extent}

@@ -1,7 +1,6 @@
 -- The grammar read byte by byte: the parts still to come, and where a text stops being the beginning of an object.
-use Rattle.std.specs.Prelude.{ℕ, ◌+◌, Bool, true, false, List, [], ◌∷◌, ◌++◌}
+use Rattle.std.specs.Prelude.{ℕ, ◌+◌, Bool, true, false, List, [], ◌∷◌, ◌++◌, if◌then◌else◌}
 use Rattle.std.proofs.Math.Option.{Option, none, some, map}
-use Rattle.paper.specs.Refusals.{if◌then◌else◌}
 use Rattle.paper.specs.Grammar.{Part, Rule, among, blank, optional, rules, start}
 
 -- what is made of something that may not be there

@@ -1,10 +1,9 @@
 -- A position moved by a signed 32-bit amount, on the distances: an amount in the lower half of the bits raises the distance, one in the
 -- upper half lowers it, and below the range there is no position.
-use Rattle.std.specs.Prelude.{◌≡◌, refl, Bool, true, false, ℕ, ◌+◌, ◌-◌, ◌*◌, ◌^◌, ◌≤◌, ◌<◌, ltb, ℤ, ◌+ℤ◌}
+use Rattle.std.specs.Prelude.{◌≡◌, refl, Bool, true, false, ℕ, ◌+◌, ◌-◌, ◌*◌, ◌^◌, ◌≤◌, ◌<◌, ltb, ℤ, ◌+ℤ◌, if◌then◌else◌}
 use Rattle.std.proofs.Common.{sym, ap, arith, ltb-true, ltb-false, to_z, of_z}
 use Rattle.std.specs.Int.{w32}
 use Rattle.paper.specs.Limits.{reach}
-use Rattle.paper.specs.Refusals.{if◌then◌else◌}
 use Rattle.paper.specs.Numbers.{position, distance, no_position, moved}
 use Rattle.laws.specs.Parts.{up, dn, One, one-part, add_parts, parts-eq, to_z-low, to_z-high, bits-low, bits-high}
 use Rattle.laws.specs.Positions.{position-parts, distance-from, distance-low}

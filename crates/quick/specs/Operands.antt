@@ -1,8 +1,7 @@
 -- Where an operand lies, in the bundle, in the work area, or as one scalar for all, and a cell of it as it lies: its mark and its word.
-use Rattle.std.specs.Prelude.{ℕ, ◌+◌, ◌*◌, ◌≤◌, ◌≡◌, Bool, true, false, List, eqb, length, get_or}
+use Rattle.std.specs.Prelude.{ℕ, ◌+◌, ◌*◌, ◌≤◌, ◌≡◌, Bool, true, false, List, eqb, length, get_or, if◌then◌else◌}
 use Rattle.std.proofs.Common.{ap, ◌∙◌}
 use Rattle.paper.specs.Limits.{cell_bytes, word_bytes}
-use Rattle.paper.specs.Refusals.{if◌then◌else◌}
 use Rattle.paper.specs.Numbers.{le_of, part}
 use Rattle.quick.specs.declared.operands.Source.{Source}
 use Rattle.quick.specs.declared.operands.Pairing.{Pairing}

@@ -1,6 +1,6 @@
 -- What stands under an operand's number, in the paper's terms: one of the bundle's arrays, the result of a step, or nothing.
 use Prim.Native.Nat.{ℕ, zero, suc, ◌+◌, ◌-◌, ◌≤◌, ◌<◌}
-use Rattle.std.specs.Prelude.{◌≡◌, Bool, List, [], ◌∷◌, ◌++◌, map, eqb, length, get_or, set, replicate}
+use Rattle.std.specs.Prelude.{◌≡◌, Bool, List, [], ◌∷◌, ◌++◌, map, eqb, length, get_or, set, replicate, if◌then◌else◌}
 use Rattle.std.proofs.Math.Path.{refl, ap}
 use Rattle.std.proofs.Common.{sym, subst, ◌∙◌, length-set, get_or-set_same, get_or-set_other}
 use Rattle.std.proofs.Math.Bool.{true, false}
@@ -12,7 +12,6 @@ use Rattle.std.proofs.Math.Dec.{leb}
 use Rattle.std.proofs.lemmas.List.{length-replicate}
 use Rattle.paper.specs.declared.Head.{Head}
 use Rattle.paper.specs.Limits.{most_arrays, most_steps, steps_from}
-use Rattle.paper.specs.Refusals.{if◌then◌else◌}
 use Rattle.paper.specs.Numbers.{nth}
 use Rattle.paper.specs.Axes.{cells, Shape}
 use Rattle.paper.specs.Recipe.{operand, no_shape}

@@ -1,5 +1,5 @@
 -- One step's answer in the paper's terms: the step planned or the refusal, and what is kept of its result.
-use Rattle.std.specs.Prelude.{ℕ, ◌+◌, ◌-◌, ◌≤◌, ◌<◌, ◌≡◌, refl, Bool, true, false, not, List, [], ◌∷◌, take, drop, get_or}
+use Rattle.std.specs.Prelude.{ℕ, ◌+◌, ◌-◌, ◌≤◌, ◌<◌, ◌≡◌, refl, Bool, true, false, not, List, [], ◌∷◌, take, drop, get_or, if◌then◌else◌}
 use Rattle.std.proofs.Math.Path.{sym, ap, subst}
 use Rattle.std.proofs.Common.{ap₂, ◌∙◌, le_refl, le_of_eq, arith, ne_eqb, length-append, length-take, length-drop, get_or-take, get_or-drop, take_all, length-take-le}
 use Rattle.std.proofs.Math.Option.{some}
@@ -18,7 +18,7 @@ use Rattle.paper.specs.declared.Operation.{Operation}
 use Rattle.paper.specs.declared.Operation.TheVariants.{Moves, Works}
 use Rattle.paper.specs.declared.Move.TheVariants.{Trim, Slice, Reshape, Shift, Rename, Update, Put, Glue}
 use Rattle.paper.specs.Limits.{head_bytes, limit_bytes, pair_bytes, scalar_at, word_bytes, sizes_of}
-use Rattle.paper.specs.Refusals.{Res, got, refused, if◌then◌else◌, refusal, unknown4, bad_result9}
+use Rattle.paper.specs.Refusals.{Res, got, refused, refusal, unknown4, bad_result9}
 use Rattle.paper.specs.Numbers.{part, none?, signed_at, position_at, moved}
 use Rattle.paper.specs.Axes.{width, cells, limited, axis_at, Shape}
 use Rattle.paper.specs.Recipe.{Step, Planned, operation, step_of, operand, no_shape, uses, axis_in, glued, result_names, result_axes, result_of, good_result, step_tests, step_result, step_over, plan_step}

@@ -1,7 +1,6 @@
 // What stands under an operand's number: nothing, one of the bundle's arrays, or a step's result; and where a plan keeps it.
-ghost use Rattle.std.specs.Prelude.{◌≡◌, true, ◌+◌, ◌≤◌};
+ghost use Rattle.std.specs.Prelude.{◌≡◌, true, ◌+◌, ◌≤◌, if◌then◌else◌};
 ghost use Rattle.paper.specs.Limits.{most_arrays, most_steps};
-ghost use Rattle.paper.specs.Refusals.{if◌then◌else◌};
 ghost use Rattle.quick.specs.Operands.{work_side};
 ghost use Rattle.recipe.specs.Operands.{no_operand, placed, slot_of};
 

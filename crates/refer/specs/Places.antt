@@ -1,5 +1,5 @@
 -- A reference by the place found, and a walk by its walking place: each way out of the code from the tests that lead to it.
-use Rattle.std.specs.Prelude.{ℕ, ◌+◌, ◌-◌, ◌*◌, ◌≤◌, ◌<◌, ◌≡◌, refl, Bool, true, List, map, length, take, get_or, set, ℤ, pos}
+use Rattle.std.specs.Prelude.{ℕ, ◌+◌, ◌-◌, ◌*◌, ◌≤◌, ◌<◌, ◌≡◌, refl, Bool, true, List, map, length, take, get_or, set, ℤ, pos, if◌then◌else◌}
 use Rattle.std.proofs.Common.{◌∙◌, add-one, arith, take-suc-set, take-suc, take_all}
 use Rattle.std.proofs.Math.Bool.{false}
 use borrow.Author.Tests.{eq-eqb, ne_eqb, le-leb, lt-leb}
@@ -14,7 +14,7 @@ use Rattle.paper.specs.declared.Place.TheVariants.{At, InMaximum, Beyond}
 use Rattle.paper.specs.declared.Ordinality.{Ordinality}
 use Rattle.paper.specs.declared.Seen.TheVariants.{Held, End}
 use Rattle.paper.specs.Limits.{cell_bytes}
-use Rattle.paper.specs.Refusals.{Res, got, refused, if◌then◌else◌, refusal, between, bad_axis5, outside6}
+use Rattle.paper.specs.Refusals.{Res, got, refused, refusal, between, bad_axis5, outside6}
 use Rattle.paper.specs.Numbers.{part, distance}
 use Rattle.paper.specs.Axes.{cells, inside, ordinality, place_of, Shape, Array}
 use Rattle.paper.specs.Cells.{cell_of}

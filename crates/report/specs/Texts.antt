@@ -1,6 +1,6 @@
 -- The text is the paper's. A page's tests look at the lengths of the work area and the row buffer alone; a row buffer for every cell
 -- holds the rows of all TRUE cells from the first on; and the lines of these rows are the paper's.
-use Rattle.std.specs.Prelude.{ℕ, suc, ◌+◌, ◌*◌, ◌/◌, ◌≤◌, ◌<◌, ◌≡◌, Bool, true, false, ◌||◌, leb, ltb, length, take, drop, replicate}
+use Rattle.std.specs.Prelude.{ℕ, suc, ◌+◌, ◌*◌, ◌/◌, ◌≤◌, ◌<◌, ◌≡◌, Bool, true, false, ◌||◌, leb, ltb, length, take, drop, replicate, if◌then◌else◌}
 use Rattle.std.proofs.Math.Path.{refl, sym, ap, ap₂}
 use Rattle.std.proofs.Common.{subst, ◌∙◌, arith, div-lt_iff_lt-mul, length-append, take_all, take_at}
 use mathlib.Core.List.{List, [], ◌∷◌, ◌++◌}
@@ -12,7 +12,7 @@ use Rattle.paper.specs.declared.Refusal.{Refusal}
 use Rattle.paper.specs.declared.PageAnswer.{PageAnswer}
 use Rattle.paper.specs.declared.PageAnswer.TheVariants as Page
 use Rattle.paper.specs.Limits.{most_axes, most_cells}
-use Rattle.paper.specs.Refusals.{Res, got, refused, ◌>>=◌, if◌then◌else◌}
+use Rattle.paper.specs.Refusals.{Res, got, refused, ◌>>=◌}
 use Rattle.paper.specs.Numbers.{text, over, last_of}
 use Rattle.paper.specs.Axes.{cells, Shape, Array}
 use Rattle.paper.specs.Cells.{is_true, trues}

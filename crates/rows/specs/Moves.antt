@@ -1,11 +1,10 @@
 -- The runs and lines of each move, read off where its cells come from: found in an extent, the same cell, a layer of each block, or two
 -- arrays' blocks in turn.
-use Rattle.std.specs.Prelude.{ℕ, ◌+◌, ◌-◌, ◌*◌, ◌/◌, ◌%◌, ◌≤◌, ◌<◌, ◌≡◌, refl, Bool, true, false, List, ltb}
+use Rattle.std.specs.Prelude.{ℕ, ◌+◌, ◌-◌, ◌*◌, ◌/◌, ◌%◌, ◌≤◌, ◌<◌, ◌≡◌, refl, Bool, true, false, List, ltb, if◌then◌else◌}
 use Rattle.std.proofs.Common.{sym, ap, ap₂, ◌∙◌, mod-lt, one-mul, le-div_iff_mul-le, add-mul, div-add-mod', arith, ltb-true, ltb-false, lt-ltb, le-ltb}
 use Rattle.std.proofs.Math.Nat.{add-mul-div_right, add-mul-mod_self_right}
 use Rattle.std.proofs.Math.Arith.{digits_div, digits_mod}
 use Rattle.paper.specs.declared.Axis.{Axis}
-use Rattle.paper.specs.Refusals.{if◌then◌else◌}
 use Rattle.paper.specs.Axes.{cells, at_offset}
 use Rattle.laws.specs.Glue.{turn, in_turn}
 use Rattle.origin.specs.declared.Origin.{Origin}

@@ -1,12 +1,11 @@
 -- Two extents of as many axes. From a cell of one on, cells are found in the other side by side, or all lie outside it, for as long as the
 -- position on the last axis where the two differ stays on one side. And whole lines are found as many cells later, line after line.
-use Rattle.std.specs.Prelude.{ℕ, ◌+◌, ◌-◌, ◌*◌, ◌/◌, ◌%◌, ◌≤◌, ◌<◌, ◌≡◌, Bool, true, false, ◌&&◌, List, [], ◌∷◌, ◌++◌, length}
+use Rattle.std.specs.Prelude.{ℕ, ◌+◌, ◌-◌, ◌*◌, ◌/◌, ◌%◌, ◌≤◌, ◌<◌, ◌≡◌, Bool, true, false, ◌&&◌, List, [], ◌∷◌, ◌++◌, length, if◌then◌else◌}
 use Rattle.std.proofs.Math.Path.{refl, ap₂}
 use Rattle.std.proofs.Common.{sym, ap, ◌∙◌, mod-lt, div-add-mod', add-mul, mul-le-mul_right, div-lt_iff_lt-mul, one-mul, arith}
 use Rattle.std.proofs.Math.Arith.{digits_lt, digits_div, digits_mod, mod-mul}
 use Rattle.paper.specs.declared.Axis.{Axis}
 use Rattle.paper.specs.Numbers.{alike}
-use Rattle.paper.specs.Refusals.{if◌then◌else◌}
 use Rattle.paper.specs.Axes.{width, cells, on_axis, offset, at_offset}
 use Rattle.laws.specs.Places.{left-pos, right-pos, on_axis-true, true-on_axis, true-inside, at_offset-inside, offset-at_offset, inside-length}
 use Rattle.laws.specs.Alike.{SameLimits, alike-inside, cells-alike, offset-alike}

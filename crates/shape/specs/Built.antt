@@ -1,6 +1,6 @@
 -- An extent built axis by axis: with each axis it has one more, and nothing past the last. With an axis left out it is the paper's
 -- `without`.
-use Rattle.std.specs.Prelude.{ℕ, suc, ◌+◌, ◌-◌, ◌≤◌, ◌<◌, ◌≡◌, refl, Bool, true, false, List, [], ◌∷◌, ◌++◌, eqb, leb, length, get_or, take, drop, set, replicate}
+use Rattle.std.specs.Prelude.{ℕ, suc, ◌+◌, ◌-◌, ◌≤◌, ◌<◌, ◌≡◌, refl, Bool, true, false, List, [], ◌∷◌, ◌++◌, eqb, leb, length, get_or, take, drop, set, replicate, if◌then◌else◌}
 use Rattle.std.proofs.Common.{sym, ap, ap₂, ◌∙◌, append_assoc, append-nil, add-one, arith, leb-true, leb-false, eqb-true, length-append, length-take, length-drop, drop_of_length-le, take-suc, take_all}
 use Rattle.std.proofs.lemmas.Bool.{eqb-false}
 use Rattle.std.proofs.Math.Seq.{take-nil, drop-nil}
@@ -8,7 +8,6 @@ use Rattle.std.proofs.lemmas.List.{set_at, take-append-le, drop-append-le}
 use Rattle.paper.specs.declared.Axis.{Axis}
 use Rattle.paper.specs.declared.Extent.{Extent}
 use Rattle.paper.specs.Limits.{most_axes}
-use Rattle.paper.specs.Refusals.{if◌then◌else◌}
 use Rattle.paper.specs.Axes.{no_axis, without}
 use Rattle.paper.specs.Answers.{extent_of}
 

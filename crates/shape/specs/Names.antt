@@ -1,12 +1,11 @@
 -- Names in an array with room for the most: the first of them without the one of an index, and those of a detail, each by a loop that has
 -- come so far.
-use Rattle.std.specs.Prelude.{ℕ, suc, ◌+◌, ◌*◌, ◌≤◌, ◌<◌, ◌≡◌, refl, Bool, true, false, List, [], ◌∷◌, ◌++◌, eqb, length, get_or, take, drop, set}
+use Rattle.std.specs.Prelude.{ℕ, suc, ◌+◌, ◌*◌, ◌≤◌, ◌<◌, ◌≡◌, refl, Bool, true, false, List, [], ◌∷◌, ◌++◌, eqb, length, get_or, take, drop, set, if◌then◌else◌}
 use Rattle.std.proofs.Common.{sym, ap, ap₂, ◌∙◌, append_assoc, mul-le-mul_right, arith, eqb-true, length-append, length-take, length-set, drop_of_length-le, take_at, take_all, length-take-le, drop-drop}
 use Rattle.std.proofs.lemmas.Bool.{eqb-false}
 use Rattle.std.proofs.lemmas.List.{set_split}
 use Rattle.paper.specs.declared.Name.{Name}
 use Rattle.paper.specs.Limits.{most_axes, half_name}
-use Rattle.paper.specs.Refusals.{if◌then◌else◌}
 use Rattle.paper.specs.Numbers.{le_of, part}
 use Rattle.paper.specs.Axes.{no_name, without}
 use Rattle.paper.specs.Bundle.{name_from}

@@ -1,8 +1,7 @@
 // New names from old: without that of an axis removed, or those of a step's detail.
-ghost use Rattle.std.specs.Prelude.{◌≡◌, List, [], ◌+◌, ◌*◌, ◌≤◌, length, take, drop};
+ghost use Rattle.std.specs.Prelude.{◌≡◌, List, [], ◌+◌, ◌*◌, ◌≤◌, length, take, drop, if◌then◌else◌};
 ghost use Rattle.paper.specs.declared.Name.{Name};
 ghost use Rattle.paper.specs.Limits.{most_axes, half_name, sizes_of};
-ghost use Rattle.paper.specs.Refusals.{if◌then◌else◌};
 ghost use Rattle.paper.specs.Numbers.{part};
 ghost use Rattle.paper.specs.Axes.{without};
 ghost use Rattle.paper.specs.Bundle.{name_from};

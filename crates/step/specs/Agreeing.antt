@@ -1,7 +1,7 @@
 -- Two arrays compared, by their extents and the names that stand beside these: the paper's `agree`, by what the code compares, axis by
 -- axis from the first on.
 use Prim.Native.Nat.{ℕ, zero, suc, ◌+◌, ◌-◌, ◌*◌, ◌≤◌, ◌<◌}
-use Rattle.std.specs.Prelude.{◌≡◌, refl, Bool, true, false, not, List, [], ◌∷◌, ◌++◌, eqb, ltb, get_or, take, drop}
+use Rattle.std.specs.Prelude.{◌≡◌, refl, Bool, true, false, not, List, [], ◌∷◌, ◌++◌, eqb, ltb, get_or, take, drop, if◌then◌else◌}
 use Rattle.std.proofs.Math.Path.{sym}
 use Rattle.std.proofs.Common.{ap, ap₂, ◌∙◌, arith, eq-eqb, ne_eqb, lt-ltb, le-ltb, length-take-le}
 use Rattle.std.proofs.Math.Numerals.{add-one}
@@ -11,7 +11,6 @@ use Rattle.paper.specs.declared.Axis.{Axis}
 use Rattle.paper.specs.declared.AxisIndex.{AxisIndex}
 use Rattle.paper.specs.declared.Extent.{Extent}
 use Rattle.paper.specs.declared.Operation.{Operation}
-use Rattle.paper.specs.Refusals.{if◌then◌else◌}
 use Rattle.paper.specs.Numbers.{from}
 use Rattle.paper.specs.Axes.{no_name, without}
 use Rattle.paper.specs.Recipe.{axis_differs, in_step, first_difference, indices, agree}

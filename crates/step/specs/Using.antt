@@ -1,6 +1,6 @@
 -- The paper's column "Uses" as four figures: operand B, the axis index, a scalar, and the byte from which on the detail is unused.
 use Prim.Native.Nat.{ℕ, suc, ◌+◌, ◌-◌, ◌*◌, ◌≤◌, ◌<◌}
-use Rattle.std.specs.Prelude.{◌≡◌, refl, Bool, true, false, not, ◌&&◌, ◌||◌, List, [], ◌∷◌, ◌++◌, eqb, drop, get_or}
+use Rattle.std.specs.Prelude.{◌≡◌, refl, Bool, true, false, not, ◌&&◌, ◌||◌, List, [], ◌∷◌, ◌++◌, eqb, drop, get_or, if◌then◌else◌}
 use Rattle.std.proofs.Math.Path.{sym}
 use Rattle.std.proofs.Common.{ap, ◌∙◌, mul_comm, mul-le-mul_right, le_trans, le_of_eq, eqb-true, eq-eqb, ne_eqb, length-drop, length-take, drop-drop, take-add, take_all}
 use native.Mathlib.Omega.{arith}
@@ -14,7 +14,7 @@ use Rattle.paper.specs.declared.Operation.TheVariants.{Moves, Works}
 use Rattle.paper.specs.declared.Move.TheVariants.{Trim, Slice, Reshape, Shift, Rename, Update, Put, Glue}
 use Rattle.paper.specs.declared.Work.TheVariants.{Pair, Scalar, Single}
 use Rattle.paper.specs.Limits.{pair_bytes, limit_bytes, word_bytes, scalar_at}
-use Rattle.paper.specs.Refusals.{if◌then◌else◌, between}
+use Rattle.paper.specs.Refusals.{between}
 use Rattle.paper.specs.Numbers.{le_of, part, zeros}
 use Rattle.paper.specs.Recipe.{Step, uses, unused_zero, axis_in}
 use Rattle.positions.specs.Runs.{part-part}

@@ -1,6 +1,6 @@
 -- Cells of two sides in turn: from a cell to the end of its side's turn, as bytes of that side's buffer. That is the paper's stretch, by
 -- the cells of a block of each side, and it lies in the buffer.
-use Rattle.std.specs.Prelude.{ℕ, ◌+◌, ◌-◌, ◌*◌, ◌%◌, ◌≤◌, ◌<◌, ◌≡◌, refl, Bool, List, take}
+use Rattle.std.specs.Prelude.{ℕ, ◌+◌, ◌-◌, ◌*◌, ◌%◌, ◌≤◌, ◌<◌, ◌≡◌, refl, Bool, List, take, if◌then◌else◌}
 use Rattle.std.proofs.Common.{ap, ap₂, suc-mul, mul-add, mul-le-mul_right, mod-lt, div-lt_iff_lt-mul, div-add-mod', arith, ltb-true, ltb-false}
 use Rattle.std.proofs.Math.Bool.{true, false}
 use Rattle.std.proofs.Math.Arith.{digits_mod}
@@ -9,7 +9,6 @@ use Rattle.paper.specs.declared.Axis.{Axis}
 use Rattle.paper.specs.declared.Part.{Part}
 use Rattle.paper.specs.declared.Part.TheVariants.{Left, Right}
 use Rattle.paper.specs.Limits.{most_cells, cell_bytes}
-use Rattle.paper.specs.Refusals.{if◌then◌else◌}
 use Rattle.paper.specs.Axes.{cells, ordinality, coordinate}
 use Rattle.paper.specs.Recipe.{glued}
 use Rattle.paper.specs.Values.{in_first, in_second}

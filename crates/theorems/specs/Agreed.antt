@@ -1,7 +1,7 @@
 -- Two arrays agree exactly where paper 01's words on axis count, names and limits are met: request [3] tells more of a refusal 8, and gives
 -- none that was not given. Its figure is 4, or names an axis of A.
 use Prim.Native.Nat.{ℕ, zero, suc, ◌+◌, ◌-◌, ◌*◌, ◌≤◌, ◌<◌}
-use Rattle.std.specs.Prelude.{◌≡◌, Bool, true, false, ◌&&◌, ◌||◌, List, [], ◌∷◌, ◌++◌, ◌⊎◌, eqb, length, take}
+use Rattle.std.specs.Prelude.{◌≡◌, Bool, true, false, ◌&&◌, ◌||◌, List, [], ◌∷◌, ◌++◌, ◌⊎◌, eqb, length, take, if◌then◌else◌}
 use Rattle.std.proofs.Math.Path.{refl, sym, ap}
 use Rattle.std.proofs.Common.{ap₂, ◌∙◌, inl, inr, arith, eqb-true, eq-eqb, ne_eqb}
 use Rattle.std.proofs.Math.Bool.{not}
@@ -14,7 +14,6 @@ use Rattle.paper.specs.declared.Move.TheVariants.{Trim, Slice, Reshape, Shift, R
 use Rattle.paper.specs.declared.Work.TheVariants.{Pair, Scalar, Single}
 use Rattle.paper.specs.declared.Operation.{Operation}
 use Rattle.paper.specs.declared.Operation.TheVariants.{Moves, Works}
-use Rattle.paper.specs.Refusals.{if◌then◌else◌}
 use Rattle.paper.specs.Numbers.{from, alike}
 use Rattle.paper.specs.Axes.{same_name, name_at, axis_at, without}
 use Rattle.paper.specs.Recipe.{as_many, axis_differs, in_step, first_difference, indices, agree}

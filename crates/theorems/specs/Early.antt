@@ -1,10 +1,10 @@
 -- Tests refuse with 1 to 11: reading a bundle, planning a recipe, the tests of a run, of a page and of a stretch.
-use Rattle.std.specs.Prelude.{ℕ, zero, suc, ◌+◌, ◌≡◌, refl, Bool, true, false, List, [], eqb}
+use Rattle.std.specs.Prelude.{ℕ, zero, suc, ◌+◌, ◌≡◌, refl, Bool, true, false, List, [], eqb, if◌then◌else◌}
 use Rattle.std.proofs.Math.Option.{Option, none, some}
 use Rattle.paper.specs.declared.Sizes.{Sizes}
 use Rattle.paper.specs.declared.Refusal.{Refusal}
 use Rattle.paper.specs.Limits.{version1, version2}
-use Rattle.paper.specs.Refusals.{Res, got, refused, ◌>>=◌, if◌then◌else◌, refusal, ensure, ensure_same, present, between, bad_bytes1, differ8, bad_page11}
+use Rattle.paper.specs.Refusals.{Res, got, refused, ◌>>=◌, refusal, ensure, ensure_same, present, between, bad_bytes1, differ8, bad_page11}
 use Rattle.paper.specs.Axes.{Shape}
 use Rattle.paper.specs.Bundle.{version_told, sizes_in, cells_of, array_of, read_array, read_arrays, read_as, read_bundle}
 use Rattle.paper.specs.Recipe.{step_tests, step_result, step_over, plan_step, plan_steps, plan_recipe}

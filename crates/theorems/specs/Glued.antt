@@ -1,7 +1,7 @@
 -- What is handed out is the glued array itself: where the two buffers hold two arrays' cells, the part holds the cells of the array that
 -- gluing would build, one after the other from the ordinality asked for.
 use Prim.Native.Nat.{ℕ, zero, suc, ◌+◌, ◌-◌, ◌*◌, ◌≤◌}
-use Rattle.std.specs.Prelude.{◌≡◌, refl, Bool, List, [], ◌∷◌, length, get_or, take, drop}
+use Rattle.std.specs.Prelude.{◌≡◌, refl, Bool, List, [], ◌∷◌, length, get_or, take, drop, if◌then◌else◌}
 use Rattle.std.proofs.Math.Path.{ap, subst}
 use Rattle.std.proofs.Common.{◌∙◌}
 use Rattle.std.proofs.Math.Bool.{true, false}
@@ -13,7 +13,7 @@ use Rattle.paper.specs.declared.Cell.{Cell}
 use Rattle.paper.specs.declared.Part.{Part}
 use Rattle.paper.specs.declared.Part.TheVariants.{Left, Right}
 use Rattle.paper.specs.Limits.{cell_bytes}
-use Rattle.paper.specs.Refusals.{Res, got, refused, if◌then◌else◌, between, bad_page11, outside6}
+use Rattle.paper.specs.Refusals.{Res, got, refused, between, bad_page11, outside6}
 use Rattle.paper.specs.Numbers.{le_bytes, part, from, concat}
 use Rattle.paper.specs.Axes.{cells, ordinality, coordinate, build, Array}
 use Rattle.paper.specs.Cells.{encode, cells_bytes}

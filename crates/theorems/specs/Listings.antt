@@ -2,7 +2,7 @@
 -- many, and joined they are the rows of the coordinates whose cell is TRUE, once each, in row-major order. TRUE is judged in the values,
 -- one whole array at a time; of a page only its answer and its bytes are looked at.
 use Prim.Native.Nat.{ℕ, zero, suc, ◌+◌, ◌*◌, ◌/◌, ◌≤◌, ◌<◌}
-use Rattle.std.specs.Prelude.{◌≡◌, Bool, eqb, take, drop}
+use Rattle.std.specs.Prelude.{◌≡◌, Bool, eqb, take, drop, if◌then◌else◌}
 use Rattle.std.proofs.Math.Path.{refl, sym, ap, subst}
 use Rattle.std.proofs.Common.{◌∙◌, le-div_iff_mul-le, take_at}
 use Rattle.std.proofs.Math.Bool.{true, false}
@@ -17,7 +17,7 @@ use Rattle.paper.specs.declared.Cell.{Cell}
 use Rattle.paper.specs.declared.Cell.TheVariants.{Empty}
 use Rattle.paper.specs.declared.Listed.{Listed}
 use Rattle.paper.specs.Limits.{BOOLEAN}
-use Rattle.paper.specs.Refusals.{Res, got, refused, if◌then◌else◌}
+use Rattle.paper.specs.Refusals.{Res, got, refused}
 use Rattle.paper.specs.Numbers.{part, last_of, from, concat, over}
 use Rattle.paper.specs.Axes.{cells, inside, offset, ordinality, at_offset, build, Shape, Array, at}
 use Rattle.paper.specs.Cells.{is_truth, is_true, trues}

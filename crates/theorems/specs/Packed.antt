@@ -1,14 +1,14 @@
 -- Demand 2's last sentence, of `pack` and `read_bundle` on buffers, in each version: packing a valid list of arrays and reading the bytes
 -- gives those arrays (`pack-read`); valid bytes read and packed are those bytes (`read-pack`). And whatever packing accepts is read back
 -- (`accepted-read`).
-use Rattle.std.specs.Prelude.{ℕ, ◌≤◌, ◌≡◌, refl, Bool, true, false, List, eqb, length, take, drop}
+use Rattle.std.specs.Prelude.{ℕ, ◌≤◌, ◌≡◌, refl, Bool, true, false, List, eqb, length, take, drop, if◌then◌else◌}
 use Rattle.std.proofs.Common.{sym, ap, subst, ◌∙◌}
 use Rattle.std.proofs.Math.Seq.{take-append_seam}
 use Rattle.paper.specs.declared.Version.{Version}
 use Rattle.paper.specs.declared.Version.TheVariants.{One, Two}
 use Rattle.paper.specs.declared.Sizes.{Sizes}
 use Rattle.paper.specs.Limits.{version1, version2, sizes_of}
-use Rattle.paper.specs.Refusals.{Res, got, refused, ◌>>=◌, if◌then◌else◌, refusal, bad_bytes1}
+use Rattle.paper.specs.Refusals.{Res, got, refused, ◌>>=◌, refusal, bad_bytes1}
 use Rattle.paper.specs.Numbers.{over}
 use Rattle.paper.specs.Axes.{Shape, Array}
 use Rattle.paper.specs.Bundle.{version_told, version_in, sizes_in, read_bundle, bundle_bytes, packed, After, put_into, pack}

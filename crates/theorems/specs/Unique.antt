@@ -1,5 +1,5 @@
 -- Promises fix answers: two answers with the same figures are equal, and so are two readings with nothing past the last array and axis.
-use Rattle.std.specs.Prelude.{◌≡◌, refl, ℕ, eqb}
+use Rattle.std.specs.Prelude.{◌≡◌, refl, ℕ, eqb, if◌then◌else◌}
 use Rattle.std.proofs.Common.{sym, ap, ◌∙◌, ne_eqb}
 use Rattle.paper.specs.declared.Version.{Version}
 use Rattle.paper.specs.declared.Extent.{Extent}
@@ -14,7 +14,7 @@ use Rattle.paper.specs.declared.TotalAnswer.{TotalAnswer}
 use Rattle.paper.specs.declared.PlanAnswer.{PlanAnswer}
 use Rattle.paper.specs.declared.PageAnswer.{PageAnswer}
 use Rattle.paper.specs.declared.StretchAnswer.{StretchAnswer}
-use Rattle.paper.specs.Refusals.{Res, got, refused, if◌then◌else◌}
+use Rattle.paper.specs.Refusals.{Res, got, refused}
 use Rattle.paper.specs.Reference.{Walked}
 use Rattle.paper.specs.Answers.{axes_of, extent_of, read_said, number_said, json_said, json_exact, plan_said, reference_said, seen_said}
 use Rattle.paper.specs.Answers.{walk_said, total_said, page_said, stretch_said}

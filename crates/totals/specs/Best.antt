@@ -1,9 +1,8 @@
 -- The best of the filled cells, the first of equals: the best so far, empty where nothing was filled, and the cells left.
-use Rattle.std.specs.Prelude.{ℕ, ◌+◌, ◌<◌, ◌≡◌, refl, Bool, List, []}
+use Rattle.std.specs.Prelude.{ℕ, ◌+◌, ◌<◌, ◌≡◌, refl, Bool, List, [], if◌then◌else◌}
 use Rattle.std.proofs.Math.Bool.{true, false}
 use Rattle.paper.specs.declared.Cell.{Cell}
 use Rattle.paper.specs.declared.Cell.TheVariants.{Empty, Int, Float, Truth}
-use Rattle.paper.specs.Refusals.{if◌then◌else◌}
 use Rattle.paper.specs.Operators.{empty_cell}
 use Rattle.paper.specs.Totals.{Numbered, below, best, best_of}
 use Rattle.totals.specs.Cells.{one_at, in_front, filled_left, filled_next}

@@ -1,11 +1,10 @@
 -- The cells of an array one after the other, from their bytes: what is filled, and what is TRUE, of the cells left.
-use Rattle.std.specs.Prelude.{ℕ, ◌+◌, ◌*◌, ◌≤◌, ◌<◌, ◌≡◌, refl, Bool, true, false, List, [], ◌∷◌, length, drop}
+use Rattle.std.specs.Prelude.{ℕ, ◌+◌, ◌*◌, ◌≤◌, ◌<◌, ◌≡◌, refl, Bool, true, false, List, [], ◌∷◌, length, drop, if◌then◌else◌}
 use Rattle.std.proofs.Math.Path.{ap}
 use Rattle.std.proofs.Common.{add-one, arith, drop_of_length-le, drop-cons, drop-drop}
 use Rattle.paper.specs.declared.Cell.{Cell}
 use Rattle.paper.specs.declared.Cell.TheVariants.{Empty}
 use Rattle.paper.specs.Limits.{most_cells, cell_bytes}
-use Rattle.paper.specs.Refusals.{if◌then◌else◌}
 use Rattle.paper.specs.Numbers.{part}
 use Rattle.paper.specs.Cells.{cell_of, is_true, trues}
 use Rattle.paper.specs.Operators.{empty_cell}

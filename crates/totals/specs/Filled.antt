@@ -1,11 +1,10 @@
 -- Smallest and largest compare filled cells alone: whatever a comparison with an empty cell gives, they are the same, and so is the first
 -- of equals.
-use Rattle.std.specs.Prelude.{ℕ, ◌+◌, ◌≡◌, Bool, ◌||◌}
+use Rattle.std.specs.Prelude.{ℕ, ◌+◌, ◌≡◌, Bool, ◌||◌, if◌then◌else◌}
 use Rattle.std.proofs.Math.Path.{refl}
 use Rattle.std.proofs.Math.Bool.{true, false}
 use mathlib.Core.List.{List, [], ◌∷◌}
 use Rattle.paper.specs.declared.Cell.{Cell}
-use Rattle.paper.specs.Refusals.{if◌then◌else◌}
 use Rattle.paper.specs.Operators.{empty_cell}
 use Rattle.paper.specs.Totals.{Numbered, filled_from, best, best_of}
 use Rattle.totals.specs.Best.{beats_of}

@@ -1,12 +1,12 @@
 -- The running sums: what one cell more does to the exact total and to the mean, whether it is filled or not, and the sum of all cells.
-use Rattle.std.specs.Prelude.{ℕ, ◌+◌, ◌≤◌, ◌<◌, ◌≡◌, refl, Bool, true, false, List, [], ◌∷◌, ◌++◌, length}
+use Rattle.std.specs.Prelude.{ℕ, ◌+◌, ◌≤◌, ◌<◌, ◌≡◌, refl, Bool, true, false, List, [], ◌∷◌, ◌++◌, length, if◌then◌else◌}
 use Rattle.std.proofs.Common.{sym, ◌∙◌, append-nil, append_assoc, arith, length-append}
 use Rattle.std.proofs.Math.Path.{ap}
 use Rattle.std.specs.Float.Ieee as Ieee
 use Rattle.paper.specs.declared.Cell.{Cell}
 use Rattle.paper.specs.declared.Cell.TheVariants.{Empty}
 use Rattle.paper.specs.Limits.{most_cells}
-use Rattle.paper.specs.Refusals.{Res, got, refused, ◌>>=◌, if◌then◌else◌, refusal, no_fit12}
+use Rattle.paper.specs.Refusals.{Res, got, refused, ◌>>=◌, refusal, no_fit12}
 use Rattle.paper.specs.Operators.{empty_cell}
 use Rattle.paper.specs.declared.Totalled.{Totalled}
 use Rattle.paper.specs.declared.Totalled.TheVariants.{Is}

@@ -1,7 +1,6 @@
 -- `recipe::steps::judge` meets its contract: the operands, the tests, the result.
-use Rattle.std.proofs.Common.{◌≡◌, sym, ap, subst, ◌∙◌, Bool, true, length}
+use Rattle.std.proofs.Common.{◌≡◌, sym, ap, subst, ◌∙◌, Bool, true, length, if◌then◌else◌}
 use borrow.Author.Tests.{not-true, not-false}
-use Rattle.paper.specs.Refusals.{if◌then◌else◌}
 use Rattle.paper.specs.Recipe.{step_tests}
 use Rattle.paper.specs.Answers.{axes_of, unless}
 use Rattle.step.specs.Steps.{step_in}
