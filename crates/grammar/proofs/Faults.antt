@@ -1,15 +1,14 @@
 -- Where the machine has a fault: the bytes before that place can be completed, and with the byte there they cannot, or the text ends there
 -- and is not complete.
-use Rattle.std.specs.Prelude.{ℕ, ◌+◌, ◌≡◌, refl, Bool, true, false, List, [], ◌∷◌, ◌++◌, length, if◌then◌else◌}
+use Rattle.std.specs.Prelude.{ℕ, ◌+◌, ◌≡◌, refl, Bool, true, false, List, [], ◌∷◌, ◌++◌, if◌then◌else◌}
 use Rattle.std.proofs.Common.{sym, ap, ◌∙◌, arith}
 use Rattle.std.proofs.Math.Option.{Option, none, some}
 use Rattle.laws.specs.Tests.{no_none, some_one}
-use Rattle.grammar.specs.Made.{Made}
-use Rattle.paper.specs.Grammar.{Part, among, blank, optional, rules}
-use Rattle.paper.specs.Machine.{given, chosen, settled, move, step, complete, fault_from}
-use Rattle.grammar.specs.Going.{chosen-rule, map-some, step-made}
-use Rattle.grammar.specs.Tables.{no_true, loose, sound, rules-orderly, rule-orderly, orderly-sound}
-use Rattle.grammar.specs.Single.{reads, followed, rest-sound, all_read}
+use Rattle.paper.specs.Grammar.{Part}
+use Rattle.paper.specs.Machine.{given, settled, step, complete, fault_from}
+use Rattle.grammar.specs.Going.{step-made}
+use Rattle.grammar.specs.Tables.{no_true, sound}
+use Rattle.grammar.specs.Single.{all_read}
 use Rattle.grammar.specs.Finish.{finish_all}
 use Rattle.grammar.proofs.Finish.{finished-all}
 use Rattle.grammar.specs.Faults.{settled-sound, move-sound, Broken, none_made, some-made, first-is, no-cons}

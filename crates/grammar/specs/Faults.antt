@@ -1,16 +1,15 @@
 -- Where the machine has a fault: the bytes before that place can be completed, and with the byte there they cannot, or the text ends there
 -- and is not complete.
-use Rattle.std.specs.Prelude.{ℕ, ◌+◌, ◌≡◌, refl, Bool, true, false, List, [], ◌∷◌, ◌++◌, length, if◌then◌else◌}
+use Rattle.std.specs.Prelude.{ℕ, ◌+◌, ◌≡◌, Bool, true, false, List, [], ◌∷◌, ◌++◌, length, if◌then◌else◌}
 use Rattle.std.proofs.Common.{sym, ap, ◌∙◌, arith}
 use Rattle.std.proofs.Math.Option.{Option, none, some}
 use Rattle.laws.specs.Tests.{no_none, some_one}
 use Rattle.grammar.specs.Made.{Made}
 use Rattle.paper.specs.Grammar.{Part, among, blank, optional, rules}
-use Rattle.paper.specs.Machine.{given, chosen, settled, move, step, complete, fault_from}
-use Rattle.grammar.specs.Going.{chosen-rule, map-some, step-made}
-use Rattle.grammar.specs.Tables.{no_true, loose, sound, rules-orderly, rule-orderly, orderly-sound}
-use Rattle.grammar.specs.Single.{reads, followed, rest-sound, all_read}
-use Rattle.grammar.specs.Finish.{finish_all}
+use Rattle.paper.specs.Machine.{given, chosen, settled, move, step}
+use Rattle.grammar.specs.Going.{chosen-rule, map-some}
+use Rattle.grammar.specs.Tables.{loose, sound, rules-orderly, rule-orderly, orderly-sound}
+use Rattle.grammar.specs.Single.{reads, followed, rest-sound}
 
 -- ---- the parts stay in order
 

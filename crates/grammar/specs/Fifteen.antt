@@ -1,7 +1,7 @@
 -- The rule of refusal 15, proved of the machine: it has no fault exactly where the text is one JSON object so nested; and where it has
 -- one, the bytes before that place begin such an object and with the byte there they do not, or the text ends there and is not yet one.
 use Rattle.std.specs.Prelude.{ℕ, ◌+◌, ◌≡◌, refl, true, ◌↔◌, List, [], ◌∷◌, ◌++◌, length}
-use Rattle.std.proofs.Common.{sym, ◌∙◌, append_assoc, arith}
+use Rattle.std.proofs.Common.{sym, ◌∙◌}
 use Rattle.std.proofs.Math.Option.{Option, none, some}
 use Rattle.paper.specs.Grammar.{start, levels_inside}
 use Rattle.paper.specs.Rfc.{JsonObject, Begins}

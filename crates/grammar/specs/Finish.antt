@@ -1,14 +1,13 @@
 -- Whatever is to come can be brought to an end: a shortest text for each part.
-use Rattle.std.specs.Prelude.{ℕ, ◌≡◌, refl, true, not, ◌&&◌, ◌||◌, List, [], ◌∷◌, ◌++◌, leb}
+use Rattle.std.specs.Prelude.{ℕ, ◌≡◌, refl, true, List, [], ◌∷◌, ◌++◌, leb}
 use Rattle.std.proofs.Common.{arith, le-leb}
 use Rattle.paper.specs.Numbers.{text}
-use Rattle.laws.specs.Tests.{and_left, and_right}
-use Rattle.grammar.specs.Made.{here, there, Made, nothing, without, by}
+use Rattle.grammar.specs.Made.{here, there, Made, without, by}
 use Rattle.paper.specs.Grammar.{Bytes, Part, among, ends, optional, rules}
 use Rattle.paper.specs.Grammar.{one, chars, escape, number, colon, at, unsigned, after_zero, after_digit, after_fraction, after_e}
 use Rattle.paper.specs.Grammar.{after_exponent}
 use Rattle.paper.specs.Grammar.{value, items, more_items, object, members, member, more_members}
-use Rattle.grammar.specs.Tables.{no_true, loose, leads, full, sound}
+use Rattle.grammar.specs.Tables.{no_true, full}
 
 -- a text for a part
 unfoldable pub finish : Part → List ℕ

@@ -80,7 +80,7 @@ module _ (t n : ℕ) (gs : List Part) (c : ℕ) (bs : List ℕ) (s : Stops c) wh
   plain-gives : (i : ℕ) (ds : List ℕ) (x : Cell) → Number ds → fits t cell (ds ++ (c ∷ bs)) ≡ some (x ∷ [])
       → Gives t i (at value n ∷ at more_items n ∷ gs) (ds ++ (c ∷ bs)) (at more_items n ∷ gs) (c ∷ bs) (cell ∷ []) (x ∷ [])
   unfolding settled optional move rules chosen among token_of outer
-  plain-gives i [] x x4 f = elim x4 [ ]
+  plain-gives i [] x s f = elim s [ ]
   plain-gives i (b ∷ ds) x nought f =
       let g =
       token-step t i (at value n ∷ at more_items n ∷ gs) 48 (c ∷ bs) (number after_zero ∷ at more_items n ∷ gs) cell
@@ -97,7 +97,7 @@ module _ (t n : ℕ) (gs : List Part) (c : ℕ) (bs : List ℕ) (s : Stops c) wh
   unsigned-quiet : (i : ℕ) (ds : List ℕ) → Number ds
       → Quiet i (number unsigned ∷ at more_items n ∷ gs) (ds ++ (c ∷ bs)) (at more_items n ∷ gs) (c ∷ bs)
   unfolding settled optional ends move rules chosen among token_of
-  unsigned-quiet i [] x' = elim x' [ ]
+  unsigned-quiet i [] n = elim n [ ]
   unsigned-quiet i (b ∷ ds) nought =
       let g = quiet_step i (number unsigned ∷ at more_items n ∷ gs) 48 (c ∷ bs) (number after_zero ∷ at more_items n ∷ gs) refl refl in
       quiet-quiet g (zero-ends g.place n gs c bs s)

@@ -68,7 +68,7 @@ run_more (b ∷ ds) d (next h k r) p q = next h k (run_more ds d r p q)
 
 number-on : (ds : List ℕ) (d : ℕ) → Number ds → 0 < number_of 0 ds → 48 ≤ d → d ≤ 57 → Number (ds ++ (d ∷ []))
 unfolding number_of
-number-on [] d x4 h p q = elim x4 [ ]
+number-on [] d n h p q = elim n [ ]
 number-on (b ∷ []) d nought h p q = absurd (omega arith)
 number-on (b ∷ ds) d (other l g r) h p q = other l g (run_more ds d r p q)
 
@@ -123,7 +123,7 @@ run-natural b ds c bs r s =
     rw (run_of (b ∷ ds) c bs r s, eqb-suc-zero (length ds), at-end (b ∷ ds) c bs, whole c s)
 
 number-run : (ds : List ℕ) → Number ds → Run ds
-number-run [] x' = elim x' [ ]
+number-run [] n = elim n [ ]
 number-run (b ∷ ds) nought = next {b = 48} (omega arith) (omega arith) end
 number-run (b ∷ ds) (other p q r) = let l : 48 ≤ b = omega arith in next l q r
 

@@ -1,35 +1,31 @@
 -- "Writing and then reading with the same type and extent gives the same cells": of cells, of valid arrays, and of whatever is written of
 -- a bundle; and what a refusal leaves.
-use Rattle.std.specs.Prelude.{ℕ, ◌*◌, ◌≤◌, ◌≡◌, refl, true, false, not, eqb, leb, length}
+use Rattle.std.specs.Prelude.{ℕ, ◌*◌, ◌≤◌, ◌≡◌, refl, true, false, eqb, length}
 use Rattle.std.proofs.Common.{sym, ◌∙◌, arith, le-leb}
 use Rattle.std.proofs.Math.Path.{ap}
 use mathlib.Core.List.{List, [], ◌∷◌, ◌++◌, append-nil}
 use Rattle.std.proofs.Math.Option.{none, some}
-use Rattle.std.proofs.lemmas.Bool.{not-true}
 use Rattle.paper.specs.declared.Version.{Version}
 use Rattle.paper.specs.declared.Name.{Name}
 use Rattle.paper.specs.declared.Axis.{Axis}
 use Rattle.paper.specs.declared.Cell.{Cell}
 use Rattle.paper.specs.declared.Refusal.{Refusal}
 use Rattle.paper.specs.Limits.{FLOAT, cell_bytes, sizes_of}
-use Rattle.paper.specs.Refusals.{Res, got, refused, between, unfit7, small_output14}
+use Rattle.paper.specs.Refusals.{Res, got, refused, between}
 use Rattle.paper.specs.Numbers.{text, alike}
-use Rattle.paper.specs.Axes.{cells, good_extent, Array}
+use Rattle.paper.specs.Axes.{cells, good_extent}
 use Rattle.paper.specs.Cells.{is_type}
-use Rattle.paper.specs.Bundle.{version_told, version_in, sizes_in, names_fit}
-use Rattle.paper.specs.Reference.{chosen}
+use Rattle.paper.specs.Bundle.{version_told, names_fit}
 use Rattle.paper.specs.Grammar.{Part, among, optional, rules, start, at, value, more_members, levels_inside}
 use Rattle.paper.specs.Machine as Machine
 use Rattle.paper.specs.Machine.{settled, move, fault_from, fault}
-use Rattle.paper.specs.Json.{brackets, json_text, written}
+use Rattle.paper.specs.Json.{brackets, json_text}
 use Rattle.paper.specs.JsonRead.{Token, outer, token_of, tokens_from, spells, data_in, data_of, due, fitted, cells_as, cells_in, fill_with}
 use Rattle.paper.specs.JsonRead.{read_json}
-use Rattle.laws.specs.Numbers.{Bytes}
-use Rattle.laws.specs.Tests.{between-true, bind-got, ensure-got, got-one, none-refused}
+use Rattle.laws.specs.Tests.{between-true, none-refused}
 use Rattle.laws.specs.Limits.{extent-true}
 use Rattle.laws.specs.Sizes.{fits}
-use Rattle.roundtrip.specs.Valid.{EachOfKind, Valid}
-use Rattle.json_write.specs.Whole.{chosen-valid}
+use Rattle.roundtrip.specs.Valid.{EachOfKind}
 use Rattle.json_trip.specs.Steps.{Gives}
 use Rattle.json_trip.specs.Rows.{brackets-give}
 

@@ -53,7 +53,7 @@ solid-commas w [] s = s
 solid-commas w (v ∷ ws) s = solid-more (44 ∷ commas (v ∷ ws)) s
 
 solid-item : (i n : ℕ) (gs : List Part) (w : List ℕ) → Solid w → Quiet i (at items n ∷ gs) w (at value n ∷ at more_items n ∷ gs) w
-solid-item i n gs [] x' = elim x' [ ]
+solid-item i n gs [] m = elim m [ ]
 solid-item i n gs (b ∷ bs) (solid e f) = item-first i n gs b bs e f
 
 -- ---- an array of items that give cells each, whatever the items are

@@ -1,6 +1,6 @@
 -- Packing, a stretch and reading JSON by heads, in the version told: the forms of the heads are the shapes that the version's sizes say.
-use Rattle.std.specs.Prelude.{ℕ, ◌≡◌, refl, List, length}
-use Rattle.std.proofs.Common.{sym, ap, ◌∙◌}
+use Rattle.std.specs.Prelude.{ℕ, ◌≡◌, List, length}
+use Rattle.std.proofs.Common.{ap, ◌∙◌}
 use Rattle.paper.specs.declared.Version.{Version}
 use Rattle.paper.specs.declared.Sizes.{Sizes}
 use Rattle.paper.specs.declared.Cell.{Cell}

@@ -1,5 +1,5 @@
 -- What is told before anything is run: the figures of a plan, and the head of the last result, which the plan's last operand has.
-use Rattle.std.specs.Prelude.{ℕ, ◌-◌, ◌*◌, ◌≤◌, ◌<◌, ◌≡◌, List, leb, length, drop, replicate}
+use Rattle.std.specs.Prelude.{ℕ, ◌-◌, ◌≤◌, ◌<◌, ◌≡◌, List, leb, length, drop, replicate}
 use Rattle.std.proofs.Math.Path.{refl, sym}
 use Rattle.std.proofs.Common.{ap, ◌∙◌, mul-le-mul_right, arith, length-append, length-drop}
 use borrow.Author.Tests.{le-leb, lt-leb}

@@ -13,7 +13,7 @@ use Rattle.paper.specs.declared.Cell.TheVariants.{Empty}
 use Rattle.paper.specs.declared.Head.{Head}
 use Rattle.paper.specs.declared.Reading.{Reading}
 use Rattle.paper.specs.declared.Refusal.{Refusal}
-use Rattle.paper.specs.Limits.{most_arrays, cell_bytes, limit_bytes, BOOLEAN, sizes_of}
+use Rattle.paper.specs.Limits.{most_arrays, cell_bytes, limit_bytes, BOOLEAN}
 use Rattle.paper.specs.Refusals.{got, refused, refusal, between, unfit7, small_work10, bad_page11}
 use Rattle.paper.specs.Numbers.{last_of}
 use Rattle.paper.specs.Axes.{cells, Array}

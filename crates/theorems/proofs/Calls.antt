@@ -4,7 +4,7 @@ use Prim.Native.Nat.{ℕ, zero, suc, ◌+◌, ◌^◌, ◌≤◌, ◌<◌}
 use Rattle.std.specs.Prelude.{◌≡◌, List, map, length}
 use Rattle.std.proofs.Math.Path.{refl, ap}
 use Rattle.std.proofs.Common.{◌∙◌, arith}
-use Rattle.std.proofs.Math.Option.{Option, none, some}
+use Rattle.std.proofs.Math.Option.{Option, some}
 use Rattle.paper.specs.declared.Listed.{Listed}
 use Rattle.paper.specs.declared.PageAnswer.{PageAnswer}
 use Rattle.paper.specs.Limits.{BOOLEAN}
@@ -14,9 +14,9 @@ use Rattle.paper.specs.Axes.{cells, Shape, Array}
 use Rattle.paper.specs.Recipe.{Planned}
 use Rattle.paper.specs.Values.{values, no_array}
 use Rattle.paper.specs.Answers.{page_said}
-use Rattle.paper.specs.Listing.{planned, bytes_of_all, last_shape, row_bytes, Paged, page}
+use Rattle.paper.specs.Listing.{planned, bytes_of_all, last_shape, row_bytes, Paged}
 use Rattle.laws.specs.Rows.{row_of}
-use Rattle.theorems.specs.Made.{PageCall, Pages, rows_left, pages}
+use Rattle.theorems.specs.Made.{PageCall, rows_left, pages}
 use Rattle.theorems.specs.Listings.{true_coordinates, page_then, pages_from}
 use Rattle.theorems.proofs.Listings.{demand-3}
 use Rattle.paper.specs.declared.PageAnswer.TheVariants as Page

@@ -8,22 +8,21 @@ use Rattle.std.proofs.Common.{◌∙◌, le-div_iff_mul-le, take_at}
 use Rattle.std.proofs.Math.Bool.{true, false}
 use mathlib.Core.List.{List, [], ◌∷◌, ◌++◌, map, append-nil}
 use Rattle.std.proofs.Math.Option
-use Rattle.std.proofs.Math.Option.{Option, none, some}
+use Rattle.std.proofs.Math.Option.{Option, some}
 use native.Mathlib.Omega.{arith}
 use borrow.Author.Tests.{eqb-true, eqb-false, eq-eqb, le-leb}
 use Rattle.std.proofs.Math.ListN.{length, get_or}
 use Rattle.paper.specs.declared.Axis.{Axis}
 use Rattle.paper.specs.declared.Cell.{Cell}
 use Rattle.paper.specs.declared.Cell.TheVariants.{Empty}
-use Rattle.paper.specs.declared.Listed.{Listed}
 use Rattle.paper.specs.Limits.{BOOLEAN}
-use Rattle.paper.specs.Refusals.{Res, got, refused}
+use Rattle.paper.specs.Refusals.{got}
 use Rattle.paper.specs.Numbers.{part, last_of, from, concat, over}
 use Rattle.paper.specs.Axes.{cells, inside, offset, ordinality, at_offset, build, Shape, Array, at}
 use Rattle.paper.specs.Cells.{is_truth, is_true, trues}
 use Rattle.paper.specs.Recipe.{Planned}
 use Rattle.paper.specs.Values.{values, no_array}
-use Rattle.paper.specs.Listing.{planned, bytes_of_all, result_bytes, work_after, last_shape, row_bytes, row, listed, go_on, Paged, list_tests, page_tests, page_of, page_values, page_after, page}
+use Rattle.paper.specs.Listing.{planned, bytes_of_all, result_bytes, work_after, last_shape, row_bytes, row, listed, go_on, list_tests, page_tests, page_of, page_values, page_after, page}
 use Rattle.laws.specs.Places.{inside-true, offset-lt, at_offset-offset, offset-at_offset, at_offset-inside, get_or-build, coordinates, length-coordinates}
 use Rattle.laws.specs.Limits.{limits-true, cells-pos}
 use Rattle.laws.specs.Arrays.{at-inside, at-outside}

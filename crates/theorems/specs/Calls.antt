@@ -1,23 +1,13 @@
 -- Demand 3 of the page call as it is written: calls of `run::page`, each starting where the last said, joined until the end is named, are
 -- the rows of the coordinates whose cell is TRUE in the last result, once each, in row-major order. It leans on the call's own contract.
-use Prim.Native.Nat.{ℕ, zero, suc, ◌+◌, ◌^◌, ◌≤◌, ◌<◌}
-use Rattle.std.specs.Prelude.{◌≡◌, List, map, length}
-use Rattle.std.proofs.Math.Path.{refl, ap}
-use Rattle.std.proofs.Common.{◌∙◌, arith}
-use Rattle.std.proofs.Math.Option.{Option, none, some}
+use Prim.Native.Nat.{ℕ, zero, suc, ◌+◌, ◌^◌, ◌<◌}
+use Rattle.std.specs.Prelude.{◌≡◌, List}
+use Rattle.std.proofs.Math.Option.{Option, none}
 use Rattle.paper.specs.declared.Listed.{Listed}
-use Rattle.paper.specs.declared.PageAnswer.{PageAnswer}
-use Rattle.paper.specs.Limits.{BOOLEAN}
-use Rattle.paper.specs.Refusals.{got}
-use Rattle.paper.specs.Numbers.{last_of, concat}
-use Rattle.paper.specs.Axes.{cells, Shape, Array}
-use Rattle.paper.specs.Recipe.{Planned}
-use Rattle.paper.specs.Values.{values, no_array}
+use Rattle.paper.specs.Axes.{Shape}
 use Rattle.paper.specs.Answers.{page_said}
-use Rattle.paper.specs.Listing.{planned, bytes_of_all, last_shape, row_bytes, Paged, page}
-use Rattle.laws.specs.Rows.{row_of}
-use Rattle.theorems.specs.Made.{PageCall, Pages, rows_left, pages}
-use Rattle.theorems.specs.Listings.{true_coordinates, page_then, pages_from}
+use Rattle.theorems.specs.Made.{PageCall, Pages, rows_left}
+use Rattle.theorems.specs.Listings.{page_then}
 use Rattle.paper.specs.declared.PageAnswer.TheVariants as Page
 
 -- call i from `start` on is a page call over work area `area i` and row buffer `buffer i`; the start and where to go on are 32-bit numbers

@@ -1,36 +1,18 @@
 -- Demand 3: the pages of an accepted listing from ordinality 1, each starting where the last said, until the end is named, are finitely
 -- many, and joined they are the rows of the coordinates whose cell is TRUE, once each, in row-major order. TRUE is judged in the values,
 -- one whole array at a time; of a page only its answer and its bytes are looked at.
-use Prim.Native.Nat.{ℕ, zero, suc, ◌+◌, ◌*◌, ◌/◌, ◌≤◌, ◌<◌}
-use Rattle.std.specs.Prelude.{◌≡◌, Bool, eqb, take, drop, if◌then◌else◌}
-use Rattle.std.proofs.Math.Path.{refl, sym, ap, subst}
-use Rattle.std.proofs.Common.{◌∙◌, le-div_iff_mul-le, take_at}
-use Rattle.std.proofs.Math.Bool.{true, false}
-use mathlib.Core.List.{List, [], ◌∷◌, ◌++◌, map, append-nil}
+use Prim.Native.Nat.{ℕ, zero, suc, ◌+◌, ◌*◌}
+use Rattle.std.specs.Prelude.{eqb, take, if◌then◌else◌}
+use mathlib.Core.List.{List, ◌++◌}
 use Rattle.std.proofs.Math.Option
 use Rattle.std.proofs.Math.Option.{Option, none, some}
-use native.Mathlib.Omega.{arith}
-use borrow.Author.Tests.{eqb-true, eqb-false, eq-eqb, le-leb}
-use Rattle.std.proofs.Math.ListN.{length, get_or}
-use Rattle.paper.specs.declared.Axis.{Axis}
-use Rattle.paper.specs.declared.Cell.{Cell}
-use Rattle.paper.specs.declared.Cell.TheVariants.{Empty}
 use Rattle.paper.specs.declared.Listed.{Listed}
-use Rattle.paper.specs.Limits.{BOOLEAN}
 use Rattle.paper.specs.Refusals.{Res, got, refused}
-use Rattle.paper.specs.Numbers.{part, last_of, from, concat, over}
-use Rattle.paper.specs.Axes.{cells, inside, offset, ordinality, at_offset, build, Shape, Array, at}
-use Rattle.paper.specs.Cells.{is_truth, is_true, trues}
-use Rattle.paper.specs.Recipe.{Planned}
-use Rattle.paper.specs.Values.{values, no_array}
-use Rattle.paper.specs.Listing.{planned, bytes_of_all, result_bytes, work_after, last_shape, row_bytes, row, listed, go_on, Paged, list_tests, page_tests, page_of, page_values, page_after, page}
-use Rattle.laws.specs.Places.{inside-true, offset-lt, at_offset-offset, offset-at_offset, at_offset-inside, get_or-build, coordinates, length-coordinates}
-use Rattle.laws.specs.Limits.{limits-true, cells-pos}
-use Rattle.laws.specs.Arrays.{at-inside, at-outside}
-use Rattle.laws.specs.Kept.{keep, Has, Rising, keep_all, keep-only, keep-rising, rising-once}
-use Rattle.laws.specs.Rows.{row_of, rows_of, concat-length, concat-at, concat-map, length-row_of, length-rows, row_at}
-use Rattle.laws.specs.Pages.{onward, past, Turned, one-page}
-use Rattle.laws.specs.Results.{Full, AsPlanned, planned-good, values-full, last-shape, last-whole, extent-good}
+use Rattle.paper.specs.Axes.{cells, Shape, Array, at}
+use Rattle.paper.specs.Cells.{is_true}
+use Rattle.paper.specs.Listing.{row_bytes, Paged, page}
+use Rattle.laws.specs.Places.{coordinates}
+use Rattle.laws.specs.Kept.{keep}
 
 -- ---- what is asked
 

@@ -1,11 +1,11 @@
 -- The run's setting: a bundle that was read and a recipe that was planned. What an operand's number names in it is the paper's array,
 -- whose cells lie where the plan says; so each step is ready in its turn.
-use Rattle.std.specs.Prelude.{◌≡◌, ℕ, zero, suc, ◌+◌, ◌-◌, ◌*◌, ◌^◌, ◌<◌, ◌≤◌, Bool, true, false, ◌||◌, leb, List, [], ◌∷◌, map, length, get_or, take, drop, ◌==◌, nat_le, slice_index_or, if◌then◌else◌}
+use Rattle.std.specs.Prelude.{◌≡◌, ℕ, zero, suc, ◌+◌, ◌-◌, ◌*◌, ◌^◌, ◌<◌, ◌≤◌, Bool, true, false, ◌||◌, leb, List, [], ◌∷◌, map, length, get_or, take, drop, ◌==◌, nat_le, slice_index_or}
 use Rattle.std.proofs.Math.Path.{refl, sym, ap}
 use Rattle.std.proofs.Common.{◌∙◌, arith, length-take, length-drop, get_or-take, take-take, length-take-le}
 use Rattle.std.proofs.Math.Option
 use Rattle.std.proofs.Math.Option.{Option, none, some}
-use borrow.Author.Tests.{leb-true, eqb-true}
+use borrow.Author.Tests.{eqb-true}
 use Rattle.std.proofs.Math.ListN.{length-map}
 use Rattle.paper.specs.declared.Head.{Head}
 use Rattle.paper.specs.Limits.{most_arrays, most_steps, steps_from, cell_bytes, scalar_at, word_bytes}

@@ -1,5 +1,5 @@
 -- `report::put_listing` meets its contract: the first line, then the rows' lines.
-use Rattle.std.proofs.Common.{rules, arith}
+use Rattle.std.proofs.Common.{arith}
 use Rattle.decimal.specs.Wrote.{wrote_then}
 use Rattle.decimal.specs.Lines.{found_line}
 use Rattle.report.specs.Rows.{lines_at, found-most}

@@ -1,6 +1,6 @@
 -- `report::put_rows` meets its contract: a line for each row; whatever writes the lines left completes them.
-use Rattle.std.proofs.Common.{◌-◌, rules, arith, length}
-use Rattle.report.specs.Rows.{size_of, LinesPut, row_room, lines-begin, lines_more, lines_end}
+use Rattle.std.proofs.Common.{rules, arith, length}
+use Rattle.report.specs.Rows.{size_of, row_room, lines-begin, lines_more, lines_end}
 use Rattle.report.proofs.put_rows.Goals as goal
 
 pub loop-i-init : goal.loop-i-init

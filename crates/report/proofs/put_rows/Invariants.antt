@@ -1,6 +1,6 @@
 -- `report::put_rows`: what its loops keep.
-use Rattle.std.proofs.Common.{◌-◌, rules, arith, length}
-use Rattle.report.specs.Rows.{size_of, LinesPut, row_room, lines-begin, lines_more, lines_end}
+use Rattle.std.proofs.Common.{◌-◌}
+use Rattle.report.specs.Rows.{LinesPut}
 use Rattle.report.proofs.put_rows.Given as goal
 
 abbrev pub invariant-loop-i : goal.invariant-loop-i

@@ -1,5 +1,5 @@
 -- `report::report` meets its contract: too long, refused or listed, what is written is the paper's text.
-use Rattle.std.proofs.Common.{ℕ, List, rules}
+use Rattle.std.proofs.Common.{ℕ, List}
 use Rattle.run.specs.declared.PageRows.{PageRows}
 use Rattle.report.specs.Texts.{Written, long-bundle, long-recipe, refused-text, listing-text, paged-text}
 use Rattle.report.proofs.report.Goals as goal

@@ -1,5 +1,5 @@
 -- `rma::array_told` meets its contract: the refusal, or what the head tells; where the cells begin fits into four bytes.
-use Rattle.std.proofs.Common.{arith, rules}
+use Rattle.std.proofs.Common.{arith}
 use Rattle.c_told.specs.Given.{array_bytes}
 use Rattle.c_told.specs.Replies.{told-as}
 use Rattle.rma.specs.Arrays.{array-refused, array-got, array-near, array-said}

@@ -1,5 +1,4 @@
 -- `rma::count_told` meets its contract: the number of arrays, or the bundle’s refusal.
-use Rattle.std.proofs.Common.{rules}
 use Rattle.c_told.specs.Given.{number_bytes}
 use Rattle.c_told.specs.Replies.{told-as}
 use Rattle.rma.specs.Arrays.{count-refused, count-got}

@@ -1,5 +1,5 @@
 -- `rma::json_by_head` meets its contract: the text is read into the array that the head describes in the version told.
-use Rattle.std.proofs.Common.{◌∙◌, ap, sym, rules}
+use Rattle.std.proofs.Common.{◌∙◌, ap, sym}
 use Rattle.versions.specs.Told.{told_sizes}
 use Rattle.rma.specs.Versions.{json-told, json-untold}
 use Rattle.rma.proofs.json_by_head.Goals as goal

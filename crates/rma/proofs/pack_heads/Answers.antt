@@ -1,5 +1,5 @@
 -- `rma::pack_heads` meets its contract: the forms have the heads' shapes in the version told.
-use Rattle.std.proofs.Common.{◌∙◌, ap, sym, rules}
+use Rattle.std.proofs.Common.{◌∙◌, ap, sym}
 use Rattle.versions.specs.Told.{told_sizes}
 use Rattle.rma.specs.Versions.{pack-told, pack-untold}
 use Rattle.rma.proofs.pack_heads.Goals as goal

@@ -1,5 +1,5 @@
 -- `rma::rma_extent` meets its contract: the length of the head is said, and the head stands in the buffer.
-use Rattle.std.proofs.Common.{ap, rules}
+use Rattle.std.proofs.Common.{ap}
 use Rattle.paper.specs.Bundle.{After}
 use Rattle.c_told.specs.Given.{number_bytes}
 use Rattle.c_told.specs.Replies.{speaks}

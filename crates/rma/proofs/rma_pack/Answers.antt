@@ -1,6 +1,4 @@
 -- `rma::rma_pack` meets its contract: the forms have the heads’ shapes, packing’s answer is said, and the buffer is as packing leaves it.
-use Rattle.std.proofs.Common.{rules}
-use Rattle.c_asked.specs.Heads.{heads-shapes}
 use Rattle.c_told.specs.Given.{number_bytes}
 use Rattle.c_told.specs.Replies.{speaks}
 use Rattle.rma.proofs.rma_pack.Goals as goal

@@ -1,5 +1,5 @@
 -- `rma::rma_page` meets its contract: the page’s answer is said, and both buffers are as the page leaves them.
-use Rattle.std.proofs.Common.{ap, rules}
+use Rattle.std.proofs.Common.{ap}
 use Rattle.paper.specs.Listing.{Paged}
 use Rattle.c_told.specs.Given.{listed_bytes}
 use Rattle.c_told.specs.Replies.{speaks}

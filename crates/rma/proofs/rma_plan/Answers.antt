@@ -1,5 +1,4 @@
 -- `rma::rma_plan` meets its contract: the plan's figures are said.
-use Rattle.std.proofs.Common.{rules}
 use Rattle.c_told.specs.Given.{foreseen_bytes}
 use Rattle.c_told.specs.Replies.{speaks}
 use Rattle.rma.proofs.rma_plan.Goals as goal

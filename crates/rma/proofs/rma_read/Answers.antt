@@ -1,5 +1,5 @@
 -- `rma::rma_read` meets its contract: the number of arrays is said.
-use Rattle.std.proofs.Common.{refl, rules}
+use Rattle.std.proofs.Common.{refl}
 use Rattle.c_told.specs.Given.{number_bytes}
 use Rattle.c_told.specs.Replies.{speaks}
 use Rattle.rma.proofs.rma_read.Goals as goal

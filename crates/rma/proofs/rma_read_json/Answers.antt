@@ -1,5 +1,5 @@
 -- `rma::rma_read_json` meets its contract: the reader’s answer is said, its byte place capped; the cells are as the reader leaves them.
-use Rattle.std.proofs.Common.{ap, rules}
+use Rattle.std.proofs.Common.{ap}
 use Rattle.c_told.specs.Said.{capped_in}
 use Rattle.c_told.specs.Given.{number_bytes}
 use Rattle.c_told.specs.Replies.{speaks}

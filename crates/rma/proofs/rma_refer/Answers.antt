@@ -1,5 +1,4 @@
 -- `rma::rma_refer` meets its contract: the cell is said.
-use Rattle.std.proofs.Common.{rules}
 use Rattle.paper.specs.Cells.{encode}
 use Rattle.c_told.specs.Replies.{speaks}
 use Rattle.rma.proofs.rma_refer.Goals as goal

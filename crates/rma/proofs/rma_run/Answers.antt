@@ -1,5 +1,5 @@
 -- `rma::rma_run` meets its contract: the run’s answer is said, and the work area is as the run leaves it.
-use Rattle.std.proofs.Common.{ap, rules}
+use Rattle.std.proofs.Common.{ap}
 use Rattle.paper.specs.Bundle.{After}
 use Rattle.c_told.specs.Given.{number_bytes}
 use Rattle.c_told.specs.Replies.{speaks}

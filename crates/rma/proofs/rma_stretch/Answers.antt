@@ -1,5 +1,5 @@
 -- `rma::rma_stretch` meets its contract: the sides are those that the heads describe, and where the stretch lies is said.
-use Rattle.std.proofs.Common.{refl, rules}
+use Rattle.std.proofs.Common.{refl}
 use Rattle.c_told.specs.Given.{part_bytes}
 use Rattle.c_told.specs.Replies.{speaks}
 use Rattle.rma.proofs.rma_stretch.Goals as goal

@@ -1,5 +1,4 @@
 -- `rma::rma_total` meets its contract: the total’s cell is said.
-use Rattle.std.proofs.Common.{rules}
 use Rattle.c_told.specs.Given.{total_bytes}
 use Rattle.c_told.specs.Replies.{speaks}
 use Rattle.rma.proofs.rma_total.Goals as goal

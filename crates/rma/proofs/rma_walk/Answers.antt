@@ -1,5 +1,4 @@
 -- `rma::rma_walk` meets its contract: the step’s answer is said, and the place after it is put where the place stood.
-use Rattle.std.proofs.Common.{rules}
 use Rattle.c_told.specs.Given.{seen_bytes}
 use Rattle.c_told.specs.Replies.{speaks}
 use Rattle.rma.proofs.rma_walk.Goals as goal

@@ -1,5 +1,4 @@
 -- `rma::rma_write_json` meets its contract: the writer’s answer is said, and the buffer is as the writer leaves it.
-use Rattle.std.proofs.Common.{rules}
 use Rattle.c_told.specs.Given.{number_bytes}
 use Rattle.c_told.specs.Replies.{speaks}
 use Rattle.rma.proofs.rma_write_json.Goals as goal

@@ -1,5 +1,5 @@
 -- `rma::stretch_heads` meets its contract: the sides are those that the heads describe in the version told.
-use Rattle.std.proofs.Common.{◌∙◌, ap, sym, rules}
+use Rattle.std.proofs.Common.{◌∙◌, ap, sym}
 use Rattle.versions.specs.Told.{told_sizes}
 use Rattle.rma.specs.Versions.{stretch-told, stretch-untold}
 use Rattle.rma.proofs.stretch_heads.Goals as goal

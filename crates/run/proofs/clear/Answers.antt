@@ -1,5 +1,5 @@
 -- `run::clear` meets its contract: the first i bytes are zeros, the rest is as it was.
-use Rattle.std.proofs.Common.{ℕ, ◌-◌, ◌≤◌, ◌≡◌, sym, ap, ◌∙◌, List, ◌++◌, arith, length, drop, set, replicate, length-append, length-drop, rules}
+use Rattle.std.proofs.Common.{ℕ, ◌≡◌, sym, ap, ◌∙◌, List, ◌++◌, arith, length, drop, set, replicate, length-append, length-drop}
 use lib.ListN.{length-replicate}
 use borrow.Author.Fill.{fill_none, fill_more}
 use Rattle.run.proofs.clear.Goals as goal

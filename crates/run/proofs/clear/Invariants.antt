@@ -1,7 +1,5 @@
 -- `run::clear`: what its loops keep.
-use Rattle.std.proofs.Common.{ℕ, ◌-◌, ◌≤◌, ◌≡◌, sym, ap, ◌∙◌, List, ◌++◌, arith, length, drop, set, replicate, length-append, length-drop, rules}
-use lib.ListN.{length-replicate}
-use borrow.Author.Fill.{fill_none, fill_more}
+use Rattle.std.proofs.Common.{◌-◌, ◌≤◌, ◌≡◌, ◌++◌, drop, replicate}
 use Rattle.run.proofs.clear.Given as goal
 
 abbrev pub invariant-loop-i : goal.invariant-loop-i

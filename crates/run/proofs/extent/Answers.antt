@@ -1,5 +1,5 @@
 -- `run::extent` meets its contract: the refusal of the bundle or the recipe, no room, or the last result's head.
-use Rattle.std.proofs.Common.{ℕ, ◌≤◌, ◌≡◌, ◌∙◌, ap, length, replicate, arith, rules}
+use Rattle.std.proofs.Common.{ℕ, ◌≤◌, ◌≡◌, ◌∙◌, ap, length, replicate, arith}
 use Rattle.paper.specs.Limits.{sizes_of}
 use Rattle.paper.specs.Numbers.{over}
 use Rattle.pack.specs.Heads.{head_length}

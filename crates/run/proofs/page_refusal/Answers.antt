@@ -1,5 +1,5 @@
 -- `run::page_refusal` meets its contract: each test that fails has its law, and all that hold.
-use Rattle.std.proofs.Common.{arith, rules}
+use Rattle.std.proofs.Common.{arith}
 use Rattle.run.specs.Tests.{judged-type, judged-work, judged-rows, judged-zero, judged-past, judged-none}
 use Rattle.run.proofs.page_refusal.Goals as goal
 use Rattle.run.proofs.page_refusal.Goals.{After-rank_of, After-struct_known-4-1, Else-res-ne-BOOLEAN, Else-start-eq0, Start}

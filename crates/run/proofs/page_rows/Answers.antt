@@ -1,5 +1,5 @@
 -- `run::page_rows` meets its contract: an outcome, a law.
-use Rattle.std.proofs.Common.{ℕ, ◌*◌, List, refl, arith, length, rules}
+use Rattle.std.proofs.Common.{ℕ, ◌*◌, List, refl, arith, length}
 use Rattle.paper.specs.Limits.{cell_bytes}
 use Rattle.recipe.specs.declared.Plan.{Plan}
 use Rattle.recipe.specs.Whole.{Laid}

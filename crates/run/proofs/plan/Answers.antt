@@ -1,5 +1,5 @@
 -- `run::plan` meets its contract: the refusal of the bundle or the recipe, or the figures of the plan.
-use Rattle.std.proofs.Common.{arith, rules}
+use Rattle.std.proofs.Common.{arith}
 use Rattle.run.specs.Plans.{laid, last-few, plan-refused, plan-told}
 use Rattle.run.proofs.plan.Goals as goal
 use Rattle.run.proofs.plan.Goals.{After-planned-plan, Else-plan-ne0}

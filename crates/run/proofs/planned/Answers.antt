@@ -1,5 +1,5 @@
 -- `run::planned` meets its contract: the bundle refused, or the recipe planned over its arrays.
-use Rattle.std.proofs.Common.{arith, rules}
+use Rattle.std.proofs.Common.{arith}
 use Rattle.recipe.specs.Given.{read-good}
 use Rattle.run.specs.Tests.{read-refused, both-planned}
 use Rattle.run.proofs.planned.Goals as goal

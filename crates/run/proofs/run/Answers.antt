@@ -1,5 +1,5 @@
 -- `run::run` meets its contract: an outcome, a law.
-use Rattle.std.proofs.Common.{ℕ, List, arith, rules}
+use Rattle.std.proofs.Common.{ℕ, List, arith}
 use Rattle.run.specs.Calls.{run-refused, run_small, may-run, run-stopped, run-done}
 use Rattle.run.proofs.run.Goals as goal
 use Rattle.run.proofs.run.Goals.{After-planned-plan, After-struct_known-1}

@@ -1,5 +1,5 @@
 -- `run::settle` meets its contract: the results, or zeros in their place.
-use Rattle.std.proofs.Common.{arith, rules}
+use Rattle.std.proofs.Common.{arith}
 use Rattle.run.specs.Calls.{all-bytes, settle-done, settle-stopped}
 use Rattle.run.proofs.settle.Goals as goal
 use Rattle.run.proofs.settle.Goals.{After-run_steps-refusal, After-struct_known-1, Start}

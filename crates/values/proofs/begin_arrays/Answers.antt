@@ -1,5 +1,4 @@
 -- `values::begin_arrays` meets its contract: the quick loop's own promise.
-use Rattle.std.proofs.Common.{rules}
 use Rattle.values.proofs.begin_arrays.Goals as goal
 
 pub ahead-count-requires : goal.ahead-count-requires

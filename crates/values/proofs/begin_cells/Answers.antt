@@ -1,5 +1,5 @@
 -- `values::begin_cells` meets its contract: all cells moved, or the quick loop as far as it came, for each kind of work.
-use Rattle.std.proofs.Common.{◌≡◌, ℕ, ◌+◌, ap, ◌∙◌, arith, rules}
+use Rattle.std.proofs.Common.{◌≡◌, ◌+◌, ap, ◌∙◌, arith}
 use Rattle.paper.specs.Limits.{scalar_at, word_bytes}
 use Rattle.paper.specs.Numbers.{le_of, part}
 use Rattle.paper.specs.declared.Operation.TheVariants.{Works}

@@ -1,5 +1,5 @@
 -- `values::begin_scalar` meets its contract: the quick loop's own promise, with the scalar on its hand.
-use Rattle.std.proofs.Common.{◌≡◌, ◌∙◌, ⊎_elim, rules}
+use Rattle.std.proofs.Common.{◌≡◌, ◌∙◌}
 use Rattle.values.specs.Turns.{handed, on-right, on-left}
 use Rattle.values.proofs.begin_scalar.Goals as goal
 use Rattle.values.proofs.begin_scalar.Goals.{Joined-hand, Start, in-Right, in-Left}
@@ -11,8 +11,8 @@ module _ (c : Joined-hand) where
   told : c.match-hand.pairing ≡ handed start.args.hand start.args.code start.args.scalar start.args.x
   told =
       elim c.match-hand.branch [
-        in-Right w ↦ on-right w.in-Right.is (w.pairing-is ∙ w.paired-pairing.ensures)
-      | in-Left w ↦ on-left w.in-Left.is (w.pairing-is ∙ w.paired-pairing-in-Left.ensures)
+        | in-Right w ↦ on-right w.in-Right.is (w.pairing-is ∙ w.paired-pairing.ensures)
+        | in-Left w ↦ on-left w.in-Left.is (w.pairing-is ∙ w.paired-pairing-in-Left.ensures)
       ]
 
 pub ahead-count-requires : goal.ahead-count-requires

@@ -1,6 +1,6 @@
 -- `values::move_cells` meets its contract: one band after the other.
-use Rattle.std.proofs.Common.{◌≡◌, ℕ, ◌+◌, ◌-◌, ◌*◌, ◌≤◌, List, length, sym, refl, ◌∙◌, subst, mul-le-mul_right, le-mul_of_pos_right, arith, rules}
-use Rattle.paper.specs.Limits.{cell_bytes, most_cells}
+use Rattle.std.proofs.Common.{◌≡◌, ℕ, ◌+◌, ◌*◌, ◌≤◌, List, length, sym, refl, ◌∙◌, subst, mul-le-mul_right, le-mul_of_pos_right, arith}
+use Rattle.paper.specs.Limits.{cell_bytes}
 use Rattle.laws.specs.Numbers.{Bytes, bytes_take}
 use Rattle.rows.specs.declared.Band.{Band}
 use Rattle.rows.specs.Bands.{line_of, Banded}

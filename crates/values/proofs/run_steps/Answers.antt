@@ -1,11 +1,11 @@
 -- `values::run_steps` meets its contract: each event of the two loops has its law in specs/Done and specs/Runs.
-use Rattle.std.proofs.Common.{◌≡◌, ℕ, ◌+◌, ◌-◌, ◌*◌, ◌<◌, ◌≤◌, List, length, get_or, take, sym, refl, ap, ◌∙◌, subst, arith, length-take-le, rules}
+use Rattle.std.proofs.Common.{◌≡◌, ℕ, ◌+◌, ◌<◌, List, length, get_or, take, sym, refl, ap, ◌∙◌, subst, arith, length-take-le}
 use Rattle.paper.specs.declared.Refusal.{Refusal}
 use Rattle.paper.specs.declared.Work.{Work}
 use Rattle.paper.specs.declared.Operation.TheVariants.{Works}
-use Rattle.paper.specs.Limits.{cell_bytes, word_bytes, scalar_at, most_cells, most_steps}
+use Rattle.paper.specs.Limits.{word_bytes, scalar_at}
 use Rattle.paper.specs.Numbers.{le_of, part}
-use Rattle.paper.specs.Refusals.{refused, refusal}
+use Rattle.paper.specs.Refusals.{refused}
 use Rattle.recipe.specs.declared.Plan.{Plan}
 use Rattle.recipe.specs.Whole.{steps_of, steps-count}
 use Rattle.coded.specs.Codes.{NoNan, answered}
@@ -185,8 +185,7 @@ overflow_add-base c =
 
 pub refusal_of-out-requires : goal.refusal_of-out-requires
 refusal_of-out-requires c =
-    let s = (goal.at.refusal_of-out-requires c).After-computed-got in
-    (
+    let s = (goal.at.refusal_of-out-requires c).After-computed-got in (
       omega (arith, (begins (step s)).steps.invariant.1, (begins (step s)).steps-test.true),
       omega (arith, (head (turn s)).cells.invariant.2, (turn s).cells-test.true),
     )

@@ -1,21 +1,10 @@
 -- `values::run_steps`: what its loops keep.
-use Rattle.std.proofs.Common.{◌≡◌, ℕ, ◌+◌, ◌-◌, ◌*◌, ◌<◌, ◌≤◌, List, length, get_or, take, sym, refl, ap, ◌∙◌, subst, arith, length-take-le, rules}
-use Rattle.paper.specs.declared.Refusal.{Refusal}
-use Rattle.paper.specs.declared.Work.{Work}
-use Rattle.paper.specs.declared.Operation.TheVariants.{Works}
-use Rattle.paper.specs.Limits.{cell_bytes, word_bytes, scalar_at, most_cells, most_steps}
-use Rattle.paper.specs.Numbers.{le_of, part}
-use Rattle.paper.specs.Refusals.{refused, refusal}
-use Rattle.recipe.specs.declared.Plan.{Plan}
-use Rattle.recipe.specs.Whole.{steps_of, steps-count}
-use Rattle.coded.specs.Codes.{NoNan, answered}
-use Rattle.quick.specs.declared.operands.Pairing.{Pairing}
-use Rattle.quick.specs.Cells.{answer_at}
-use Rattle.values.specs.declared.Turn.{Turn}
-use Rattle.values.specs.Done.{step_at, answer_to, Done, StepsDone, CellsDone, run-begins, step-begins, steps-long}
-use Rattle.values.specs.Turns.{pairing_of, Computes}
-use Rattle.values.specs.Found.{arrays_at, past, turn_in, begins-at, ready}
-use Rattle.values.specs.Runs.{InTurn, Asked, few-cells, keeps, room-all, ended, worked-at, worked-on, refuses, untouched, late}
+use Rattle.std.proofs.Common.{◌≡◌, ℕ, ◌+◌, ◌-◌, ◌*◌, ◌≤◌, List, length}
+use Rattle.paper.specs.Limits.{cell_bytes, most_cells, most_steps}
+use Rattle.paper.specs.Refusals.{refusal}
+use Rattle.recipe.specs.Whole.{steps_of}
+use Rattle.values.specs.Done.{Done, StepsDone, CellsDone}
+use Rattle.values.specs.Found.{arrays_at}
 use Rattle.values.proofs.run_steps.Given as goal
 
 abbrev pub invariant-cells : goal.invariant-cells

@@ -1,10 +1,10 @@
 -- `values::bands::lay_lines` meets its contract: line after line, each by three runs.
-use Rattle.std.proofs.Common.{ℕ, ◌+◌, ◌-◌, ◌*◌, ◌≤◌, List, length, arith, rules}
+use Rattle.std.proofs.Common.{ℕ, ◌+◌, ◌*◌, ◌≤◌, List, length, arith}
 use Rattle.paper.specs.Limits.{cell_bytes}
 use Rattle.rows.specs.declared.Band.{Band}
 use Rattle.rows.specs.Bands.{line_of}
 use Rattle.values.specs.Done.{CellsDone}
-use Rattle.values.specs.Moved.{Laying, LineAt, LinesLaid, lines-room, lines-few, run-asks, run-leaves, no_line, line-laid, all_lines, next-line, line-begins}
+use Rattle.values.specs.Moved.{Laying, LineAt, lines-room, lines-few, run-asks, run-leaves, no_line, line-laid, all_lines, next-line, line-begins}
 use Rattle.values.proofs.bands.lay_lines.Goals as goal
 use Rattle.values.proofs.bands.lay_lines.Goals.{After-lay_cells, After-lay_run, After-lay_run-in-loop-r, In-loop-r, Start}
 

@@ -1,10 +1,6 @@
 -- `values::bands::lay_lines`: what its loops keep.
-use Rattle.std.proofs.Common.{ℕ, ◌+◌, ◌-◌, ◌*◌, ◌≤◌, List, length, arith, rules}
-use Rattle.paper.specs.Limits.{cell_bytes}
-use Rattle.rows.specs.declared.Band.{Band}
-use Rattle.rows.specs.Bands.{line_of}
-use Rattle.values.specs.Done.{CellsDone}
-use Rattle.values.specs.Moved.{Laying, LineAt, LinesLaid, lines-room, lines-few, run-asks, run-leaves, no_line, line-laid, all_lines, next-line, line-begins}
+use Rattle.std.proofs.Common.{◌-◌}
+use Rattle.values.specs.Moved.{LinesLaid}
 use Rattle.values.proofs.bands.lay_lines.Given as goal
 
 abbrev pub invariant-loop-r : goal.invariant-loop-r

@@ -1,9 +1,9 @@
 -- `values::bands::lay_one_run` meets its contract: line after line, each by one run.
-use Rattle.std.proofs.Common.{◌≡◌, ℕ, ◌+◌, ◌-◌, ◌*◌, ◌≤◌, length, arith, rules}
+use Rattle.std.proofs.Common.{◌≡◌, ℕ, ◌+◌, ◌*◌, ◌≤◌, length, arith}
 use Rattle.paper.specs.Limits.{cell_bytes}
 use Rattle.rows.specs.declared.Band.{Band}
 use Rattle.rows.specs.Bands.{line_of}
-use Rattle.values.specs.Moved.{Laying, BandLaid, LinesLaid, lines-room, lines-few, run-asks, run-leaves, no_line, line-laid, all_lines, next-line, line-begins}
+use Rattle.values.specs.Moved.{Laying, BandLaid, lines-room, lines-few, run-asks, run-leaves, no_line, line-laid, all_lines, next-line, line-begins}
 use Rattle.values.proofs.bands.lay_one_run.Goals as goal
 use Rattle.values.proofs.bands.lay_one_run.Goals.{After-lay_cells, In-loop-r, Start}
 
