@@ -2,7 +2,7 @@
 // and what to call; what the calls give is printed beside it. A new case is a line of the script and one of what it must print.
 #![tactic(auto)]
 
-ghost use Rattle.std.specs.Io.{ReadsAtMost};
+ghost use Rattle.io.specs.Counts.{IsPrefixLen};
 
 mod ask;
 mod obey;
@@ -17,19 +17,23 @@ use std::io::Read;
 // Room for the script.
 const SCRIPT: usize = 24576;
 
-// Reads until `buf` is full or the input ends; answers how many bytes.
-fn read_full(reader: &mut impl Read, buf: &mut [u8]) -> io::Result<usize>
-    ensures { ReadsAtMost result buf.new }
+// Reads until `buf` is full, the input ends or a read fails; answers how many bytes.
+fn read_full(reader: &mut impl Read, buf: &mut [u8]) -> usize
+    ensures { IsPrefixLen result buf.new }
 {
     let mut n: usize = 0;
     while n < buf.len() {
-        let more = reader.read(&mut buf[n..])?;
-        if more == 0 {
-            break;
+        match reader.read(&mut buf[n..]) {
+            Ok(more) => {
+                if more == 0 {
+                    break;
+                }
+                n += more;
+            }
+            Err(_) => break,
         }
-        n += more;
     }
-    Ok(n)
+    n
 }
 
 // Each line of the script in turn.
@@ -64,6 +68,6 @@ fn follow(rt: &impl Print, script: &[u8]) -> io::Result<()> {
 
 fn main(rt: HostRuntime) -> io::Result<()> {
     let mut script = [0u8; SCRIPT];
-    let n = read_full(&mut rt.stdin(), &mut script)?;
+    let n = read_full(&mut rt.stdin(), &mut script);
     follow(&rt, first(&script, n))
 }

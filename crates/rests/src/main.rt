@@ -2,7 +2,7 @@
 // folder and prints the text that `report` makes of them. A missing file counts as empty. It is run here on that paper's example.
 #![tactic(auto)]
 
-ghost use Rattle.std.specs.Io.{ReadsAtMost};
+ghost use Rattle.io.specs.Counts.{IsPrefixLen};
 
 use paper::{FILE_BYTES, LIMIT_BYTES};
 use std::fs::File;
@@ -18,28 +18,32 @@ const ROWS: usize = 4096 * (LIMIT_BYTES + LIMIT_BYTES * paper::AXES);
 
 const TEXT: usize = 634908;
 
-// Reads until `buf` is full or the file ends; answers how many bytes.
-fn read_full(file: &mut impl Read, buf: &mut [u8]) -> io::Result<usize>
-    ensures { ReadsAtMost result buf.new }
+// Reads until `buf` is full, the file ends or a read fails; answers how many bytes.
+fn read_full(file: &mut impl Read, buf: &mut [u8]) -> usize
+    ensures { IsPrefixLen result buf.new }
 {
     let mut n: usize = 0;
     while n < buf.len() {
-        let more = file.read(&mut buf[n..])?;
-        if more == 0 {
-            break;
+        match file.read(&mut buf[n..]) {
+            Ok(more) => {
+                if more == 0 {
+                    break;
+                }
+                n += more;
+            }
+            Err(_) => break,
         }
-        n += more;
     }
-    Ok(n)
+    n
 }
 
 // Reads the file into `buf`, as far as it goes; answers how many bytes. One that does not open has none.
-fn read_file(rt: &impl Files, path: &str, buf: &mut [u8]) -> io::Result<usize>
-    ensures { ReadsAtMost result buf.new }
+fn read_file(rt: &impl Files, path: &str, buf: &mut [u8]) -> usize
+    ensures { IsPrefixLen result buf.new }
 {
     match File::open(rt, path) {
         Ok(mut file) => read_full(&mut file, buf),
-        Err(_) => Ok(0),
+        Err(_) => 0,
     }
 }
 
@@ -55,7 +59,7 @@ fn print_text(rt: &impl Print, roster: &[u8], recipe: &[u8]) -> io::Result<()> {
 fn main(rt: HostRuntime) -> io::Result<()> {
     let mut roster = [0u8; FILE];
     let mut recipe = [0u8; FILE];
-    let n = read_file(&rt, "roster.rma", &mut roster)?;
-    let m = read_file(&rt, "recipe.bin", &mut recipe)?;
+    let n = read_file(&rt, "roster.rma", &mut roster);
+    let m = read_file(&rt, "recipe.bin", &mut recipe);
     print_text(&rt, &roster[..n], &recipe[..m])
 }

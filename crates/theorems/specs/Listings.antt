@@ -34,5 +34,3 @@ pages_from bundle recipe area buffer s zero i start = none
 pages_from bundle recipe area buffer s (suc n) i start =
     let p : Paged = page bundle recipe (area i) start (buffer i) in
     page_then s p.rows p.answer (λ next. pages_from bundle recipe area buffer s n (i + 1) next)
-
--- ---- the TRUE coordinates
