@@ -115,5 +115,3 @@ fine-signed f g p q kind Empty h = tt
 fine-signed f g p q kind (Int x) h = subst (λ (k : ℕ). Fine k (fit_int (f x))) (sym h.0) (fine-int (f x))
 fine-signed f g p q kind (Float x) h = (h.0, (q x h.1.0, p x h.1.1))
 fine-signed f g p q kind (Truth b) h = tt
-
--- ---- where the operator gives a cell
