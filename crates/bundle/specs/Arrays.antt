@@ -1,5 +1,5 @@
 -- An array read, by cases: each way out of the code from the tests that lead to it, at offsets into the bundle's bytes.
-use Rattle.std.specs.Prelude.{ℕ, ◌+◌, ◌-◌, ◌*◌, ◌≤◌, ◌<◌, ◌≡◌, refl, ◌&&◌, eqb, length, drop}
+use Rattle.std.specs.Prelude.{ℕ, ◌+◌, ◌-◌, ◌*◌, ◌≤◌, ◌<◌, ◌≡◌, refl, ◌&&◌, eqb, length, drop, Ok, Err}
 use Rattle.std.proofs.Math.Path.{sym, ap, ap₂}
 use Rattle.std.proofs.Common.{◌∙◌}
 use Rattle.std.proofs.Math.Bool.{true, false}
@@ -16,7 +16,7 @@ use Rattle.paper.specs.declared.Form.{Form}
 use Rattle.paper.specs.declared.Extent.{Extent}
 use Rattle.paper.specs.declared.Refusal.{Refusal}
 use Rattle.paper.specs.Limits.{most_cells, type_bytes, cell_bytes}
-use Rattle.paper.specs.Refusals.{got, refused, ◌>>=◌, ◌>>◌, refusal, ensure, between, bad_bytes1, bad_extent2, bad_cell3}
+use Rattle.paper.specs.Refusals.{◌>>=◌, ◌>>◌, refusal, ensure, between, bad_bytes1, bad_extent2, bad_cell3}
 use Rattle.paper.specs.Axes.{cells, good_extent, within, Shape, shaped}
 use Rattle.paper.specs.Cells.{is_type}
 use Rattle.paper.specs.Bundle.{name_of, axis_of, maximum_of, each_axis, array_of, read_array}
@@ -40,7 +40,7 @@ module _ (k : ℕ) (s : List ℕ) (from : ℕ) (form : Form) (n : ℕ)
   t = form.kind
 
   -- an answer that is a refusal
-  of_none : {x : Refusal} → (x.number ≡ 0 → ⊥) → refused x ≡ array_of k shape (drop from s) → JudgedArray s k (head_at form from 0) x
+  of_none : {x : Refusal} → (x.number ≡ 0 → ⊥) → Err x ≡ array_of k shape (drop from s) → JudgedArray s k (head_at form from 0) x
   of_none {x} h e = record { said = unless-refused x _ h ∙ e; fit = λ f. absurd (h f) }
 
   pub of-extent : n ≡ 0 → JudgedArray s k (head_at form from 0) (refusal bad_extent2 k 0)
@@ -60,7 +60,7 @@ module _ (k : ℕ) (s : List ℕ) (from : ℕ) (form : Form) (n : ℕ)
     module _ (h : n * cell_bytes ≤ length s - from) (b : ℕ) (e : b ≡ first_bad t 1 n (drop from s)) where
       of-cells : array_of k shape (drop from s)
           ≡ (judged k b (cells_from t n (drop from s))
-          >>= (λ cs. got (record { shape = shape; cells = cs }, drop (n * cell_bytes) (drop from s))))
+          >>= (λ cs. Ok (record { shape = shape; cells = cs }, drop (n * cell_bytes) (drop from s))))
       unfolding array_of
       of-cells =
           let f : leb (n * cell_bytes) (length s - from) ≡ true = le-leb (n * cell_bytes) (length s - from) h in
@@ -76,7 +76,7 @@ module _ (k : ℕ) (s : List ℕ) (from : ℕ) (form : Form) (n : ℕ)
           let m = is-good.1 in
           record {
             said =
-                ap₂ (λ (j : ℕ) (d : List ℕ). got (record { shape = shape; cells = cells_from t j (drop from s) }, d)) m
+                ap₂ (λ (j : ℕ) (d : List ℕ). Ok (record { shape = shape; cells = cells_from t j (drop from s) }, d)) m
                 (sym (drop-drop (n * cell_bytes) from s))
                 ∙ sym (of-cells ∙ rw z);
             fit = λ f.
@@ -114,7 +114,7 @@ module _ (z : Sizes) (fits : Fits z) (s : List ℕ) (at t n : ℕ) (et : t ≡ g
       rw (p, r, length-drop at s, drop-drop type_bytes at s, drop-drop (type_bytes + n * z.axis) at s, w)
 
   -- the bytes are bad: the form has no axis
-  form-none : ((k : ℕ) → refused (refusal bad_bytes1 k 0) ≡ read_array z k (drop at s)) → FormRead z s at no_head.form
+  form-none : ((k : ℕ) → Err (refusal bad_bytes1 k 0) ≡ read_array z k (drop at s)) → FormRead z s at no_head.form
   form-none q = record { bad = λ o. q; good = λ h. absurd (h refl) }
 
   pub form_type : is_type t ≡ false → FormRead z s at no_head.form
@@ -178,7 +178,7 @@ module _ {z : Sizes} {bs : List ℕ} {at from k n : ℕ} {form : Form} {x : Refu
   judged-rest : one_of bs x (head_at form from n) ≡ read_array z k (drop at bs)
   judged-rest = j.said ∙ ap (λ (b : ℕ). array_of k (shape_of form) (drop b bs)) p ∙ f.rest k
 
-  pub array-refused : (x.number ≡ 0 → ⊥) → refused x ≡ read_array z k (drop at bs)
+  pub array-refused : (x.number ≡ 0 → ⊥) → Err x ≡ read_array z k (drop at bs)
   array-refused h = sym (unless-refused x _ h) ∙ judged-rest
 
   pub array-read : x.number ≡ 0 → ReadArray z bs at k (head_at form from n)

@@ -1,12 +1,12 @@
 -- What the reader's structs mean: the paper's answer, from the struct and the bundle's bytes; and what later code leans on.
-use Rattle.std.specs.Prelude.{ℕ, ◌+◌, ◌*◌, ◌≤◌, ◌<◌, ◌≡◌, true, ◌&&◌, List, map, length, take, drop, get_or}
+use Rattle.std.specs.Prelude.{ℕ, ◌+◌, ◌*◌, ◌≤◌, ◌<◌, ◌≡◌, true, ◌&&◌, List, map, length, take, drop, get_or, Ok, Err}
 use Rattle.paper.specs.declared.Sizes.{Sizes}
 use Rattle.paper.specs.declared.Form.{Form}
 use Rattle.paper.specs.declared.Head.{Head}
 use Rattle.paper.specs.declared.Reading.{Reading}
 use Rattle.paper.specs.declared.Refusal.{Refusal}
 use Rattle.paper.specs.Limits.{most_arrays, most_cells, type_bytes, cell_bytes, sizes_of}
-use Rattle.paper.specs.Refusals.{Res, got, refused, ◌>>=◌, ◌>>◌, refusal, ensure, bad_bytes1}
+use Rattle.paper.specs.Refusals.{Res, ◌>>=◌, ◌>>◌, refusal, ensure, bad_bytes1}
 use Rattle.paper.specs.Numbers.{none?}
 use Rattle.paper.specs.Axes.{cells, good_extent, within, Shape, Array}
 use Rattle.paper.specs.Bundle.{mark_bytes, version_in, array_of, read_array, read_arrays, read_as, read_bundle}
@@ -68,7 +68,7 @@ pub record FormAt (z : Sizes) (bs : List ℕ) (at : ℕ) (form : Form) : Type 0 
 
 -- the same, or a form with no axis where the bytes are bad
 pub record FormRead (z : Sizes) (bs : List ℕ) (at : ℕ) (form : Form) : Type 0 where
-  pub bad : form.extent.rank ≡ 0 → (k : ℕ) → refused (refusal bad_bytes1 k 0) ≡ read_array z k (drop at bs)
+  pub bad : form.extent.rank ≡ 0 → (k : ℕ) → Err (refusal bad_bytes1 k 0) ≡ read_array z k (drop at bs)
   pub good : (form.extent.rank ≡ 0 → ⊥) → FormAt z bs at form
 
 -- the number of axes that a head has
@@ -81,7 +81,7 @@ TidyHead h = h ≡ head_of (shape_of h.form, h.at)
 
 -- array k was read from byte `at` on: its cells begin after its type, its axis count and its axes
 pub record ReadArray (z : Sizes) (bs : List ℕ) (at k : ℕ) (h : Head) : Type 0 where
-  pub said : read_array z k (drop at bs) ≡ got (array_at bs h, drop (end_of h) bs)
+  pub said : read_array z k (drop at bs) ≡ Ok (array_at bs h, drop (end_of h) bs)
   pub fit : Fit bs h
   pub tidy : TidyHead h
   pub begins : h.at ≡ at + (type_bytes + axes_in h * z.axis)
@@ -91,11 +91,11 @@ pub record ReadArray (z : Sizes) (bs : List ℕ) (at k : ℕ) (h : Head) : Type 
 
 -- n arrays after the opening bytes, and nothing after them
 abbrev pub read_rest : Sizes → ℕ → List ℕ → Res (List Array)
-read_rest z n bs = read_arrays z 1 n (drop (mark_bytes + 1) bs) >>= (λ p. ensure (none? p.1) bad_bytes1 0 >> got p.0)
+read_rest z n bs = read_arrays z 1 n (drop (mark_bytes + 1) bs) >>= (λ p. ensure (none? p.1) bad_bytes1 0 >> Ok p.0)
 
 -- the opening bytes are good and tell of n arrays, which are left to do; n is 0 where they are bad
 pub record Opened (z : Sizes) (bs : List ℕ) (n : ℕ) : Type 0 where
-  pub bad : n ≡ 0 → refused (refusal bad_bytes1 0 0) ≡ read_as z bs
+  pub bad : n ≡ 0 → Err (refusal bad_bytes1 0 0) ≡ read_as z bs
   pub few : n ≤ most_arrays
   pub long : (n ≡ 0 → ⊥) → mark_bytes + 1 ≤ length bs
   pub rest : (n ≡ 0 → ⊥) → read_as z bs ≡ read_rest z n bs

@@ -2,7 +2,7 @@
 use Prim.Native.Nat.{ℕ, suc, ◌+◌, ◌-◌, ◌*◌, ◌≤◌, ◌<◌}
 use Rattle.std.proofs.Math.Path.{◌≡◌, refl, sym, ap, ap₂, subst}
 use Rattle.std.proofs.Common.{◌∙◌, eq-eqb, ne_eqb, length-drop, length-set, take-append-drop}
-use Rattle.std.specs.Prelude.{Bool, eqb, get_or, set}
+use Rattle.std.specs.Prelude.{Bool, eqb, get_or, set, Ok, Err}
 use Rattle.std.proofs.Math.Bool.{true, false}
 use mathlib.Core.List.{List, [], ◌∷◌, ◌++◌, map, map-append, append_assoc, append-nil}
 use native.Mathlib.Omega.{arith}
@@ -15,7 +15,7 @@ use Rattle.paper.specs.declared.Sizes.{Sizes}
 use Rattle.paper.specs.declared.Head.{Head}
 use Rattle.paper.specs.declared.Refusal.{Refusal}
 use Rattle.paper.specs.Limits.{most_arrays, type_bytes, cell_bytes, sizes_of}
-use Rattle.paper.specs.Refusals.{Res, got, refused, ◌>>=◌, ◌>>◌, refusal, ensure, between, bad_bytes1}
+use Rattle.paper.specs.Refusals.{Res, ◌>>=◌, ◌>>◌, refusal, ensure, between, bad_bytes1}
 use Rattle.paper.specs.Numbers.{same}
 use Rattle.paper.specs.Axes.{Shape, Array}
 use Rattle.paper.specs.Bundle.{mark, mark_bytes, version_in, sizes_in, read_array, read_arrays, read_as, read_bundle}
@@ -53,19 +53,19 @@ lies-said z bs i (h ∷ hs) e l =
 
 -- arrays read before, in front of those read now
 unfoldable pub before : List Array → Res (List Array × List ℕ) → Res (List Array × List ℕ)
-before done (got p) = got (done ++ p.0, p.1)
-before done (refused r) = refused r
+before done (Ok p) = Ok (done ++ p.0, p.1)
+before done (Err r) = Err r
 
 joined : (done : List Array) (A : Array) (m : Res (List Array × List ℕ))
-    → before done (m >>= (λ p. got (A ∷ p.0, p.1))) ≡ before (done ++ (A ∷ [])) m
+    → before done (m >>= (λ p. Ok (A ∷ p.0, p.1))) ≡ before (done ++ (A ∷ [])) m
 unfolding before
-joined done A (got p) = ap (λ (l : List Array). got (l, p.1)) (sym (append_assoc done (A ∷ []) p.0))
-joined done A (refused r) = refl
+joined done A (Ok p) = ap (λ (l : List Array). Ok (l, p.1)) (sym (append_assoc done (A ∷ []) p.0))
+joined done A (Err r) = refl
 
 before-none : (m : Res (List Array × List ℕ)) → before [] m ≡ m
 unfolding before
-before-none (got p) = refl
-before-none (refused r) = refl
+before-none (Ok p) = refl
+before-none (Err r) = refl
 
 -- i of n arrays read, their heads the first i, and the bytes from `at` on to come
 pub record Loop (z : Sizes) (s : List ℕ) (n i at : ℕ) (heads : List Head) : Type 0 where
@@ -135,11 +135,11 @@ module _ {z : Sizes} {s : List ℕ} {n i at : ℕ} {l : List Head} (v : Loop z s
         }
 
   -- an array that is refused
-  pub loop-refused : {x : Refusal} → refused x ≡ read_array z (i + 1) (drop at s) → refused x ≡ read_arrays z 1 n (drop (mark_bytes + 1) s)
+  pub loop-refused : {x : Refusal} → Err x ≡ read_array z (i + 1) (drop at s) → Err x ≡ read_arrays z 1 n (drop (mark_bytes + 1) s)
   unfolding read_arrays before
   loop-refused {x} e =
       let f : n - i ≡ suc (n - (i + 1)) = omega arith in
-      let w : refused x ≡ before (map (array_at s) (take i l)) (read_arrays z (i + 1) (n - i) (drop at s)) = rw (f, ← e) in
+      let w : Err x ≡ before (map (array_at s) (take i l)) (read_arrays z (i + 1) (n - i) (drop at s)) = rw (f, ← e) in
       w ∙ v.arrays
 
 -- all read
@@ -147,20 +147,20 @@ module _ {z : Sizes} {s : List ℕ} {n i at : ℕ} {l : List Head} (v : Loop z s
   all_done : i ≡ n
   all_done = omega (arith, v.turns)
 
-  pub loop-end : got (map (array_at s) (take n l), drop at s) ≡ read_arrays z 1 n (drop (mark_bytes + 1) s)
+  pub loop-end : Ok (map (array_at s) (take n l), drop at s) ≡ read_arrays z 1 n (drop (mark_bytes + 1) s)
   unfolding read_arrays before
   loop-end =
       let g : n - n ≡ 0 = omega arith in
-      ap (λ (m : List Array). got (m, drop at s)) (sym (append-nil _)) ∙ (rw (all_done, g) at v.arrays)
+      ap (λ (m : List Array). Ok (m, drop at s)) (sym (append-nil _)) ∙ (rw (all_done, g) at v.arrays)
 
 -- ---- an answer that is a refusal
 
-pub all-refused : {bs : List ℕ} {x : Refusal} → (x.number ≡ 0 → ⊥) → refused x ≡ read_bundle bs → ReadAll bs (reading_of One (refused x))
+pub all-refused : {bs : List ℕ} {x : Refusal} → (x.number ≡ 0 → ⊥) → Err x ≡ read_bundle bs → ReadAll bs (reading_of One (Err x))
 unfolding reading
 all-refused {bs} {x} h q =
-    let said : read_said (reading_of One (refused x)) ≡ refused x = unless-refused x _ h in
+    let said : read_said (reading_of One (Err x)) ≡ Err x = unless-refused x _ h in
     record {
-      said = said ∙ ap (λ (m : Res (List Array)). m >>= (λ As. got (lying_from (sizes_in bs) (mark_bytes + 1) As))) q;
+      said = said ∙ ap (λ (m : Res (List Array)). m >>= (λ As. Ok (lying_from (sizes_in bs) (mark_bytes + 1) As))) q;
       tidy = ap (reading_of (version_in bs)) (sym said);
       version = λ f. absurd (h f);
       arrays = unless-refused x _ h ∙ q;
@@ -174,15 +174,15 @@ all-refused {bs} {x} h q =
 
 module _ (z : Sizes) (s : List ℕ) where
   -- they are bad
-  opened-none : refused (refusal bad_bytes1 0 0) ≡ read_as z s → Opened z s 0
+  opened-none : Err (refusal bad_bytes1 0 0) ≡ read_as z s → Opened z s 0
   opened-none q = record { bad = λ e. q; few = omega arith; long = λ h. absurd (h refl); rest = λ h. absurd (h refl) }
 
   pub opened-short : length s < mark_bytes + 1 → Opened z s 0
   unfolding read_as
   opened-short h = opened-none (rw (get_or-eq_default s 0 {n = mark_bytes} (omega arith)) (by (same (take mark_bytes s) (mark z))))
     where
-      by : (b : Bool) → ◌≡◌ {A = Res (List Array)} (refused (refusal bad_bytes1 0 0))
-          (ensure b bad_bytes1 0 >> refused (refusal bad_bytes1 0 0))
+      by : (b : Bool) → ◌≡◌ {A = Res (List Array)} (Err (refusal bad_bytes1 0 0))
+          (ensure b bad_bytes1 0 >> Err (refusal bad_bytes1 0 0))
       by true = refl
       by false = refl
 
@@ -211,23 +211,23 @@ module _ {s : List ℕ} {v : Version} (ev : v ≡ version_in s) {n : ℕ} (o : O
   by-version : read_as z s ≡ read_bundle s
   by-version = ap (λ (x : Version). read_as (sizes_of x) s) ev
 
-  pub bundle-bad : n ≡ 0 → refused (refusal bad_bytes1 0 0) ≡ read_bundle s
+  pub bundle-bad : n ≡ 0 → Err (refusal bad_bytes1 0 0) ≡ read_bundle s
   bundle-bad e = o.bad e ∙ by-version
 
   module _ (some : n ≡ 0 → ⊥) where
     rest_of : read_as z s ≡ read_rest z n s
     rest_of = o.rest some
 
-    pub bundle-refused : {x : Refusal} → refused x ≡ read_arrays z 1 n (drop (mark_bytes + 1) s) → refused x ≡ read_bundle s
+    pub bundle-refused : {x : Refusal} → Err x ≡ read_arrays z 1 n (drop (mark_bytes + 1) s) → Err x ≡ read_bundle s
     bundle-refused e = sym (rest_of ∙ rw (← e)) ∙ by-version
 
     module _ {i at : ℕ} {l : List Head} (w : Loop z s n i at l) (h : n ≤ i) where
-      pub bundle-left : at < length s → refused (refusal bad_bytes1 0 0) ≡ read_bundle s
+      pub bundle-left : at < length s → Err (refusal bad_bytes1 0 0) ≡ read_bundle s
       bundle-left b =
           let e : eqb (length s - at) 0 ≡ false = ne_eqb (length s - at) 0 (λ e. omega arith) in
           sym (rest_of ∙ rw (← loop-end w h, length-drop at s, e)) ∙ by-version
 
-      bundle-got : length s ≤ at → got (map (array_at s) (take n l)) ≡ read_bundle s
+      bundle-got : length s ≤ at → Ok (map (array_at s) (take n l)) ≡ read_bundle s
       bundle-got b =
           let e : eqb (length s - at) 0 ≡ true = eq-eqb (length s - at) 0 (omega arith) in
           sym (rest_of ∙ rw (← loop-end w h, length-drop at s, e)) ∙ by-version
@@ -248,9 +248,9 @@ module _ {s : List ℕ} {v : Version} (ev : v ≡ version_in s) {n : ℕ} (o : O
           ∙ ap₂ (λ (a b : List Head). a ++ b) (sym tidy) (blank ∙ ap (λ (j : ℕ). replicate (most_arrays - j) no_head) c) in
           record {
             said =
-                ap got (lies-said z s (mark_bytes + 1) hs at lies)
-                ∙ ap (λ (y : Version). got (lying_from (sizes_of y) (mark_bytes + 1) (map (array_at s) hs))) ev
-                ∙ ap (λ (m : Res (List Array)). m >>= (λ As. got (lying_from (sizes_in s) (mark_bytes + 1) As))) q;
+                ap Ok (lies-said z s (mark_bytes + 1) hs at lies)
+                ∙ ap (λ (y : Version). Ok (lying_from (sizes_of y) (mark_bytes + 1) (map (array_at s) hs))) ev
+                ∙ ap (λ (m : Res (List Array)). m >>= (λ As. Ok (lying_from (sizes_in s) (mark_bytes + 1) As))) q;
             tidy = λ j. record { refusal = refusal 0 0 0; version = ev j; count = c j; heads = x j };
             version = λ o. ev;
             arrays = q;

@@ -41,8 +41,7 @@ pub fn bounds_at(v: Version, s: &[u8], at: usize, n: usize) -> Bounds
     let mut names = no_names();
     let mut axes = [blank; AXES];
     let mut maxima = [blank; AXES];
-    let mut i = 0;
-    while i < n {
+    for i in 0..n {
         let here = at + i * z.axis;
         let name = name_at(v, s, here);
         let a = axis_at(s, here + z.name);
@@ -50,7 +49,6 @@ pub fn bounds_at(v: Version, s: &[u8], at: usize, n: usize) -> Bounds
         names[i] = name;
         axes[i] = a;
         maxima[i] = m;
-        i += 1;
     }
     let extent = Extent { rank: n, axes };
     let maximum = Extent {

@@ -2,10 +2,10 @@
 // A refusal with number 0 is none.
 #![tactic(auto)]
 
-ghost use Rattle.std.specs.Prelude.{◌≡◌, ◌≤◌, length, replicate};
+ghost use Rattle.std.specs.Prelude.{◌≡◌, ◌≤◌, length, replicate, Err};
 ghost use Rattle.paper.specs.declared.Version.TheVariants.{One};
 ghost use Rattle.paper.specs.Limits.{most_arrays, sizes_of};
-ghost use Rattle.paper.specs.Refusals.{refused, refusal};
+ghost use Rattle.paper.specs.Refusals.{refusal};
 ghost use Rattle.laws.specs.Answers.{no_head, reading_of};
 ghost use Rattle.bundle.specs.Read.{not_counted, head_at, JudgedArray, FormRead, Opened, ReadAll};
 
@@ -124,7 +124,7 @@ fn no_heads() -> [Head; paper::ARRAYS]
 }
 
 fn no_reading(refusal: Refusal) -> Reading
-    ensures { result ≡ reading_of One (refused refusal) }
+    ensures { result ≡ reading_of One (Err refusal) }
 {
     let heads = no_heads();
     Reading {

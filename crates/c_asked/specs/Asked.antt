@@ -1,13 +1,12 @@
 -- What is asked by numbers and bytes, as the paper's own questions: heads of arrays, a coordinate, a walking place, a total's number.
-use Rattle.std.specs.Prelude.{ℕ, zero, suc, ◌*◌, ◌/◌, ◌%◌, ◌&&◌, List, [], ◌∷◌, eqb, leb, take, drop, length, get_or, ℤ, if◌then◌else◌}
-use Rattle.std.proofs.Math.Option.{none, some}
+use Rattle.std.specs.Prelude.{ℕ, zero, suc, ◌*◌, ◌/◌, ◌%◌, ◌&&◌, List, [], ◌∷◌, eqb, leb, take, drop, length, get_or, ℤ, if◌then◌else◌, None, Some, Ok, Err}
 use Rattle.paper.specs.declared.Sizes.{Sizes}
 use Rattle.paper.specs.declared.Part.{Part}
 use Rattle.paper.specs.declared.Total.{Total}
 use Rattle.paper.specs.declared.Total.TheVariants.{Filled, Trues, Smallest, Largest, Sum, Average}
 use Rattle.paper.specs.declared.Totalled.{Totalled}
 use Rattle.paper.specs.Limits.{most_arrays, most_axes, limit_bytes, type_bytes}
-use Rattle.paper.specs.Refusals.{Res, got, refused, ◌>>=◌, refusal, unknown4}
+use Rattle.paper.specs.Refusals.{Res, ◌>>=◌, refusal, unknown4}
 use Rattle.paper.specs.Numbers.{le_of, le_bytes, signed_at, nth, over}
 use Rattle.paper.specs.Axes.{Shape, shaped}
 use Rattle.paper.specs.Bundle.{version_told, name_of, axis_of, maximum_of, each_axis, read_bundle, packed, After, put_into}
@@ -33,7 +32,7 @@ each_piece one size (suc n) bs = one bs ∷ each_piece one size n (drop size bs)
 unfoldable pub count_of : List ℕ → Res ℕ
 count_of bundle = do
   As ← read_bundle bundle
-  got (length As)
+  Ok (length As)
 
 -- ---- heads: type, axis count, and room for as many axes as the version's arrays may have
 
@@ -95,7 +94,7 @@ all_totals = Filled ∷ Trues ∷ Smallest ∷ Largest ∷ Sum ∷ Average ∷ [
 unfoldable pub no_total : List ℕ → ℕ → Res Totalled
 no_total bundle k = do
   A ← chosen bundle k
-  refused (refusal unknown4 k 0)
+  Err (refusal unknown4 k 0)
 
 unfoldable pub total_asked : List ℕ → ℕ → ℕ → Res Totalled
-total_asked bundle k which = elim (nth all_totals which) [ none ↦ no_total bundle k | some t ↦ totals bundle k t ]
+total_asked bundle k which = elim (nth all_totals which) [ None ↦ no_total bundle k | Some t ↦ totals bundle k t ]

@@ -5,7 +5,6 @@ ghost use Rattle.std.specs.Prelude.{◌≡◌, ◌+◌, ◌≤◌, ◌<◌, leng
 ghost use Rattle.paper.specs.Limits.{limit_bytes, sizes_of};
 ghost use Rattle.paper.specs.Numbers.{signed_at};
 ghost use Rattle.paper.specs.Reference.{reference, walk};
-ghost use Rattle.paper.specs.Answers.{reference_said, seen_said, total_said};
 ghost use Rattle.laws.specs.Answers.{form_of};
 ghost use Rattle.pack.specs.Heads.{head_length};
 ghost use Rattle.c_asked.specs.Asked.{pieces, head_count, side_shape, coordinate_in, place_in, place_after, no_total, total_asked};
@@ -15,10 +14,7 @@ use bundle::axes::bounds_at;
 use bundle::no_head;
 use cell::bytes::{half, put4};
 use pack::put::whole_head;
-use paper::{
-    Form, LIMIT_BYTES, Ordinality, ReferenceAnswer, TYPE_BYTES, Total, TotalAnswer, Version,
-    WalkAnswer,
-};
+use paper::{Cell, Form, LIMIT_BYTES, Ordinality, Refusal, TYPE_BYTES, Total, Totalled, Version};
 use refer::{choose, refer, walk_step};
 use refusals::refuse;
 use totals::total;
@@ -86,11 +82,9 @@ pub fn forms_in(v: Version, heads: &[u8]) -> Forms
     let none = no_head();
     let blank = none.form;
     let mut forms = [blank; paper::ARRAYS];
-    let mut i: usize = 0;
-    while i < count {
+    for i in 0..count {
         let form = form_at(v, heads, i * size);
         forms[i] = form;
-        i += 1;
     }
     Forms { count, forms }
 }
@@ -113,24 +107,17 @@ fn signed_at(s: &[u8], at: usize) -> i32
     requires { at + limit_bytes ≤ length s.now }
     ensures { result ≡ signed_at at s.now }
 {
-    let n = half(s, at);
-    if n < 2147483648 {
-        n as i32
-    } else {
-        !((!n) as i32)
-    }
+    half(s, at).cast_signed()
 }
 
 // The cell of array k at the coordinate whose numbers these bytes are.
-pub fn refer_bytes(s: &[u8], k: u32, at: &[u8]) -> ReferenceAnswer
-    ensures { reference_said result ≡ reference s.now k (coordinate_in at.now) }
+pub fn refer_bytes(s: &[u8], k: u32, at: &[u8]) -> Result<Cell, Refusal>
+    ensures { result ≡ reference s.now k (coordinate_in at.now) }
 {
     let n = pieces_of(paper::AXES, LIMIT_BYTES, at.len());
     let mut zs = [0i32; paper::AXES];
-    let mut i: usize = 0;
-    while i < n {
+    for i in 0..n {
         zs[i] = signed_at(at, i * LIMIT_BYTES);
-        i += 1;
     }
     refer(s, k, &zs[0..n])
 }
@@ -158,8 +145,8 @@ fn place_on(place: &mut [u8], o: u32)
 }
 
 // One step of a walk over array k from the place in these bytes, which is moved forward where it stands.
-pub fn walk_bytes(s: &[u8], k: u32, place: &mut [u8]) -> WalkAnswer
-    ensures { (seen_said result ≡ (walk s.now k (place_in place.old)).answer)
+pub fn walk_bytes(s: &[u8], k: u32, place: &mut [u8]) -> Result<Option<Cell>, Refusal>
+    ensures { (result ≡ (walk s.now k (place_in place.old)).answer)
         × (place.new ≡ place_after (walk s.now k (place_in place.old)).place place.old) }
 {
     let step = walk_step(s, k, Ordinality(place_in(place)));
@@ -171,20 +158,20 @@ pub fn walk_bytes(s: &[u8], k: u32, place: &mut [u8]) -> WalkAnswer
 // ---- a total
 
 // No total has this number: refused as an unknown operator is, once there is such an array.
-fn no_total(s: &[u8], k: u32) -> TotalAnswer
-    ensures { total_said result ≡ no_total s.now k }
+fn no_total(s: &[u8], k: u32) -> Result<Totalled, Refusal>
+    ensures { result ≡ no_total s.now k }
 {
     let array = choose(s, k);
     let refusal = array.refusal;
     if refusal.number != 0 {
-        return TotalAnswer::Refused(refusal);
+        return Err(refusal);
     }
-    TotalAnswer::Refused(refuse(4, k))
+    Err(refuse(4, k))
 }
 
 // The total of array k that has the number `which`.
-pub fn total_asked(s: &[u8], k: u32, which: u32) -> TotalAnswer
-    ensures { total_said result ≡ total_asked s.now k which }
+pub fn total_asked(s: &[u8], k: u32, which: u32) -> Result<Totalled, Refusal>
+    ensures { result ≡ total_asked s.now k which }
 {
     match which {
         1 => total(s, k, Total::Filled),

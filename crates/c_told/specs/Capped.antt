@@ -1,11 +1,11 @@
 -- A byte place that four bytes have room for is told as it is, another as the largest number: the two ways out of the code, and that an
 -- answer whose ordinality fits is said as it stands.
-use Rattle.std.specs.Prelude.{ℕ, ◌≤◌, ◌<◌, ◌≡◌}
+use Rattle.std.specs.Prelude.{ℕ, ◌≤◌, ◌<◌, ◌≡◌, Result, Ok, Err}
 use Rattle.std.proofs.Common.{sym, ap, subst, le-leb}
 use Rattle.std.proofs.lemmas.Bool.{lt-leb}
 use Rattle.paper.specs.declared.Refusal.{Refusal}
-use Rattle.paper.specs.declared.JsonAnswer.{JsonAnswer}
-use Rattle.paper.specs.declared.JsonAnswer.TheVariants as Json
+use Rattle.paper.specs.declared.JsonRefusal.{JsonRefusal}
+use Rattle.paper.specs.declared.JsonRefusal.TheVariants as Json
 use Rattle.paper.specs.Refusals.{Res, refusal}
 use Rattle.paper.specs.Answers.{json_said}
 use Rattle.c_told.specs.declared.Reply.{Reply}
@@ -26,16 +26,16 @@ refusal-fits r h = ap (refusal r.number r.place) (sym (capped_fits r.ordinality 
 
 -- ---- an answer of reading JSON
 
-abbrev json_capped : JsonAnswer → Res ℕ
+abbrev json_capped : Result ℕ JsonRefusal → Res ℕ
 json_capped a = capped_in (json_said a)
 
-module _ {a : JsonAnswer} {reply : Reply} where
+module _ {a : Result ℕ JsonRefusal} {reply : Reply} where
   -- the case of an answer tells what the answer does
-  pub json-arm : (b : JsonAnswer) → a ≡ b → Tells (answered number_bytes (json_capped b)) reply
+  pub json-arm : (b : Result ℕ JsonRefusal) → a ≡ b → Tells (answered number_bytes (json_capped b)) reply
       → Tells (answered number_bytes (json_capped a)) reply
   json-arm b = arm number_bytes json_capped a b reply
 
   -- a refusal with an ordinality that fits
-  pub json-refused : (r : Refusal) → a ≡ Json.Refused r → r.ordinality ≤ largest → Tells (refusing r) reply
+  pub json-refused : (r : Refusal) → a ≡ Err (Json.Refused r) → r.ordinality ≤ largest → Tells (refusing r) reply
       → Tells (answered number_bytes (json_capped a)) reply
-  json-refused r e h t = json-arm (Json.Refused r) e (subst (λ (q : Refusal). Tells (refusing q) reply) (sym (refusal-fits r h)) t)
+  json-refused r e h t = json-arm (Err (Json.Refused r)) e (subst (λ (q : Refusal). Tells (refusing q) reply) (sym (refusal-fits r h)) t)

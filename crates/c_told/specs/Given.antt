@@ -1,12 +1,11 @@
 -- What is given: the bytes of each answer. A cell has its nine bytes, as in a bundle; every other figure is a number of four bytes.
-use Rattle.std.specs.Prelude.{ℕ, ◌+◌, List, [], ◌∷◌, length, replicate, pos}
+use Rattle.std.specs.Prelude.{ℕ, ◌+◌, List, [], ◌∷◌, length, replicate, pos, Some, None, Option}
+use Rattle.paper.specs.declared.Cell.{Cell}
 use Rattle.paper.specs.declared.Cell.TheVariants.{Int}
 use Rattle.paper.specs.declared.Foreseen.{Foreseen}
 use Rattle.paper.specs.declared.Listed.{Listed}
 use Rattle.paper.specs.declared.Part.{Part}
 use Rattle.paper.specs.declared.Part.TheVariants.{Left, Right}
-use Rattle.paper.specs.declared.Seen.{Seen}
-use Rattle.paper.specs.declared.Seen.TheVariants.{Held, End}
 use Rattle.paper.specs.declared.Totalled.{Totalled}
 use Rattle.paper.specs.declared.Totalled.TheVariants.{Count, Is}
 use Rattle.paper.specs.Limits.{cell_bytes}
@@ -23,9 +22,9 @@ abbrev pub array_bytes : Shape × ℕ → List ℕ
 array_bytes (s, at) = numbers (s.type ∷ length s.axes ∷ cells s.axes ∷ at ∷ [])
 
 -- a walk: 1 and the cell; at the end zeros
-abbrev pub seen_bytes : Seen → List ℕ
-seen_bytes (Held c) = 1 ∷ encode c
-seen_bytes End = replicate (1 + cell_bytes) 0
+abbrev pub seen_bytes : Option Cell → List ℕ
+seen_bytes (Some c) = 1 ∷ encode c
+seen_bytes None = replicate (1 + cell_bytes) 0
 
 -- a total: a cell; a count as an INT cell
 abbrev pub total_bytes : Totalled → List ℕ

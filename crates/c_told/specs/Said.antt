@@ -1,8 +1,8 @@
 -- What a call says: a number, and bytes in a buffer that is lent, as many as there is room for.
-use Rattle.std.specs.Prelude.{ℕ, List, [], ◌∷◌, ◌++◌, leb, take, length, if◌then◌else◌}
+use Rattle.std.specs.Prelude.{ℕ, List, [], ◌∷◌, ◌++◌, leb, take, length, if◌then◌else◌, Ok, Err}
 use Rattle.paper.specs.declared.Refusal.{Refusal}
 use Rattle.paper.specs.Limits.{limit_bytes}
-use Rattle.paper.specs.Refusals.{Res, got, refused}
+use Rattle.paper.specs.Refusals.{Res}
 use Rattle.paper.specs.Numbers.{le_bytes, over}
 
 -- numbers one after the other, four bytes each
@@ -28,8 +28,8 @@ refusing r = record { number = r.number; said = refusal_bytes r }
 
 -- an answer's bytes under number 0; a refusal's under its number
 abbrev pub answered : {A : Type 0} → (A → List ℕ) → Res A → Spoken
-answered bytes (got a) = record { number = 0; said = bytes a }
-answered bytes (refused r) = refusing r
+answered bytes (Ok a) = record { number = 0; said = bytes a }
+answered bytes (Err r) = refusing r
 
 -- and these in the buffer
 unfoldable pub spoken : {A : Type 0} → (A → List ℕ) → Res A → List ℕ → Spoken
@@ -50,5 +50,5 @@ capped_refusal r = record { number = r.number; place = r.place; ordinality = cap
 
 -- an answer, its refusal's ordinality so told
 abbrev pub capped_in : {A : Type 0} → Res A → Res A
-capped_in (got a) = got a
-capped_in (refused r) = refused (capped_refusal r)
+capped_in (Ok a) = Ok a
+capped_in (Err r) = Err (capped_refusal r)

@@ -2,18 +2,17 @@
 // Where the buffer is shorter, its bytes are the first of the answer's; where it is longer, the bytes after the answer stay.
 #![tactic(auto)]
 
-ghost use Rattle.std.specs.Prelude.{◌≡◌, ◌≤◌, length};
-ghost use Rattle.paper.specs.Refusals.{got, refusal};
+ghost use Rattle.std.specs.Prelude.{◌≡◌, ◌≤◌, length, Ok, Err};
+ghost use Rattle.paper.specs.Refusals.{refusal};
 ghost use Rattle.paper.specs.Cells.{encode};
-ghost use Rattle.paper.specs.Answers.{number_said, json_said, plan_said, reference_said, seen_said, total_said, page_said, stretch_said};
+ghost use Rattle.paper.specs.Answers.{json_said};
 ghost use Rattle.c_told.specs.Said.{answered, refusing, capped, capped_in};
 ghost use Rattle.c_told.specs.Given.{number_bytes, foreseen_bytes, seen_bytes, total_bytes, listed_bytes, part_bytes};
 ghost use Rattle.c_told.specs.Replies.{Tells, given, four};
 
 use cell::bytes::{copy_bytes, put4, write_cell};
 use paper::{
-    CELL_BYTES, Cell, JsonAnswer, LIMIT_BYTES, NumberAnswer, PageAnswer, Part, PlanAnswer,
-    ReferenceAnswer, Refusal, Seen, StretchAnswer, TotalAnswer, Totalled, WalkAnswer,
+    CELL_BYTES, Cell, Foreseen, JsonRefusal, LIMIT_BYTES, Listed, Part, Refusal, Totalled,
 };
 
 // The bytes of the longest answer: four numbers.
@@ -75,18 +74,18 @@ pub fn refused(refusal: Refusal) -> Reply
 
 // A count or a length.
 pub fn of_number(n: u32) -> Reply
-    ensures { Tells (answered number_bytes (got n)) result }
+    ensures { Tells (answered number_bytes (Ok n)) result }
 {
     of_numbers(0, LIMIT_BYTES, n, 0, 0, 0)
 }
 
 // Of packing, of writing JSON, of a run.
-pub fn of_counted(answer: NumberAnswer) -> Reply
-    ensures { Tells (answered number_bytes (number_said answer)) result }
+pub fn of_counted(answer: Result<u32, Refusal>) -> Reply
+    ensures { Tells (answered number_bytes answer) result }
 {
     match answer {
-        NumberAnswer::Got(n) => of_number(n),
-        NumberAnswer::Refused(refusal) => refused(refusal),
+        Ok(n) => of_number(n),
+        Err(refusal) => refused(refusal),
     }
 }
 
@@ -115,65 +114,67 @@ fn text_refused(number: u8, place: usize) -> Reply
     })
 }
 
-// Of reading JSON: the number of cells; 15 and 16 with the place of a byte.
-pub fn of_json(answer: JsonAnswer) -> Reply
+// Why a text is not read: 15 and 16 with the place of a byte, or another refusal.
+fn json_refused(refusal: JsonRefusal) -> Reply
+    ensures { Tells (answered number_bytes (capped_in (json_said (Err refusal)))) result }
+{
+    match refusal {
+        JsonRefusal::NotJson(place) => text_refused(15, place),
+        JsonRefusal::Misfit(place) => text_refused(16, place),
+        JsonRefusal::Refused(other) => refused(other),
+    }
+}
+
+// Of reading JSON: the number of cells, or why not.
+pub fn of_json(answer: Result<u32, JsonRefusal>) -> Reply
     ensures { Tells (answered number_bytes (capped_in (json_said answer))) result }
 {
     match answer {
-        JsonAnswer::Got(n) => of_number(n),
-        JsonAnswer::NotJson(place) => text_refused(15, place),
-        JsonAnswer::Misfit(place) => text_refused(16, place),
-        JsonAnswer::Refused(refusal) => refused(refusal),
+        Ok(n) => of_number(n),
+        Err(refusal) => json_refused(refusal),
     }
 }
 
 // T, and the last result's type, axis count and number of cells.
-pub fn of_plan(answer: PlanAnswer) -> Reply
-    ensures { Tells (answered foreseen_bytes (plan_said answer)) result }
+pub fn of_plan(answer: Result<Foreseen, Refusal>) -> Reply
+    ensures { Tells (answered foreseen_bytes answer) result }
 {
     match answer {
-        PlanAnswer::Got(plan) => of_numbers(
-            0,
-            MOST,
-            plan.total,
-            plan.kind as u32,
-            plan.axes,
-            plan.cells,
-        ),
-        PlanAnswer::Refused(refusal) => refused(refusal),
+        Ok(plan) => of_numbers(0, MOST, plan.total, plan.kind as u32, plan.axes, plan.cells),
+        Err(refusal) => refused(refusal),
     }
 }
 
 // Rows written, and where to go on.
-pub fn of_page(answer: PageAnswer) -> Reply
-    ensures { Tells (answered listed_bytes (page_said answer)) result }
+pub fn of_page(answer: Result<Listed, Refusal>) -> Reply
+    ensures { Tells (answered listed_bytes answer) result }
 {
     match answer {
-        PageAnswer::Got(listed) => {
+        Ok(listed) => {
             let next = listed.next;
             of_numbers(0, 2 * LIMIT_BYTES, listed.written, next.0, 0, 0)
         }
-        PageAnswer::Refused(refusal) => refused(refusal),
+        Err(refusal) => refused(refusal),
     }
 }
 
 // The side, and the bytes from and up to which the part lies.
-pub fn of_stretch(answer: StretchAnswer) -> Reply
-    ensures { Tells (answered part_bytes (stretch_said answer)) result }
+pub fn of_stretch(answer: Result<Part, Refusal>) -> Reply
+    ensures { Tells (answered part_bytes answer) result }
 {
     match answer {
-        StretchAnswer::Got(part) => match part {
+        Ok(part) => match part {
             Part::Left(from, to) => of_numbers(0, 3 * LIMIT_BYTES, 1, from, to, 0),
             Part::Right(from, to) => of_numbers(0, 3 * LIMIT_BYTES, 2, from, to, 0),
         },
-        StretchAnswer::Refused(refusal) => refused(refusal),
+        Err(refusal) => refused(refusal),
     }
 }
 
 // ---- cells
 
 fn of_cell(cell: Cell) -> Reply
-    ensures { Tells (answered encode (got cell)) result }
+    ensures { Tells (answered encode (Ok cell)) result }
 {
     let mut bytes = [0u8; MOST];
     write_cell(&mut bytes, 0, cell);
@@ -184,33 +185,33 @@ fn of_cell(cell: Cell) -> Reply
     }
 }
 
-pub fn of_reference(answer: ReferenceAnswer) -> Reply
-    ensures { Tells (answered encode (reference_said answer)) result }
+pub fn of_reference(answer: Result<Cell, Refusal>) -> Reply
+    ensures { Tells (answered encode answer) result }
 {
     match answer {
-        ReferenceAnswer::Got(cell) => of_cell(cell),
-        ReferenceAnswer::Refused(refusal) => refused(refusal),
+        Ok(cell) => of_cell(cell),
+        Err(refusal) => refused(refusal),
     }
 }
 
 // A cell that a walk has seen, after a 1; at the end all zeros.
-pub fn of_walk(answer: WalkAnswer) -> Reply
-    ensures { Tells (answered seen_bytes (seen_said answer)) result }
+pub fn of_walk(answer: Result<Option<Cell>, Refusal>) -> Reply
+    ensures { Tells (answered seen_bytes answer) result }
 {
     let mut bytes = [0u8; MOST];
     let long = SEEN;
     let number = 0;
     match answer {
-        WalkAnswer::Refused(refusal) => return refused(refusal),
-        WalkAnswer::Got(seen) => match seen {
-            Seen::End => {
+        Err(refusal) => return refused(refusal),
+        Ok(seen) => match seen {
+            None => {
                 return Reply {
                     number,
                     long,
                     bytes,
                 };
             }
-            Seen::Held(cell) => {
+            Some(cell) => {
                 bytes[0] = 1;
                 write_cell(&mut bytes, 1, cell);
                 return Reply {
@@ -224,14 +225,14 @@ pub fn of_walk(answer: WalkAnswer) -> Reply
 }
 
 // The cell of a total; a count is one of an INT.
-pub fn of_total(answer: TotalAnswer) -> Reply
-    ensures { Tells (answered total_bytes (total_said answer)) result }
+pub fn of_total(answer: Result<Totalled, Refusal>) -> Reply
+    ensures { Tells (answered total_bytes answer) result }
 {
     match answer {
-        TotalAnswer::Got(total) => match total {
+        Ok(total) => match total {
             Totalled::Count(n) => of_cell(Cell::Int(n as i64)),
             Totalled::Is(cell) => of_cell(cell),
         },
-        TotalAnswer::Refused(refusal) => refused(refusal),
+        Err(refusal) => refused(refusal),
     }
 }

@@ -1,13 +1,12 @@
 -- The laws of an exact total: a cell more, and what the total says when all cells went in. All is linear, in the numbers' two parts.
 -- Assumes nothing.
+use Rattle.std.specs.Prelude.{Ok, Err}
+use Rattle.paper.specs.declared.Fault.TheVariants.{NoFit}
 use Rattle.std.proofs.Common.{◌≡◌, ℕ, ◌+◌, ◌-◌, ◌*◌, ◌/◌, ◌%◌, ◌^◌, ◌<◌, ◌≤◌, List, [], ◌∷◌, ◌++◌, length, ℤ, pos, ◌+ℤ◌, ◌-ℤ◌, sym, refl, ap, ◌∙◌, ap₂, arith, length-append, w64, SFits, to_z, of_z}
 use lib.IntN.{+ℤ_idl, +ℤ_idr, +ℤ_assoc}
 use Rattle.paper.specs.Limits.{smallest_int, most_cells}
-use Rattle.paper.specs.Refusals.{no_fit12}
-use Rattle.paper.specs.Operators.{fit_int, answered}
+use Rattle.paper.specs.Operators.{fit_int, answered, Answer}
 use Rattle.paper.specs.Totals.{Numbered, int, int_total, int_sum}
-use Rattle.paper.specs.declared.Answer.{Answer}
-use Rattle.paper.specs.declared.Answer.TheVariants.{Is, Refused}
 use Rattle.paper.specs.declared.Cell.TheVariants.{Empty, Int}
 use Rattle.laws.specs.Parts.{up, dn, one-part, add_parts, minus-parts, parts-eq}
 use Rattle.cell.specs.declared.sums.Exact.{Exact}
@@ -49,7 +48,7 @@ module _ (t : Exact) (x h l n : ℕ) (z : ℤ) (e : pos x ≡ z -ℤ smallest_in
 
 -- ---- the answer
 
-pub none_said : (t : Exact) → t.count ≡ 0 → (k : ℕ) (cs : List Numbered) → Sums t cs → answered k 0 (Is Empty) ≡ int_sum k cs
+pub none_said : (t : Exact) → t.count ≡ 0 → (k : ℕ) (cs : List Numbered) → Sums t cs → answered k 0 (Ok Empty) ≡ int_sum k cs
 unfolding answered int_sum
 none_said t e k [] s = refl
 none_said t e k (c ∷ cs) s = absurd (omega (arith, s.count))
@@ -65,20 +64,20 @@ module _ (t : Exact) (some : t.count ≡ 0 → ⊥) (top : ℕ) (e : top ≡ ((t
   exact : (top ≡ t.high + t.low / 2 ^ 32 + 2 ^ 31) × (t.count ≤ most_cells)
   exact = omega (arith, s.few, s.highs, s.lows)
 
-  pub too-low : top < t.count * 2 ^ 31 → answered k 0 (Refused no_fit12) ≡ int_sum k cs
+  pub too-low : top < t.count * 2 ^ 31 → answered k 0 (Err NoFit) ≡ int_sum k cs
   too-low l =
-      said t (Refused no_fit12) some
+      said t (Err NoFit) some
       (sym (fit_low (worth t) (omega (arith, exact, minus-parts (pos (t.high * 2 ^ 32 + t.low)) (pos (t.count * 2 ^ 63)))))) k cs s
 
-  pub too-high : 2 ^ 32 ≤ top - t.count * 2 ^ 31 → answered k 0 (Refused no_fit12) ≡ int_sum k cs
+  pub too-high : 2 ^ 32 ≤ top - t.count * 2 ^ 31 → answered k 0 (Err NoFit) ≡ int_sum k cs
   too-high l =
-      said t (Refused no_fit12) some
+      said t (Err NoFit) some
       (sym (fit-high (worth t) (omega (arith, exact, minus-parts (pos (t.high * 2 ^ 32 + t.low)) (pos (t.count * 2 ^ 63)))))) k cs s
 
   pub fitting : t.count * 2 ^ 31 ≤ top → (z : ℤ) → SFits w64 z → z ≡ pos ((top - t.count * 2 ^ 31) * 2 ^ 32 + t.low % 2 ^ 32) +ℤ smallest_int
-      → answered k 0 (Is (Int (to_z w64 (of_z w64 z)))) ≡ int_sum k cs
+      → answered k 0 (Ok (Int (to_z w64 (of_z w64 z)))) ≡ int_sum k cs
   fitting l z f i =
       let x : ℕ = (top - t.count * 2 ^ 31) * 2 ^ 32 + t.low % 2 ^ 32 in
       let w : pos x +ℤ smallest_int ≡ worth t = parts-eq (pos x +ℤ smallest_int) (worth t)
       (omega (arith, exact, add_parts (pos x) smallest_int, minus-parts (pos (t.high * 2 ^ 32 + t.low)) (pos (t.count * 2 ^ 63)))) in
-      said t (Is (Int (to_z w64 (of_z w64 z)))) some (fit-back z f ∙ ap fit_int (i ∙ w)) k cs s
+      said t (Ok (Int (to_z w64 (of_z w64 z)))) some (fit-back z f ∙ ap fit_int (i ∙ w)) k cs s

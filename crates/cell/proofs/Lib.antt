@@ -1,4 +1,4 @@
--- Laws that the functions' proofs cite; other crates cite those of Finite, Fit and Runs.
+-- Laws that the functions' proofs cite; other crates cite those of Cases and Runs.
 pub mod Cases
 pub mod Exactly
 pub mod Finite
@@ -7,6 +7,4 @@ pub mod Number
 pub mod Onward
 pub mod Runs
 pub mod Signs
-pub mod Top
-pub mod Twos
 pub mod Wrap

@@ -1,4 +1,3 @@
 -- What the contracts cite beside the paper's definitions.
-pub mod Reads
 pub mod Signs
 pub mod Totals

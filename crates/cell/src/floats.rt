@@ -5,51 +5,49 @@ ghost use Rattle.std.specs.Float.Ieee.{add, sub, mul};
 ghost use Rattle.paper.specs.Cells.{finite};
 ghost use Rattle.paper.specs.Operators.{fit_float, float_div, abs_float};
 
-use crate::{BY_ZERO, NO_FIT};
-use paper::{Answer, Cell};
+use paper::{Cell, Fault};
 
-// Whether x is a number: below one infinity and above the other. A NaN is neither.
+// Whether x is a number: no infinity and no NaN.
 pub fn is_finite(x: f64) -> bool
     ensures { result ≡ finite x }
 {
-    let top = f64::from_bits(0x7ff0_0000_0000_0000);
-    if x < top { -top < x } else { false }
+    x.is_finite()
 }
 
 // A FLOAT result, or refusal 12 where it isn't finite.
-pub fn fit_float(x: f64) -> Answer
+pub fn fit_float(x: f64) -> Result<Cell, Fault>
     ensures { result ≡ fit_float x }
 {
     if is_finite(x) {
-        Answer::Is(Cell::Float(x))
+        Ok(Cell::Float(x))
     } else {
-        Answer::Refused(NO_FIT)
+        Err(Fault::NoFit)
     }
 }
 
-pub fn float_add(a: f64, b: f64) -> Answer
+pub fn float_add(a: f64, b: f64) -> Result<Cell, Fault>
     ensures { result ≡ fit_float (add binary64 a b) }
 {
     fit_float(a + b)
 }
 
-pub fn float_sub(a: f64, b: f64) -> Answer
+pub fn float_sub(a: f64, b: f64) -> Result<Cell, Fault>
     ensures { result ≡ fit_float (sub binary64 a b) }
 {
     fit_float(a - b)
 }
 
-pub fn float_mul(a: f64, b: f64) -> Answer
+pub fn float_mul(a: f64, b: f64) -> Result<Cell, Fault>
     ensures { result ≡ fit_float (mul binary64 a b) }
 {
     fit_float(a * b)
 }
 
-pub fn float_div(a: f64, b: f64) -> Answer
+pub fn float_div(a: f64, b: f64) -> Result<Cell, Fault>
     ensures { result ≡ float_div a b }
 {
     if b == 0.0 {
-        return Answer::Refused(BY_ZERO);
+        return Err(Fault::ByZero);
     }
     fit_float(a / b)
 }
@@ -58,11 +56,5 @@ pub fn float_div(a: f64, b: f64) -> Answer
 pub fn float_abs(x: f64) -> f64
     ensures { result ≡ abs_float x }
 {
-    if x < 0.0 {
-        return -x;
-    }
-    if x == 0.0 {
-        return 0.0;
-    }
-    x
+    x.abs()
 }

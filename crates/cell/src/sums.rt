@@ -6,9 +6,7 @@ ghost use Rattle.paper.specs.Operators.{answered};
 ghost use Rattle.paper.specs.Totals.{Numbered, int, int_sum};
 ghost use Rattle.cell.specs.Totals.{Sums};
 
-use crate::NO_FIT;
-use crate::bytes::{signed, unsigned};
-use paper::{Answer, Cell};
+use paper::{Cell, Fault};
 
 const SIGN: u64 = 9223372036854775808;
 
@@ -25,14 +23,14 @@ pub struct Exact {
 pub fn distance(z: i64) -> u64
     ensures { pos result ≡ z -ℤ smallest_int }
 {
-    std::num::wrapping_add_u64(unsigned(z), SIGN)
+    z.cast_unsigned().wrapping_add(SIGN)
 }
 
 // The number that lies x above the smallest INT.
 pub fn above(x: u64) -> i64
     ensures { result ≡ pos x +ℤ smallest_int }
 {
-    signed(std::num::wrapping_add_u64(x, SIGN))
+    x.wrapping_add(SIGN).cast_signed()
 }
 
 // No cell yet.
@@ -53,31 +51,28 @@ pub fn exact_with(t: Exact, z: i64) -> Exact
 {
     let x = distance(z);
     Exact {
-        high: std::num::wrapping_add_u64(t.high, x / HALF),
-        low: std::num::wrapping_add_u64(t.low, x % HALF),
-        count: std::num::wrapping_add_u32(t.count, 1),
+        high: t.high.wrapping_add(x / HALF),
+        low: t.low.wrapping_add(x % HALF),
+        count: t.count.wrapping_add(1),
     }
 }
 
 // The INT sum of the cells that went in: their total, or refusal 12; empty where none did.
-pub fn exact_answer(t: Exact) -> Answer
+pub fn exact_answer(t: Exact) -> Result<Cell, Fault>
     ensures { (k : ℕ) (cs : List Numbered) → Sums t cs → answered k 0 result ≡ int_sum k cs }
 {
     if t.count == 0 {
-        return Answer::Is(Cell::Empty);
+        return Ok(Cell::Empty);
     }
-    let top = std::num::wrapping_add_u64(
-        std::num::wrapping_add_u64(t.high, t.low / HALF),
-        HALF / 2,
-    );
+    let top = t.high.wrapping_add(t.low / HALF).wrapping_add(HALF / 2);
     let base = (t.count as u64) * (HALF / 2);
     if top < base {
-        return Answer::Refused(NO_FIT);
+        return Err(Fault::NoFit);
     }
     let d = top - base;
     if d < HALF {
-        Answer::Is(Cell::Int(above(d * HALF + t.low % HALF)))
+        Ok(Cell::Int(above(d * HALF + t.low % HALF)))
     } else {
-        Answer::Refused(NO_FIT)
+        Err(Fault::NoFit)
     }
 }

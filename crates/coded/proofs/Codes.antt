@@ -1,9 +1,9 @@
 -- The codes known are exactly those of a type with an operator that takes it; when there is one, and when there is none. A code says its
 -- type and its operator again: so the match on a code is the operator. Assumes nothing.
+use Rattle.std.specs.Prelude.{Some}
 use Prim.Native.Nat.{ℕ, ◌≤◌, ◌<◌, zero, suc, ◌+◌, ◌-◌, ◌/◌, ◌%◌}
 use mathlib.Core.Path.{◌≡◌, refl, ap, sym, ◌∙◌, subst}
 use mathlib.Core.Bool.{true, false, ◌&&◌}
-use mathlib.Core.Option.{some}
 use native.Mathlib.Omega.{arith}
 use lib.Dec.{ltb, T, leb}
 use borrow.Author.Tests.{ltb-true, le-leb, lt-leb, leb-true}
@@ -23,7 +23,7 @@ use Rattle.laws.specs.Tests.{and_left, and_right}
 abbrev pub Pair : PairOp → ℕ → Type 0
 Pair op kind = known (pair_code kind (pair_no op)) ≡ takes op kind
 
-pub known-pair : (op : PairOp) → (pair_op (pair_no op) ≡ some op) × (ltb (pair_no op) 16 ≡ true) × Pair op INT × Pair op FLOAT × Pair op BOOLEAN
+pub known-pair : (op : PairOp) → (pair_op (pair_no op) ≡ Some op) × (ltb (pair_no op) 16 ≡ true) × Pair op INT × Pair op FLOAT × Pair op BOOLEAN
 unfolding takes
 known-pair Add = (refl, refl, refl, refl, refl)
 known-pair Sub = (refl, refl, refl, refl, refl)
@@ -42,7 +42,7 @@ known-pair Or = (refl, refl, refl, refl, refl)
 abbrev pub Single : SingleOp → ℕ → Type 0
 Single op kind = known (single_code kind (single_no op)) ≡ takes_one op kind
 
-pub known-single : (op : SingleOp) → (single_op (single_no op) ≡ some op) × (ltb (single_no op) 16 ≡ true) × Single op INT × Single op FLOAT × Single op BOOLEAN
+pub known-single : (op : SingleOp) → (single_op (single_no op) ≡ Some op) × (ltb (single_no op) 16 ≡ true) × Single op INT × Single op FLOAT × Single op BOOLEAN
 unfolding takes_one
 known-single Negate = (refl, refl, refl, refl, refl)
 known-single Absolute = (refl, refl, refl, refl, refl)

@@ -1,4 +1,5 @@
 -- The arms of the matches on a code: each calls what its code says, and the last has no code. Assumes nothing.
+use Rattle.std.specs.Prelude.{Ok}
 use Prim.Native.Nat.{ℕ, ◌≤◌, ◌<◌}
 use mathlib.Core.Path.{◌≡◌, refl, sym, ap, ap₂, ◌∙◌}
 use mathlib.Core.Bool.{false}
@@ -7,9 +8,7 @@ use native.Mathlib.Omega.{arith}
 use lib.Dec.{eqb}
 use borrow.Author.Tests.{ne_eqb, le-leb, lt-leb}
 use Rattle.paper.specs.Limits.{FLOAT}
-use Rattle.paper.specs.Operators.{pair_cell, single_cell}
-use Rattle.paper.specs.declared.Answer.{Answer}
-use Rattle.paper.specs.declared.Answer.TheVariants.{Is}
+use Rattle.paper.specs.Operators.{pair_cell, single_cell, Answer}
 use Rattle.paper.specs.declared.Cell.{Cell}
 use Rattle.paper.specs.declared.Cell.TheVariants.{Empty}
 use Rattle.paper.specs.declared.PairOp.{PairOp}
@@ -39,18 +38,18 @@ none-among k [] d = refl
 none-among k (x ∷ xs) d = let h : eqb k x ≡ false = ne_eqb k x d.1 in simp h (none-among k xs d.0)
 
 module _ (i x j y k : ℕ) where
-  no_code : known k ≡ false → Is Empty ≡ answered k i x j y
+  no_code : known k ≡ false → Ok Empty ≡ answered k i x j y
   unfolding code_cell
   no_code h = let z : known k ≡ false = h in simp z
 
-  pub no-int : k < 16 → Differs k int_codes → Is Empty ≡ answered k i x j y
+  pub no-int : k < 16 → Differs k int_codes → Ok Empty ≡ answered k i x j y
   no-int l d = no_code (simp (lt-leb 48 k (omega arith), lt-leb 32 k (omega arith), lt-leb 16 k l) (none-among k int_codes d))
 
-  pub no-float : 16 ≤ k → k < 32 → Differs k float_codes → Is Empty ≡ answered k i x j y
+  pub no-float : 16 ≤ k → k < 32 → Differs k float_codes → Ok Empty ≡ answered k i x j y
   no-float f l d = no_code (simp (lt-leb 48 k (omega arith), lt-leb 32 k l, le-leb 16 k f) (none-among k float_codes d))
 
-  pub no_truth : 32 ≤ k → k < 48 → Differs k truth_codes → Is Empty ≡ answered k i x j y
+  pub no_truth : 32 ≤ k → k < 48 → Differs k truth_codes → Ok Empty ≡ answered k i x j y
   no_truth f l d = no_code (simp (lt-leb 48 k l, le-leb 32 k f) (none-among k truth_codes d))
 
-  pub no-single : 48 ≤ k → Differs k single_codes → Is Empty ≡ answered k i x j y
+  pub no-single : 48 ≤ k → Differs k single_codes → Ok Empty ≡ answered k i x j y
   no-single f d = no_code (simp (le-leb 48 k f) (none-among k single_codes d))

@@ -1,17 +1,14 @@
 -- One number for type and operator, and the cell that a mark and a word stand for where they are known to be a cell's.
-use Rattle.std.specs.Prelude.{ℕ, ◌+◌, ◌-◌, ◌*◌, ◌/◌, ◌%◌, ◌≡◌, Bool, false, not, ◌&&◌, ◌||◌, List, [], ◌∷◌, T, eqb, leb, if◌then◌else◌}
-use Rattle.std.proofs.Math.Option.{Option, none, some}
+use Rattle.std.specs.Prelude.{ℕ, ◌+◌, ◌-◌, ◌*◌, ◌/◌, ◌%◌, ◌≡◌, Bool, false, not, ◌&&◌, ◌||◌, List, [], ◌∷◌, T, eqb, leb, if◌then◌else◌, Option, None, Some, Ok}
 use Rattle.std.specs.Float.{binary64}
 use Rattle.std.specs.Float.Ieee.{of_bits, nan_bits}
 use Rattle.std.specs.Int.{w64}
 use Rattle.std.proofs.Common.{to_z}
 use Rattle.paper.specs.Limits.{INT, FLOAT}
 use Rattle.paper.specs.Cells.{is_type}
-use Rattle.paper.specs.Operators.{pair_op, pair_no, single_op, single_no, takes, takes_one, pair_cell, single_cell}
+use Rattle.paper.specs.Operators.{pair_op, pair_no, single_op, single_no, takes, takes_one, pair_cell, single_cell, Answer}
 use Rattle.paper.specs.declared.Cell.{Cell}
 use Rattle.paper.specs.declared.Cell.TheVariants.{Empty, Int, Float, Truth}
-use Rattle.paper.specs.declared.Answer.{Answer}
-use Rattle.paper.specs.declared.Answer.TheVariants.{Is}
 use Rattle.paper.specs.declared.PairOp.{PairOp}
 use Rattle.paper.specs.declared.SingleOp.{SingleOp}
 
@@ -47,12 +44,12 @@ abbrev pub kind_of : ℕ → ℕ
 kind_of code = if leb code 47 then code / 16 + 1 else (code - 48) % 4
 
 abbrev pub by_pair : Option PairOp → Cell → Cell → Answer
-by_pair (some op) a b = pair_cell op a b
-by_pair none a b = Is Empty
+by_pair (Some op) a b = pair_cell op a b
+by_pair None a b = Ok Empty
 
 abbrev pub by_single : Option SingleOp → Cell → Answer
-by_single (some op) a = single_cell op a
-by_single none a = Is Empty
+by_single (Some op) a = single_cell op a
+by_single None a = Ok Empty
 
 abbrev pub among : ℕ → List ℕ → Bool
 among k [] = false
@@ -78,7 +75,7 @@ known code =
 -- what a code gives at two cells, of which a single operator sees the first
 unfoldable pub code_cell : ℕ → Cell → Cell → Answer
 code_cell code a b =
-    if known code then (if leb code 47 then by_pair (pair_op (code % 16)) a b else by_single (single_op ((code - 48) / 4)) a) else Is Empty
+    if known code then (if leb code 47 then by_pair (pair_op (code % 16)) a b else by_single (single_op ((code - 48) / 4)) a) else Ok Empty
 
 -- what is asked of the words: a FLOAT code's are no NaN's
 abbrev pub Judged : ℕ → ℕ → ℕ → Type 0

@@ -12,7 +12,7 @@ use operators::operators::{
     negation, or, sub, trueness, unknownness,
 };
 use operators::types::{takes_pair, takes_single};
-use paper::{Answer, BOOLEAN, Cell, PairOp, SingleOp};
+use paper::{BOOLEAN, Cell, Fault, PairOp, SingleOp};
 
 // The codes of INT operators are below FLOAT_CODES, those of FLOAT below TRUTH_CODES, those of BOOLEAN below SINGLE_CODES.
 pub const FLOAT_CODES: u8 = 16;
@@ -88,7 +88,7 @@ pub fn single_code(kind: u8, op: SingleOp) -> u8
 // ---- what a code's operator gives at two cells, of which a single operator sees the first; a number that is no code gives an empty
 // cell. The words of FLOAT cells, once judged, are no NaN's.
 
-pub fn ints(code: u8, ma: u8, na: u64, mb: u8, nb: u64) -> Answer
+pub fn ints(code: u8, ma: u8, na: u64, mb: u8, nb: u64) -> Result<Cell, Fault>
     requires code_bound { code < 16 }
     requires judged { Judged code na nb }
     ensures { result ≡ answered code ma na mb nb }
@@ -107,11 +107,11 @@ pub fn ints(code: u8, ma: u8, na: u64, mb: u8, nb: u64) -> Answer
         9 => le(a, b),
         10 => gt(a, b),
         11 => ge(a, b),
-        _ => Answer::Is(Cell::Empty),
+        _ => Ok(Cell::Empty),
     }
 }
 
-pub fn floats(code: u8, ma: u8, na: u64, mb: u8, nb: u64) -> Answer
+pub fn floats(code: u8, ma: u8, na: u64, mb: u8, nb: u64) -> Result<Cell, Fault>
     requires le_code { (16 ≤ code) × (code < 32) }
     requires judged { Judged code na nb }
     ensures { result ≡ answered code ma na mb nb }
@@ -127,11 +127,11 @@ pub fn floats(code: u8, ma: u8, na: u64, mb: u8, nb: u64) -> Answer
         25 => le(float_cell(ma, na), float_cell(mb, nb)),
         26 => gt(float_cell(ma, na), float_cell(mb, nb)),
         27 => ge(float_cell(ma, na), float_cell(mb, nb)),
-        _ => Answer::Is(Cell::Empty),
+        _ => Ok(Cell::Empty),
     }
 }
 
-pub fn truths(code: u8, ma: u8, na: u64, mb: u8, nb: u64) -> Answer
+pub fn truths(code: u8, ma: u8, na: u64, mb: u8, nb: u64) -> Result<Cell, Fault>
     requires le_code { (32 ≤ code) × (code < 48) }
     requires judged { Judged code na nb }
     ensures { result ≡ answered code ma na mb nb }
@@ -143,11 +143,11 @@ pub fn truths(code: u8, ma: u8, na: u64, mb: u8, nb: u64) -> Answer
         39 => ne(a, b),
         44 => and(a, b),
         45 => or(a, b),
-        _ => Answer::Is(Cell::Empty),
+        _ => Ok(Cell::Empty),
     }
 }
 
-pub fn singles(code: u8, ma: u8, na: u64, mb: u8, nb: u64) -> Answer
+pub fn singles(code: u8, ma: u8, na: u64, mb: u8, nb: u64) -> Result<Cell, Fault>
     requires le_code { 48 ≤ code }
     requires judged { Judged code na nb }
     ensures { result ≡ answered code ma na mb nb }
@@ -164,12 +164,12 @@ pub fn singles(code: u8, ma: u8, na: u64, mb: u8, nb: u64) -> Answer
         71 => trueness(truth_cell(ma, na)),
         75 => falseness(truth_cell(ma, na)),
         79 => unknownness(truth_cell(ma, na)),
-        _ => Answer::Is(Cell::Empty),
+        _ => Ok(Cell::Empty),
     }
 }
 
 // By the code's type.
-pub fn computed(code: u8, ma: u8, na: u64, mb: u8, nb: u64) -> Answer
+pub fn computed(code: u8, ma: u8, na: u64, mb: u8, nb: u64) -> Result<Cell, Fault>
     requires { Judged code na nb }
     ensures { result ≡ answered code ma na mb nb }
 {

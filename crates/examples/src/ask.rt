@@ -1,8 +1,6 @@
 // Recipes run and listed, with what is answered on the rest of the line.
 use cell::bytes::half;
-use paper::{
-    Foreseen, LIMIT_BYTES, Listed, NumberAnswer, Ordinality, PageAnswer, PlanAnswer, Version,
-};
+use paper::{Foreseen, LIMIT_BYTES, Listed, Ordinality, Version};
 use script::arrays::{number_of, version_of};
 use script::desk::WHOLE_HEAD;
 use script::line::at_most;
@@ -42,16 +40,16 @@ fn show_last(rt: &impl Print, bundle: &[u8], steps: &[u8], work: &[u8]) -> io::R
     let _ = run::extent(bundle, steps, &mut head);
     let answer = run::plan(bundle, steps);
     match answer {
-        PlanAnswer::Got(last) => show_foreseen(rt, version_of(bundle), &head, last, work),
-        PlanAnswer::Refused(r) => say_refusal(rt, r),
+        Ok(last) => show_foreseen(rt, version_of(bundle), &head, last, work),
+        Err(r) => say_refusal(rt, r),
     }
 }
 
 pub fn show_run(rt: &impl Print, bundle: &[u8], steps: &[u8], work: &mut [u8]) -> io::Result<()> {
     let answer = run::run(bundle, steps, work);
     match answer {
-        NumberAnswer::Got(_) => show_last(rt, bundle, steps, work),
-        NumberAnswer::Refused(r) => {
+        Ok(_) => show_last(rt, bundle, steps, work),
+        Err(r) => {
             say_byte(rt, b' ')?;
             say_refusal(rt, r)
         }
@@ -138,8 +136,8 @@ pub fn show_page(
     let paged = run::page_rows(bundle, steps, work, Ordinality(start), &mut rows);
     let answer = paged.answer;
     match answer {
-        PageAnswer::Got(listed) => say_listed(rt, &rows, listed, paged.axes),
-        PageAnswer::Refused(r) => {
+        Ok(listed) => say_listed(rt, &rows, listed, paged.axes),
+        Err(r) => {
             say_byte(rt, b' ')?;
             say_refusal(rt, r)
         }

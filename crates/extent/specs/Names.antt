@@ -1,6 +1,5 @@
--- Names by number: the paper's test of a name's bytes, the lowest first, on the number that they are. One byte by where it lies, then
--- the bytes from byte i on.
-use Rattle.std.specs.Prelude.{ℕ, zero, suc, ◌+◌, ◌-◌, ◌*◌, ◌/◌, ◌%◌, ◌^◌, ◌≤◌, ◌<◌, ◌≡◌, refl, List, [], ◌∷◌, ◌++◌, drop, Bool, true, false, ◌&&◌, ◌||◌, eqb, leb}
+-- Names by number: the paper's test of a name's bytes, the lowest first, on the number that they are, from byte i on.
+use Rattle.std.specs.Prelude.{ℕ, zero, suc, ◌+◌, ◌-◌, ◌*◌, ◌/◌, ◌%◌, ◌^◌, ◌≤◌, ◌<◌, ◌≡◌, refl, List, [], ◌∷◌, ◌++◌, drop, Bool, true, false, ◌&&◌, ◌||◌, eqb}
 use Rattle.std.proofs.Math.Path.{sym}
 use Rattle.std.proofs.Common.{ap, ◌∙◌, append-nil, pow-suc}
 use native.Mathlib.Omega.{arith}
@@ -37,31 +36,6 @@ or-none false = refl
 not-zero : (b : ℕ) → in_name b ≡ true → eqb b 0 ≡ false
 not-zero zero e = sym e
 not-zero (suc b) e = ne_eqb (suc b) 0 (λ e. omega arith)
-
--- ---- one byte, by where it lies
-
-module _ (b : ℕ) where
-  pub below-digits : b < 48 → false ≡ in_name b
-  below-digits h =
-      let p : leb 97 b ≡ false = lt-leb 97 b (omega arith) in
-      let q : leb 48 b ≡ false = lt-leb 48 b h in
-      rw (p, q, ne_eqb b 95 (λ e. omega arith))
-
-  pub digit : 48 ≤ b → b ≤ 57 → true ≡ in_name b
-  digit h k =
-      let p : leb 97 b ≡ false = lt-leb 97 b (omega arith) in
-      rw (p, le-leb 48 b h, le-leb b 57 k)
-
-  pub between-them : 57 < b → (b ≡ 95 → ⊥) → b < 97 → false ≡ in_name b
-  between-them h n k =
-      let q : leb 48 b ≡ true = le-leb 48 b (omega arith) in
-      rw (lt-leb 97 b k, q, lt-leb b 57 h, ne_eqb b 95 n)
-
-  pub by-letter : 97 ≤ b → leb b 122 ≡ in_name b
-  by-letter h =
-      let q : leb b 57 ≡ false = lt-leb b 57 (omega arith) in
-      let p : leb 48 b ≡ true = le-leb 48 b (omega arith) in
-      rw (le-leb 97 b h, p, q, ne_eqb b 95 (λ e. omega arith)) (sym (or-none _))
 
 -- ---- the bytes from the i-th on of half a name, and then others
 

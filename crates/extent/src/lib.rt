@@ -1,8 +1,8 @@
-// An extent judged as the paper does: names, limits, number of cells, inside its maximum; and one extent inside another, by one loop that
-// is told what is asked of each two axes. An extent's axes are the first `rank`, never more than there is room for; names stand apart.
+// An extent judged as the paper does: names, limits, number of cells, inside its maximum; and one extent inside another, by one function that
+// is told which test each two axes have to meet. An extent's axes are the first `rank`, never more than there is room for; names stand apart.
 #![tactic(auto)]
 
-ghost use Rattle.std.specs.Prelude.{◌≡◌, ◌+◌, ◌-◌, ◌*◌, ◌≤◌};
+ghost use Rattle.std.specs.Prelude.{◌≡◌, Bool, ◌+◌, ◌-◌, ◌*◌, ◌≤◌};
 ghost use Rattle.paper.specs.Limits.{most_axes, most_cells, reach};
 ghost use Rattle.paper.specs.Axes.{good_limits, width, axis_within, axis_at, on_axis};
 ghost use Rattle.paper.specs.Numbers.{alike};
@@ -12,7 +12,8 @@ ghost use Rattle.laws.specs.Limits.{Sound};
 ghost use Rattle.extent.specs.Rank.{Rank};
 ghost use Rattle.extent.specs.Judged.{few_cells, good_cells, cells_within};
 ghost use Rattle.extent.specs.Tests.{Ranged, in_range};
-ghost use Rattle.extent.specs.Meeting.{axis_covers, meet};
+ghost use Rattle.extent.specs.Meeting.{axis_covers};
+ghost use Rattle.paper.specs.declared.Axis.{Axis};
 
 use names::good_names;
 use paper::{AXES, Axis, AxisIndex, CELLS, Extent, Name, TOP};
@@ -62,25 +63,14 @@ pub fn axis_of(e: Extent, k: AxisIndex) -> Axis
 fn axis_in_range(a: Axis) -> bool
     ensures { result ≡ in_range a }
 {
-    if a.hi < a.lo {
-        return false;
-    }
-    a.hi <= TOP
+    a.lo <= a.hi && a.hi <= TOP
 }
 
 // Every limit in range, lower at most upper.
 pub fn good_limits(e: Extent) -> bool
     ensures { result ≡ good_limits (axes_of e) }
 {
-    let rank = rank_of(e);
-    let mut i = 0;
-    while i < rank {
-        if !axis_in_range(e.axes[i]) {
-            return false;
-        }
-        i += 1;
-    }
-    true
+    e.axes[..rank_of(e)].iter().all(|a| axis_in_range(*a))
 }
 
 // The number of an axis's positions.
@@ -98,11 +88,8 @@ pub fn cells_of(e: Extent) -> usize
 {
     let rank = rank_of(e);
     let mut n: u64 = 1;
-    let mut i = rank;
-    while 0 < i {
-        i -= 1;
-        let a = e.axes[i];
-        n = n * width_of(a);
+    for i in (0..rank).rev() {
+        n *= width_of(e.axes[i]);
         if CELLS < n {
             return 0;
         }
@@ -125,80 +112,47 @@ pub fn good_extent(names: [Name; AXES], e: Extent) -> usize
 
 // ---- one extent inside another
 
-// What is asked of each two axes: that the first lies inside the maximum's, whose limits are in range; that the second lies inside the
-// first.
-#[derive(Clone, Copy)]
-enum Asked {
-    Within,
-    Covers,
-}
-
 // The axis lies inside the maximum's, whose limits are in range.
 fn axis_within(a: Axis, m: Axis) -> bool
     ensures { result ≡ axis_within a m }
 {
-    if a.lo < m.lo {
-        return false;
-    }
-    if m.hi < a.hi {
-        return false;
-    }
-    m.hi <= TOP
+    m.lo <= a.lo && a.hi <= m.hi && m.hi <= TOP
 }
 
 // The position lies inside the axis.
 pub fn on_axis(a: Axis, x: u32) -> bool
     ensures { result ≡ on_axis a x }
 {
-    if x < a.lo {
-        return false;
-    }
-    x <= a.hi
+    a.lo <= x && x <= a.hi
 }
 
 // Both limits of the second axis lie on the first.
 fn axis_covers(a: Axis, b: Axis) -> bool
     ensures { result ≡ axis_covers a b }
 {
-    if !on_axis(a, b.lo) {
-        return false;
-    }
-    on_axis(a, b.hi)
+    on_axis(a, b.lo) && on_axis(a, b.hi)
 }
 
-// What is asked of two axes.
-fn axes_meet(asked: Asked, a: Axis, b: Axis) -> bool
-    ensures { result ≡ meet asked a b }
-{
-    match asked {
-        Asked::Within => return axis_within(a, b),
-        Asked::Covers => return axis_covers(a, b),
-    }
-}
-
-// As many axes, and each two as asked.
-fn all_meet(asked: Asked, e: Extent, f: Extent) -> bool
-    ensures { result ≡ alike (meet asked) (axes_of e) (axes_of f) }
+// As many axes, and each two meet.
+fn all_meet<F: Fn(Axis, Axis) -> bool>(e: Extent, f: Extent, meets: F) -> bool
+    requires { (a b : _) → F.pre meets a b }
+    ensures { (m : Axis → Axis → Bool) → ((a b : _) (r : Bool) → F.post meets a b r → r ≡ m a b) → result ≡ alike m (axes_of e) (axes_of f) }
 {
     let rank = rank_of(e);
     if rank_of(f) != rank {
         return false;
     }
-    let mut i: usize = 0;
-    while i < rank {
-        if !axes_meet(asked, e.axes[i], f.axes[i]) {
-            return false;
-        }
-        i += 1;
-    }
-    true
+    e.axes[..rank]
+        .iter()
+        .zip(&f.axes[..rank])
+        .all(|(a, b)| meets(*a, *b))
 }
 
 // All coordinates of the second extent lie inside the first.
 pub fn covers_all(e: Extent, f: Extent) -> bool
     ensures { result ≡ covers (axes_of e) (axes_of f) }
 {
-    all_meet(Asked::Covers, e, f)
+    all_meet(e, f, axis_covers)
 }
 
 // The number of cells of a good extent that lies inside its maximum, or 0.
@@ -206,7 +160,7 @@ pub fn extent_cells(names: [Name; AXES], e: Extent, maximum: Extent) -> usize
     ensures { (result ≡ cells_within (names_for (axes_of e) names) (axes_of e) (axes_of maximum)) × (result ≤ most_cells) }
 {
     let n = good_extent(names, e);
-    if !all_meet(Asked::Within, e, maximum) {
+    if !all_meet(e, maximum, axis_within) {
         return 0;
     }
     n

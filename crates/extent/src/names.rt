@@ -12,19 +12,7 @@ use paper::{AXES, HALF_NAME, Name, Version};
 fn in_name(b: u64) -> bool
     ensures { result ≡ in_name b }
 {
-    if b < 48 {
-        return false;
-    }
-    if b <= 57 {
-        return true;
-    }
-    if b == 95 {
-        return true;
-    }
-    if b < 97 {
-        return false;
-    }
-    b <= 122
+    matches!(b, 97..=122 | 48..=57 | 95)
 }
 
 // The bytes of n from the i-th on, and then others: letters all of n, and `full` tells whether the others go on so; or letters and then
@@ -34,16 +22,14 @@ fn goes_on(n: u64, i: usize, full: bool, blank: bool) -> bool
     ensures { (R : List ℕ) → full ≡ name_rest R → blank ≡ zeros R → result ≡ name_rest (le_bytes (half_name - i) n ++ R) }
 {
     let mut left = n;
-    let mut at = i;
-    while at < HALF_NAME {
+    for _at in i..HALF_NAME {
         if !in_name(left % 256) {
             if left != 0 {
                 return false;
             }
             return blank;
         }
-        left = left / 256;
-        at += 1;
+        left /= 256;
     }
     full
 }
@@ -63,16 +49,6 @@ fn is_name(n: Name) -> bool
     goes_on(n.first / 256, 1, last, n.last == 0)
 }
 
-// Both are one name.
-pub fn same_name(m: Name, n: Name) -> bool
-    ensures { result ≡ same_name m n }
-{
-    if m.first != n.first {
-        return false;
-    }
-    m.last == n.last
-}
-
 // The name has no more letters than the version's names.
 fn name_fits(v: Version, n: Name) -> bool
     ensures { result ≡ zeros (drop (sizes_of v).name (letters_of n)) }
@@ -88,14 +64,7 @@ pub fn names_fit(v: Version, names: [Name; AXES], rank: usize) -> bool
     requires { rank ≤ most_axes }
     ensures { result ≡ names_fit (sizes_of v) (take rank names) }
 {
-    let mut i = 0;
-    while i < rank {
-        if !name_fits(v, names[i]) {
-            return false;
-        }
-        i += 1;
-    }
-    true
+    names[..rank].iter().all(|n| name_fits(v, *n))
 }
 
 // Each of the first `rank` names good, no two equal.
@@ -103,20 +72,11 @@ pub fn good_names(names: [Name; AXES], rank: usize) -> bool
     requires { rank ≤ most_axes }
     ensures { result ≡ good_names (take rank names) }
 {
-    let mut i = 0;
-    while i < rank {
+    for i in 0..rank {
         let n = names[i];
-        if !is_name(n) {
+        if !is_name(n) || names[i + 1..rank].iter().any(|m| *m == n) {
             return false;
         }
-        let mut j = i + 1;
-        while j < rank {
-            if same_name(n, names[j]) {
-                return false;
-            }
-            j += 1;
-        }
-        i += 1;
     }
     true
 }

@@ -1,8 +1,7 @@
 -- Where the machine has a fault: the bytes before that place can be completed, and with the byte there they cannot, or the text ends there
 -- and is not complete.
-use Rattle.std.specs.Prelude.{ℕ, ◌+◌, ◌≡◌, refl, Bool, true, false, List, [], ◌∷◌, ◌++◌, if◌then◌else◌}
+use Rattle.std.specs.Prelude.{ℕ, ◌+◌, ◌≡◌, refl, Bool, true, false, List, [], ◌∷◌, ◌++◌, if◌then◌else◌, Option, None, Some}
 use Rattle.std.proofs.Common.{sym, ap, ◌∙◌, arith}
-use Rattle.std.proofs.Math.Option.{Option, none, some}
 use Rattle.laws.specs.Tests.{no_none, some_one}
 use Rattle.paper.specs.Grammar.{Part}
 use Rattle.paper.specs.Machine.{given, settled, step, complete, fault_from}
@@ -13,11 +12,11 @@ use Rattle.grammar.specs.Finish.{finish_all}
 use Rattle.grammar.proofs.Finish.{finished-all}
 use Rattle.grammar.specs.Faults.{settled-sound, move-sound, Broken, none_made, some-made, first-is, no-cons}
 
-pub broken : (gs : List Part) (i : ℕ) (bs : List ℕ) (k : ℕ) → sound gs ≡ true → fault_from gs i bs ≡ some k → Broken gs i bs k
+pub broken : (gs : List Part) (i : ℕ) (bs : List ℕ) (k : ℕ) → sound gs ≡ true → fault_from gs i bs ≡ Some k → Broken gs i bs k
 unfolding fault_from
 broken gs i [] k s e = go (complete gs) refl e
   where
-    go : (t : Bool) → complete gs ≡ t → (if t then none else some i) ≡ some k → Broken gs i [] k
+    go : (t : Bool) → complete gs ≡ t → (if t then None else Some i) ≡ Some k → Broken gs i [] k
     go true h f = absurd (no_none k f)
     go false h f =
         let p : i ≡ k = some_one i k f in
@@ -33,9 +32,9 @@ broken gs i [] k s e = go (complete gs) refl e
         }
 broken gs i (b ∷ bs) k s e = go (step gs b) refl e (λ ks t f. broken ks (i + 1) bs k t f)
   where
-    go : (o : Option (List Part)) → step gs b ≡ o → given o (some i) (λ ks. fault_from ks (i + 1) bs) ≡ some k
-        → ((ks : List Part) → sound ks ≡ true → fault_from ks (i + 1) bs ≡ some k → Broken ks (i + 1) bs k) → Broken gs i (b ∷ bs) k
-    go none h f ih =
+    go : (o : Option (List Part)) → step gs b ≡ o → given o (Some i) (λ ks. fault_from ks (i + 1) bs) ≡ Some k
+        → ((ks : List Part) → sound ks ≡ true → fault_from ks (i + 1) bs ≡ Some k → Broken ks (i + 1) bs k) → Broken gs i (b ∷ bs) k
+    go None h f ih =
         let p : i ≡ k = some_one i k f in
         record {
           read = [];
@@ -47,7 +46,7 @@ broken gs i (b ∷ bs) k s e = go (step gs b) refl e (λ ks t f. broken ks (i + 
           stops = λ c rest end q m. none_made gs b end h s (rw (← first-is b c bs rest q) at m);
           missing = λ q m. no-cons b bs (sym q);
         }
-    go (some ks) h f ih =
+    go (Some ks) h f ih =
         let v = ih ks (move-sound (settled gs b) b ks h (settled-sound gs b s)) f in
         record {
           read = b ∷ v.read;

@@ -1,15 +1,14 @@
 -- The rule of refusal 15, proved of the machine: it has no fault exactly where the text is one JSON object so nested; and where it has
 -- one, the bytes before that place begin such an object and with the byte there they do not, or the text ends there and is not yet one.
-use Rattle.std.specs.Prelude.{ℕ, ◌≡◌, List}
+use Rattle.std.specs.Prelude.{ℕ, ◌≡◌, List, Some}
 use Rattle.std.proofs.Common.{sym, ◌∙◌, append_assoc, arith}
-use Rattle.std.proofs.Math.Option.{some}
 use Rattle.paper.specs.Grammar.{start}
 use Rattle.paper.specs.Machine.{fault}
 use Rattle.laws.specs.Tests.{no_none}
 use Rattle.grammar.proofs.Faults.{broken}
 use Rattle.grammar.specs.Fifteen.{start-sound, made-is, fault-none, FaultAt}
 
-pub fault-some : (bs : List ℕ) (k : ℕ) → fault bs ≡ some k → FaultAt bs k
+pub fault-some : (bs : List ℕ) (k : ℕ) → fault bs ≡ Some k → FaultAt bs k
 fault-some bs k e =
     let v = broken start 1 bs k start-sound e in
     record {

@@ -1,7 +1,6 @@
 -- Choices of bytes that share none, and what follows for rules: where all choices of a list are apart, the rule that has a byte is the
 -- chosen one.
-use Rattle.std.specs.Prelude.{ℕ, ◌≤◌, ◌<◌, ◌≡◌, refl, Bool, true, false, ◌&&◌, ◌||◌, List, [], ◌∷◌, leb, ltb}
-use Rattle.std.proofs.Math.Option.{none, some}
+use Rattle.std.specs.Prelude.{ℕ, ◌≤◌, ◌<◌, ◌≡◌, refl, Bool, true, false, ◌&&◌, ◌||◌, List, [], ◌∷◌, leb, ltb, None, Some}
 use Rattle.std.proofs.Common.{arith, ltb-true, leb-true}
 use Rattle.std.proofs.lemmas.Bool.{lt-leb}
 use Rattle.paper.specs.Refusals.{between}
@@ -83,7 +82,7 @@ bytes_apart (r ∷ rs) qs b e h =
     go false f g ih = ih g
 
 -- no rule of the list has the byte
-none-chosen : (c : Bytes) (rs : List Rule) (b : ℕ) → apart_rules c rs ≡ true → among c b ≡ true → chosen rs b ≡ none
+none-chosen : (c : Bytes) (rs : List Rule) (b : ℕ) → apart_rules c rs ≡ true → among c b ≡ true → chosen rs b ≡ None
 unfolding apart_rules chosen
 none-chosen c [] b e h = refl
 none-chosen c (r ∷ rs) b e h =
@@ -106,7 +105,7 @@ apart-one c r rs b o e h = go (among c b) refl
 
 -- the rule that has the byte is the one that is chosen
 pub chosen-it : (r : Rule) (rs : List Rule) (b : ℕ) → distinct rs ≡ true → OneOf r rs → among r.byte b ≡ true
-    → chosen rs b ≡ some r.rest
+    → chosen rs b ≡ Some r.rest
 unfolding distinct chosen
 chosen-it r [] b e o h = elim o [ ]
 chosen-it r (q ∷ rs) b e here h = rw h
@@ -116,7 +115,7 @@ chosen-it r (q ∷ rs) b e (there o) h =
 
 -- where a rule of one list has the byte, no rule of a list apart from it is chosen
 pub chosen_none : (rs qs : List Rule) (q : Rule) (b : ℕ) → apart_lists rs qs ≡ true → OneOf q qs → among q.byte b ≡ true
-    → chosen rs b ≡ none
+    → chosen rs b ≡ None
 unfolding apart_lists chosen
 chosen_none [] qs q b e o h = refl
 chosen_none (r ∷ rs) qs q b e o h =

@@ -1,8 +1,7 @@
 -- The rule of refusal 15, proved of the machine: it has no fault exactly where the text is one JSON object so nested; and where it has
 -- one, the bytes before that place begin such an object and with the byte there they do not, or the text ends there and is not yet one.
-use Rattle.std.specs.Prelude.{ℕ, ◌+◌, ◌≡◌, refl, true, ◌↔◌, List, [], ◌∷◌, ◌++◌, length}
+use Rattle.std.specs.Prelude.{ℕ, ◌+◌, ◌≡◌, refl, true, ◌↔◌, List, [], ◌∷◌, ◌++◌, length, Option, None, Some}
 use Rattle.std.proofs.Common.{sym, ◌∙◌}
-use Rattle.std.proofs.Math.Option.{Option, none, some}
 use Rattle.paper.specs.Grammar.{start, levels_inside}
 use Rattle.paper.specs.Rfc.{JsonObject, Begins}
 use Rattle.paper.specs.Machine.{fault}
@@ -23,7 +22,7 @@ pub made-is : (bs : List ℕ) → Made start bs ↔ JsonObject bs
 made-is bs = (made-generated levels_inside bs, generated-made)
 
 -- no fault exactly where the text is one object
-pub fault-none : (bs : List ℕ) → (fault bs ≡ none) ↔ JsonObject bs
+pub fault-none : (bs : List ℕ) → (fault bs ≡ None) ↔ JsonObject bs
 fault-none bs = ((λ e. (made-is bs).0 (faultless-made start 1 bs e)), λ o. made-faultless start 1 bs start-sound ((made-is bs).1 o))
 
 -- a fault at place k: the text is `read` and then `left`, and k is the place of the first byte left, or one past the end
@@ -41,5 +40,5 @@ pub fault-decides : (bs : List ℕ) → Dec (JsonObject bs)
 fault-decides bs = go (fault bs) refl
   where
     go : (o : Option ℕ) → fault bs ≡ o → Dec (JsonObject bs)
-    go none h = yes ((fault-none bs).0 h)
-    go (some k) h = no (λ m. no_none k (sym ((fault-none bs).1 m) ∙ h))
+    go None h = yes ((fault-none bs).0 h)
+    go (Some k) h = no (λ m. no_none k (sym ((fault-none bs).1 m) ∙ h))

@@ -1,7 +1,7 @@
 -- What the grammar makes the machine reads: where the parts are in order, the byte decides the rule, and what is left is made of the parts
 -- after it.
-use Rattle.std.specs.Prelude.{ℕ, ◌+◌, ◌≡◌, refl, Bool, true, false, not, ◌&&◌, ◌||◌, List, [], ◌∷◌, ◌++◌, if◌then◌else◌}
-use Rattle.std.proofs.Math.Option.{Option, none, some, map}
+use Rattle.std.specs.Prelude.{ℕ, ◌+◌, ◌≡◌, refl, Bool, true, false, not, ◌&&◌, ◌||◌, List, [], ◌∷◌, ◌++◌, if◌then◌else◌, Option, None, Some}
+use Rattle.std.specs.Option.{option_map}
 use Rattle.std.proofs.Common.{arith}
 use Rattle.laws.specs.Tests.{and_left, and_right, no_none}
 use Rattle.grammar.specs.Made.{Made, space, without, by}
@@ -16,17 +16,17 @@ use Rattle.grammar.specs.Tables.{rules-orderly, rule-orderly, orderly-sound}
 -- what comes after a byte of a text that is made of these parts
 pub record Reads (gs : List Part) (b : ℕ) (bs : List ℕ) : Type 0 where
   pub after : List Part
-  pub stepped : step gs b ≡ some after
+  pub stepped : step gs b ≡ Some after
   pub made : Made after bs
   pub order : sound after ≡ true
 
 -- a part with a byte of one of its rules stays and is moved on
-rule-steps : (g : Part) (gs : List Part) (b : ℕ) (ps : List Part) → chosen (rules g) b ≡ some ps → step (g ∷ gs) b ≡ some (ps ++ gs)
+rule-steps : (g : Part) (gs : List Part) (b : ℕ) (ps : List Part) → chosen (rules g) b ≡ Some ps → step (g ∷ gs) b ≡ Some (ps ++ gs)
 unfolding settled move
 rule-steps g gs b ps e = go (optional g) refl
   where
     go : (t : Bool) → optional g ≡ t
-        → move (if optional g then given (chosen (rules g) b) gs (λ qs. g ∷ gs) else g ∷ gs) b ≡ some (ps ++ gs)
+        → move (if optional g then given (chosen (rules g) b) gs (λ qs. g ∷ gs) else g ∷ gs) b ≡ Some (ps ++ gs)
     go true h = rw (h, e) (rw e)
     go false h = rw h (rw e)
 
@@ -43,8 +43,8 @@ unfolding sound
 rest-sound g gs s = and_right (full g) (sound gs) (and_right (not (loose g) || leads gs) (full g && sound gs) s)
 
 -- a number ends before a byte of what follows it
-number-ends : (g : Part) (gs : List Part) (b : ℕ) (hs : List Part) → optional g ≡ true → leads gs ≡ true → step gs b ≡ some hs
-    → step (g ∷ gs) b ≡ some hs
+number-ends : (g : Part) (gs : List Part) (b : ℕ) (hs : List Part) → optional g ≡ true → leads gs ≡ true → step gs b ≡ Some hs
+    → step (g ∷ gs) b ≡ Some hs
 unfolding optional leads settled move
 number-ends (one c) gs b hs o l e = no_true o
 number-ends chars gs b hs o l e = no_true o
@@ -56,21 +56,21 @@ number-ends (number d) (escape ∷ gs) b hs o l e = no_true l
 number-ends (number d) (number f ∷ gs) b hs o l e = no_true l
 number-ends (number d) (colon ∷ gs) b hs o l e = no_true l
 number-ends (number d) (at s n ∷ gs) b hs o l e =
-    let m : map (λ ps. ps ++ gs) (chosen (rules (at s n)) b) ≡ some hs = e in
+    let m : option_map (λ ps. ps ++ gs) (chosen (rules (at s n)) b) ≡ Some hs = e in
     go (chosen (rules (at s n)) b) refl m
   where
-    go : (c : Option (List Part)) → chosen (rules (at s n)) b ≡ c → map (λ ps. ps ++ gs) c ≡ some hs
-        → step (number d ∷ at s n ∷ gs) b ≡ some hs
-    go none h f = absurd (no_none hs f)
-    go (some ps) h f =
+    go : (c : Option (List Part)) → chosen (rules (at s n)) b ≡ c → option_map (λ ps. ps ++ gs) c ≡ Some hs
+        → step (number d ∷ at s n ∷ gs) b ≡ Some hs
+    go None h f = absurd (no_none hs f)
+    go (Some ps) h f =
         let r = chosen-rule (rules (at s n)) b ps h in
-        let z : chosen (rules (number d)) b ≡ none =
+        let z : chosen (rules (number d)) b ≡ None =
         chosen_none (rules (number d)) (rules (at s n)) r.0 b (number-apart d s n o l) r.1 r.2 in
         rw (o, z) e
 number-ends colon gs b hs o l e = no_true o
 number-ends (at s n) gs b hs o l e = no_true o
 
-blank-steps : (b : ℕ) → among blank b ≡ true → step [] b ≡ some []
+blank-steps : (b : ℕ) → among blank b ≡ true → step [] b ≡ Some []
 unfolding settled move
 blank-steps b h = rw h
 
@@ -112,7 +112,7 @@ all_read [] s m = refl
 all_read (g ∷ gs) s (without o m) = absurd (none-optional gs (followed g gs s (optional-loose g o)) m)
 
 -- a text made of these parts has no fault
-pub made-faultless : (gs : List Part) (i : ℕ) (bs : List ℕ) → sound gs ≡ true → Made gs bs → fault_from gs i bs ≡ none
+pub made-faultless : (gs : List Part) (i : ℕ) (bs : List ℕ) → sound gs ≡ true → Made gs bs → fault_from gs i bs ≡ None
 unfolding fault_from
 made-faultless gs i [] s m = rw (all_read gs s m)
 made-faultless gs i (b ∷ bs) s m = let v = reads m s in rw v.stepped (made-faultless v.after (i + 1) bs v.order v.made)

@@ -1,11 +1,11 @@
 -- What each byte begins at each spot: the table's rule for it, and the levels after it.
-use Rattle.std.specs.Prelude.{ℕ, zero, suc, ◌+◌, ◌-◌, ◌*◌, ◌/◌, ◌%◌, ◌≤◌, ◌<◌, ◌≡◌, Bool, ◌&&◌, if◌then◌else◌}
+use Rattle.std.specs.Prelude.{ℕ, zero, suc, ◌+◌, ◌-◌, ◌*◌, ◌/◌, ◌%◌, ◌≤◌, ◌<◌, ◌≡◌, Bool, ◌&&◌, if◌then◌else◌, Option, None, Some}
+use Rattle.std.specs.Option.{option_map}
 use Rattle.std.proofs.Math.Path.{refl, ap}
 use Rattle.std.proofs.Common.{sym, ◌∙◌, subst, add-one}
 use Rattle.std.proofs.Math.Bool.{true, false}
 use mathlib.Core.List.{List, [], ◌∷◌, ◌++◌, map, append_assoc}
 use Rattle.std.proofs.Math.Option
-use Rattle.std.proofs.Math.Option.{Option, none, some}
 use native.Mathlib.Omega.{arith}
 use borrow.Author.Tests.{eqb-true, eq-eqb, ne_eqb, eqb-false}
 use Rattle.std.proofs.Math.Dec.{eqb}
@@ -106,7 +106,7 @@ among_none b = refl
 no_byte : (k b : ℕ) → (b ≡ k → ⊥) → among ((k, k) ∷ []) b ≡ false
 no_byte k b h = not_byte k b [] h ∙ among_none b
 
-pub nothing-comes : (gs : List Part) (o : Bool) (d b x c : ℕ) → step gs b ≡ none → TurnedAt gs o d b (so Nothing Object x c)
+pub nothing-comes : (gs : List Part) (o : Bool) (d b x c : ℕ) → step gs b ≡ None → TurnedAt gs o d b (so Nothing Object x c)
 unfolding StandingAt FirstByte Behind comes
 nothing-comes gs o d b x c e = record { goes = e; stands = tt; first = tt; behind = tt }
 
@@ -165,7 +165,7 @@ module _ (d c : ℕ) (o : Open d c) where
 
   -- no blank, string, number or word: what is left are arrays and objects, where a level is left
   module _ (b : ℕ) (t : Other b) where
-    left_over : step (parts_at Value d c) b ≡ Option.map (λ ps. ps ++ more d c) (chosen (nested (inside d)) b)
+    left_over : step (parts_at Value d c) b ≡ option_map (λ ps. ps ++ more d c) (chosen (nested (inside d)) b)
     unfolding settled optional move rules chosen
     left_over =
         rw (
@@ -191,7 +191,7 @@ module _ (d c : ℕ) (o : Open d c) where
       unfolding chosen among StandingAt FirstByte Behind comes
       value-array e =
           record {
-            goes = left_over ∙ rw (level-left, e) (ap some (sym (push-array d c)));
+            goes = left_over ∙ rw (level-left, e) (ap Some (sym (push-array d c)));
             stands = push-open d c (c * 2 + 1) o h (omega arith);
             first = ((λ f. omega (arith, e, f)), refl);
             behind = tt;
@@ -201,7 +201,7 @@ module _ (d c : ℕ) (o : Open d c) where
       unfolding chosen among StandingAt FirstByte Behind comes
       value-object e =
           record {
-            goes = left_over ∙ rw (level-left, e) (ap some (sym (push-object d c)));
+            goes = left_over ∙ rw (level-left, e) (ap Some (sym (push-object d c)));
             stands = push-open d c (c * 2) o h (omega arith);
             first = ((λ f. omega (arith, e, f)), refl);
             behind = tt;
@@ -219,21 +219,21 @@ and-never : (p : Bool) → (p && false) ≡ false
 and-never true = refl
 and-never false = refl
 
-before-chosen : (ps : List Part) (rs : List Rule) (b : ℕ) → chosen (map (before ps) rs) b ≡ Option.map (λ qs. qs ++ ps) (chosen rs b)
+before-chosen : (ps : List Part) (rs : List Rule) (b : ℕ) → chosen (map (before ps) rs) b ≡ option_map (λ qs. qs ++ ps) (chosen rs b)
 unfolding chosen
 before-chosen ps [] b = refl
 before-chosen ps (r ∷ rs) b = go (among r.byte b) (before-chosen ps rs b)
   where
-    go : (c : Bool) → chosen (map (before ps) rs) b ≡ Option.map (λ qs. qs ++ ps) (chosen rs b)
-        → (if c then some (r.rest ++ ps) else chosen (map (before ps) rs) b) ≡ Option.map (λ qs. qs ++ ps)
-        (if c then some r.rest else chosen rs b)
+    go : (c : Bool) → chosen (map (before ps) rs) b ≡ option_map (λ qs. qs ++ ps) (chosen rs b)
+        → (if c then Some (r.rest ++ ps) else chosen (map (before ps) rs) b) ≡ option_map (λ qs. qs ++ ps)
+        (if c then Some r.rest else chosen rs b)
     go true e = refl
     go false e = e
 
-map-twice : (ps gs : List Part) (o : Option (List Part)) → Option.map (λ qs. qs ++ gs) (Option.map (λ qs. qs ++ ps) o) ≡ Option.map
+map-twice : (ps gs : List Part) (o : Option (List Part)) → option_map (λ qs. qs ++ gs) (option_map (λ qs. qs ++ ps) o) ≡ option_map
     (λ qs. qs ++ (ps ++ gs)) o
-map-twice ps gs none = refl
-map-twice ps gs (some qs) = ap some (append_assoc qs ps gs)
+map-twice ps gs None = refl
+map-twice ps gs (Some qs) = ap Some (append_assoc qs ps gs)
 
 -- the first member of an object is read as a member
 member-step : (n : ℕ) (gs : List Part) (b : ℕ) → among blank b ≡ false → among (these "}") b ≡ false
@@ -246,11 +246,11 @@ pub item-step : (n : ℕ) (gs : List Part) (b : ℕ) → among blank b ≡ false
     → step (at items n ∷ gs) b ≡ step (at value n ∷ at more_items n ∷ gs) b
 unfolding settled optional move rules chosen
 item-step n gs b e f =
-    rw (e, f) (ap (Option.map (λ qs. qs ++ gs)) (before-chosen (at more_items n ∷ []) (values n) b)
+    rw (e, f) (ap (option_map (λ qs. qs ++ gs)) (before-chosen (at more_items n ∷ []) (values n) b)
     ∙ map-twice (at more_items n ∷ []) gs (chosen (values n) b))
 
 module _ (d c : ℕ) (o : Open d c) where
-  closing : (gs : List Part) (p : Bool) (b : ℕ) → step gs b ≡ some (around d c) → NoName p b
+  closing : (gs : List Part) (p : Bool) (b : ℕ) → step gs b ≡ Some (around d c) → NoName p b
       → TurnedAt gs p d b (so Bracket More (d - 1) (c / 2))
   unfolding StandingAt FirstByte Behind comes
   closing gs p b e f = record { goes = e; stands = pop-open d c o; first = f; behind = tt }
@@ -328,7 +328,7 @@ module _ (d c : ℕ) (o : Open d c) where
     unfolding settled optional move rules chosen among comes head_of FirstByte Behind StandingAt outer
     name-begun b q =
         record {
-          goes = rw q (ap (λ (gs : List Part). some (head_of Name ++ (at value (inside d) ∷ gs))) (sym (rw a at (more-open d c o.some))));
+          goes = rw q (ap (λ (gs : List Part). Some (head_of Name ++ (at value (inside d) ∷ gs))) (sym (rw a at (more-open d c o.some))));
           stands = o;
           first = (q, outer-depth);
           behind = record { spot = value; levels = inside d; rest = more d c; whole = refl };

@@ -1,6 +1,5 @@
 -- The levels that are open as the parts that are still to come, and what a byte begins as the parts in front of them.
-use Rattle.std.specs.Prelude.{ℕ, zero, suc, ◌+◌, ◌-◌, ◌/◌, ◌%◌, ◌≤◌, ◌<◌, ◌≡◌, Bool, false, ◌&&◌, List, [], ◌∷◌, ◌++◌, eqb, if◌then◌else◌}
-use Rattle.std.proofs.Math.Option.{Option, none, some}
+use Rattle.std.specs.Prelude.{ℕ, zero, suc, ◌+◌, ◌-◌, ◌/◌, ◌%◌, ◌≤◌, ◌<◌, ◌≡◌, Bool, false, ◌&&◌, List, [], ◌∷◌, ◌++◌, eqb, if◌then◌else◌, Option, None, Some}
 use Rattle.paper.specs.Grammar.{Part, Spot, number, chars, colon, at, word, unsigned, after_zero, after_digit, levels_inside}
 use Rattle.paper.specs.Grammar.{value, items, more_items, object, members, member, more_members}
 use Rattle.paper.specs.Grammar.{among, blank, digit}
@@ -87,17 +86,17 @@ head_of Null = word "ull"
 
 -- the parts to come, or none where nothing begins
 unfoldable pub comes : Begun → List Part → Option (List Part)
-comes Nothing gs = none
-comes Comma gs = some gs
-comes Bracket gs = some gs
-comes Name gs = some (head_of Name ++ gs)
-comes Text gs = some (head_of Text ++ gs)
-comes Minus gs = some (head_of Minus ++ gs)
-comes Zero gs = some (head_of Zero ++ gs)
-comes Digit gs = some (head_of Digit ++ gs)
-comes True gs = some (head_of True ++ gs)
-comes False gs = some (head_of False ++ gs)
-comes Null gs = some (head_of Null ++ gs)
+comes Nothing gs = None
+comes Comma gs = Some gs
+comes Bracket gs = Some gs
+comes Name gs = Some (head_of Name ++ gs)
+comes Text gs = Some (head_of Text ++ gs)
+comes Minus gs = Some (head_of Minus ++ gs)
+comes Zero gs = Some (head_of Zero ++ gs)
+comes Digit gs = Some (head_of Digit ++ gs)
+comes True gs = Some (head_of True ++ gs)
+comes False gs = Some (head_of False ++ gs)
+comes Null gs = Some (head_of Null ++ gs)
 
 abbrev pub turned : Turn → Option (List Part)
 turned r = comes r.begun (parts_of r.levels)

@@ -1,8 +1,7 @@
 -- The token that begins with a byte: none with a comma; else one, which is a name `data` of the outermost object exactly if a name begins
 -- there in the first level and spells so.
-use Rattle.std.specs.Prelude.{ℕ, zero, suc, ◌+◌, ◌/◌, ◌-◌, ◌<◌, ◌≡◌, refl, Bool, true, false, ◌&&◌, ◌||◌, List, [], ◌∷◌, ◌++◌, eqb, length, get_or, if◌then◌else◌}
+use Rattle.std.specs.Prelude.{ℕ, zero, suc, ◌+◌, ◌/◌, ◌-◌, ◌<◌, ◌≡◌, refl, Bool, true, false, ◌&&◌, ◌||◌, List, [], ◌∷◌, ◌++◌, eqb, length, get_or, if◌then◌else◌, None}
 use Rattle.std.proofs.Common.{sym, ap, ◌∙◌, add-one, drop-cons}
-use Rattle.std.proofs.Math.Option.{none}
 use Rattle.std.proofs.Math.ListN.{drop}
 use Rattle.paper.specs.Refusals.{between}
 use Rattle.paper.specs.Numbers.{text, alike}
@@ -138,7 +137,7 @@ module _ (p : Spot) (n : ℕ) (hs : List Part) (d : ℕ) (s : List ℕ) (i : ℕ
 -- ---- by what may come
 
 -- after the object nothing begins
-none-tokens : (g : Begun) (x : Bool) (gs : List Part) (s : List ℕ) (i : ℕ) (ks : List Token) → none ≡ comes g gs → TokensAt g x s i ks
+none-tokens : (g : Begun) (x : Bool) (gs : List Part) (s : List ℕ) (i : ℕ) (ks : List Token) → None ≡ comes g gs → TokensAt g x s i ks
 unfolding TokensAt comes
 none-tokens Begun.Nothing x gs s i ks e = tt
 none-tokens Begun.Comma x gs s i ks e = absurd (no_none _ e)

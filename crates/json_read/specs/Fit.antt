@@ -1,11 +1,11 @@
 -- A token held against what is due: what reading comes to stays what it was, with the cell that was stored.
 use Prim.Native.Nat.{ℕ, suc, ◌+◌, ◌*◌, ◌≤◌, ◌<◌}
-use Rattle.std.specs.Prelude.{◌≡◌, Bool, ◌&&◌, drop, get_or, if◌then◌else◌}
+use Rattle.std.specs.Prelude.{◌≡◌, Bool, ◌&&◌, drop, get_or, if◌then◌else◌, None, Some, Option}
 use Rattle.std.proofs.Math.Path.{refl, sym, ap, subst}
 use Rattle.std.proofs.Common.{◌∙◌, zero-add, drop-cons, take_at, length-take-le, length-drop}
 use Rattle.std.proofs.Math.Bool.{true, false}
 use mathlib.Core.List.{List, [], ◌∷◌, ◌++◌, append-nil}
-use Rattle.std.proofs.Math.Option.{none, some, map}
+use Rattle.std.specs.Option.{option_map}
 use native.Mathlib.Omega.{arith}
 use borrow.Author.Tests.{eq-eqb, ne_eqb}
 use Rattle.std.proofs.Math.Dec.{eqb}
@@ -19,9 +19,6 @@ use Rattle.paper.specs.Cells.{encode, cells_bytes}
 use Rattle.paper.specs.JsonRead.{Token, is_data, Due, opening, closing, cell, due, begins, cell_in, fits, spells}
 use Rattle.laws.specs.Limits.{Sound}
 use Rattle.laws.specs.Results.{cell-bytes}
-use Rattle.cell.specs.Reads.{told}
-use Rattle.cell.specs.declared.bytes.Got.{Got}
-use Rattle.cell.specs.declared.bytes.Got.TheVariants.{Is, Bad}
 use Rattle.json_text.specs.Left.{Rest, preceded}
 use Rattle.json_levels.specs.declared.Begun.{Begun}
 use Rattle.json_levels.specs.Tokens.{named_by, TokenAt, TokensAt}
@@ -237,7 +234,7 @@ module _ (t : ℕ) (E : List Axis) (s : List ℕ) (i : ℕ) (f : Fit) (out : Lis
       }
 
   -- it doesn't fit
-  pub misfit-met : (d : Due) (ds : List Due) → rest_of E f.cursor ≡ d ∷ ds → fits t d (drop i s) ≡ none
+  pub misfit-met : (d : Due) (ds : List Due) → rest_of E f.cursor ≡ d ∷ ds → fits t d (drop i s) ≡ None
       → Met t E s i f out (misfitting f i) out
   misfit-met d ds e u =
       record {
@@ -251,7 +248,7 @@ module _ (t : ℕ) (E : List Axis) (s : List ℕ) (i : ℕ) (f : Fit) (out : Lis
       }
 
   -- it fits, with these cells
-  pub fit-met : (d : Due) (cs : List Cell) (r : Fit) (after : List ℕ) → fits t d (drop i s) ≡ some cs
+  pub fit-met : (d : Due) (cs : List Cell) (r : Fit) (after : List ℕ) → fits t d (drop i s) ≡ Some cs
       → FitsOn E f.cursor (f.done + length cs) r
       → rest_of E f.cursor ≡ d ∷ rest_of E r.cursor → Stored E f out cs r after → Met t E s i f out r after
   fit-met d cs r after u v e m =
@@ -294,7 +291,7 @@ module _ (t : ℕ) (E : List Axis) (s : List ℕ) (i : ℕ) (h : i < length s) (
     (w : f.stage ≡ Within)
     (d : Due) (b : ℕ) (x : Wanted) (e : f.cursor.wanted ≡ x) (ca : (ds : List Due) → came_by x ds ≡ d ∷ ds)
     (no : (ds : List Due) → cells_due (d ∷ ds) ≡ cells_due ds)
-    (fi : (bs : List ℕ) → fits t d bs ≡ (if begins (b ∷ []) bs then some [] else none))
+    (fi : (bs : List ℕ) → fits t d bs ≡ (if begins (b ∷ []) bs then Some [] else None))
     (ds : List Due) (first : rest_of E f.cursor ≡ d ∷ ds) where
   bracket-by : (r : Fit) (p : Bool) → eqb (get_or s i 0) b ≡ p → BracketBy p E i f r → Met t E s i f out r out
   unfolding BracketBy concat
@@ -328,15 +325,15 @@ module _ (t : ℕ) (E : List Axis) (s : List ℕ) (i : ℕ) (f : Fit) (out : Lis
       let b : cells_due (rest_of E f.cursor) ≡ suc (cells_due value-first.0) = ap cells_due value-first.1 in
       omega (arith, a, b, v.ready.few, v.ready.all_room)
 
-  cell-fits : (g : Got) (c : Cell) → told g ≡ cell_in t (drop i s) → g ≡ Is c → fits t cell (drop i s) ≡ some (c ∷ [])
+  cell-fits : (g : Option Cell) (c : Cell) → g ≡ cell_in t (drop i s) → g ≡ Some c → fits t cell (drop i s) ≡ Some (c ∷ [])
   unfolding fits
-  cell-fits g c e q = ap (map (λ (x : Cell). x ∷ [])) (sym e ∙ ap told q)
+  cell-fits g c e q = ap (option_map (λ (x : Cell). x ∷ [])) (sym e ∙ q)
 
-  pub value-misfit : (g : Got) → told g ≡ cell_in t (drop i s) → g ≡ Bad → Met t E s i f out (misfitting f i) out
+  pub value-misfit : (g : Option Cell) → g ≡ cell_in t (drop i s) → g ≡ None → Met t E s i f out (misfitting f i) out
   unfolding fits
   value-misfit g e q =
       misfit-met t E s i f out v.ready v.stage cell value-first.0 value-first.1
-      (ap (map (λ (x : Cell). x ∷ [])) (sym e ∙ ap told q))
+      (ap (option_map (λ (x : Cell). x ∷ [])) (sym e ∙ q))
 
   module _ (c : Cell) (after : List ℕ) (p : after ≡ take (f.done * cell_bytes) out ++ encode c ++ drop
       (f.done * cell_bytes + cell_bytes) out) where
@@ -363,7 +360,7 @@ module _ (t : ℕ) (E : List Axis) (s : List ℕ) (i : ℕ) (f : Fit) (out : Lis
         ∙ (take_at (take (f.done * cell_bytes) out ++ encode c) (drop (f.done * cell_bytes + cell_bytes) out) ((f.done + 1) * cell_bytes) n
         ∙ ap (λ (l : List ℕ). take (f.done * cell_bytes) out ++ l) (sym (append-nil (encode c))))
 
-    pub value-fits : (g : Got) → told g ≡ cell_in t (drop i s) → g ≡ Is c → (r : Fit) → FitsOn E f.cursor (f.done + 1) r
+    pub value-fits : (g : Option Cell) → g ≡ cell_in t (drop i s) → g ≡ Some c → (r : Fit) → FitsOn E f.cursor (f.done + 1) r
         → Met t E s i f out r after
     unfolding came_by cells_due
     value-fits g e q r u =

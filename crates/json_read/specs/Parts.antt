@@ -1,9 +1,8 @@
 -- The rest of what a byte began, and where blanks may stand.
-use Rattle.std.specs.Prelude.{ℕ, zero, suc, ◌+◌, ◌≤◌, ◌<◌, ◌≡◌, true, false, length, get_or}
+use Rattle.std.specs.Prelude.{ℕ, zero, suc, ◌+◌, ◌≤◌, ◌<◌, ◌≡◌, true, false, length, get_or, None, Some}
 use Rattle.std.proofs.Math.Path.{refl}
 use Rattle.std.proofs.Common.{sym, ap, ◌∙◌, subst, arith}
 use mathlib.Core.List.{List, [], ◌∷◌, ◌++◌}
-use Rattle.std.proofs.Math.Option.{none, some}
 use Rattle.paper.specs.Numbers.{text}
 use Rattle.paper.specs.Grammar.{Part, Spot, Digits, among, blank, these, optional, rules, chars, colon, number, at, word, unsigned}
 use Rattle.paper.specs.Grammar.{after_zero, after_digit}
@@ -30,7 +29,7 @@ pub record BegunEnds (s : List ℕ) (g : Begun) (i : ℕ) (e : Ended) : Type 0 w
 
 -- ---- blanks
 
-blank-at : (p : Spot) (n b : ℕ) → among blank b ≡ true → chosen (rules (at p n)) b ≡ some (at p n ∷ [])
+blank-at : (p : Spot) (n b : ℕ) → among blank b ≡ true → chosen (rules (at p n)) b ≡ Some (at p n ∷ [])
 unfolding rules chosen
 blank-at value n b e = rw e
 blank-at items n b e = rw e
@@ -79,7 +78,7 @@ module _ (s : List ℕ) (i j : ℕ) (p : PassedOver blank s i j) where
       record { within = p.within; onward = p.onward; goes = λ gs. to-colon gs ∙ left_end s (colon ∷ gs) j h refl }
 
   module _ (h : j < length s) where
-    colon-none : (get_or s j 0 ≡ 58 → ⊥) → (gs : List Part) → step (colon ∷ gs) (get_or s j 0) ≡ none
+    colon-none : (get_or s j 0 ≡ 58 → ⊥) → (gs : List Part) → step (colon ∷ gs) (get_or s j 0) ≡ None
     unfolding settled optional move rules chosen
     colon-none n gs = rw (p.other h, not_byte 58 (get_or s j 0) [] n ∙ among_none (get_or s j 0)) refl
 

@@ -1,5 +1,5 @@
 -- The form judged, the text read, the caller's buffer filled: together the paper's reading.
-use Rattle.std.specs.Prelude.{ℕ, ◌+◌, ◌*◌, ◌≤◌, ◌<◌, ◌≡◌, Bool, not, ◌&&◌, eqb, take}
+use Rattle.std.specs.Prelude.{ℕ, ◌+◌, ◌*◌, ◌≤◌, ◌<◌, ◌≡◌, Bool, not, ◌&&◌, eqb, take, Ok, Err, Result}
 use Rattle.std.proofs.Math.Path.{refl, sym, ap, subst}
 use Rattle.std.proofs.Common.{◌∙◌}
 use Rattle.std.proofs.Math.Bool.{true, false}
@@ -14,10 +14,11 @@ use Rattle.paper.specs.declared.Cell.{Cell}
 use Rattle.paper.specs.declared.Sizes.{Sizes}
 use Rattle.paper.specs.declared.Extent.{Extent}
 use Rattle.paper.specs.declared.Refusal.{Refusal}
-use Rattle.paper.specs.declared.JsonAnswer.{JsonAnswer}
-use Rattle.paper.specs.declared.JsonAnswer.TheVariants as Json
+use Rattle.paper.specs.declared.JsonRefusal.{JsonRefusal}
+use Rattle.paper.specs.declared.JsonRefusal.TheVariants as Json
 use Rattle.paper.specs.Limits.{FLOAT, most_cells, cell_bytes}
-use Rattle.paper.specs.Refusals.{Res, got, refused, ◌>>=◌, ◌>>◌, ensure, refusal, between, bad_bytes1, bad_extent2, unfit7, small_output14}
+use Rattle.versions.specs.Told.{untold}
+use Rattle.paper.specs.Refusals.{Res, ◌>>=◌, ◌>>◌, ensure, refusal, between, bad_bytes1, bad_extent2, unfit7, small_output14}
 use Rattle.paper.specs.Refusals.{not_json15, misfit16}
 use Rattle.paper.specs.Numbers.{part, over}
 use Rattle.paper.specs.Axes.{cells, good_extent}
@@ -49,19 +50,19 @@ pub record HasCells (room n : ℕ) : Type 0 where
   pub enough : n * cell_bytes ≤ room
 
 -- with room for n cells
-unfoldable pub FilledBy : Bool → List ℕ → ℕ → List ℕ → JsonAnswer → List ℕ → Type 0
-FilledBy true found n buffer r after = (r ≡ Json.Got n) × (after ≡ over (take (n * cell_bytes) found) buffer)
-FilledBy false found n buffer r after = (r ≡ Json.Refused (refusal small_output14 0 0)) × (after ≡ buffer)
+unfoldable pub FilledBy : Bool → List ℕ → ℕ → List ℕ → Result ℕ JsonRefusal → List ℕ → Type 0
+FilledBy true found n buffer r after = (r ≡ Ok n) × (after ≡ over (take (n * cell_bytes) found) buffer)
+FilledBy false found n buffer r after = (r ≡ Err (Json.Refused (refusal small_output14 0 0))) × (after ≡ buffer)
 
-abbrev pub Filled : List ℕ → ℕ → List ℕ → JsonAnswer → List ℕ → Type 0
+abbrev pub Filled : List ℕ → ℕ → List ℕ → Result ℕ JsonRefusal → List ℕ → Type 0
 Filled found n buffer r after = FilledBy (leb (n * cell_bytes) (length buffer)) found n buffer r after
 
-module _ (found : List ℕ) (n : ℕ) (buffer : List ℕ) (r : JsonAnswer) where
-  pub filled-not : length buffer < n * cell_bytes → r ≡ Json.Refused (refusal small_output14 0 0) → Filled found n buffer r buffer
+module _ (found : List ℕ) (n : ℕ) (buffer : List ℕ) (r : Result ℕ JsonRefusal) where
+  pub filled-not : length buffer < n * cell_bytes → r ≡ Err (Json.Refused (refusal small_output14 0 0)) → Filled found n buffer r buffer
   unfolding FilledBy
   filled-not h e = let q : leb (n * cell_bytes) (length buffer) ≡ false = lt-leb (n * cell_bytes) (length buffer) h in rw q (e, refl)
 
-  pub filled-so : (after : List ℕ) → n * cell_bytes ≤ length buffer → n * cell_bytes ≤ length found → r ≡ Json.Got n
+  pub filled-so : (after : List ℕ) → n * cell_bytes ≤ length buffer → n * cell_bytes ≤ length found → r ≡ Ok n
       → after ≡ take 0 buffer ++ part 0 (n * cell_bytes) found ++ drop (0 + length (part 0 (n * cell_bytes) found)) buffer
       → Filled found n buffer r after
   unfolding FilledBy
@@ -73,7 +74,7 @@ module _ (found : List ℕ) (n : ℕ) (buffer : List ℕ) (r : JsonAnswer) where
 -- ---- the paper's order
 
 abbrev filling : List Axis → ℕ → List Cell → Res (List Cell)
-filling E room cs = ensure (leb (cells E * cell_bytes) room) small_output14 0 >> got cs
+filling E room cs = ensure (leb (cells E * cell_bytes) room) small_output14 0 >> Ok cs
 
 in_order : (z : Sizes) (t : ℕ) (N : List Name) (E : List Axis) (bs : List ℕ) (room : ℕ)
     → cells_as z t N E bs room ≡ (form_tests z t N E >> (whole_of t E bs >>= filling E room))
@@ -86,20 +87,20 @@ in_order z t N E bs room = by (is_type t && between 1 z.axes (length E)) (names_
     by false q r m = refl
     by true false r m = refl
     by true true false m = refl
-    by true true true (got ks) = refl
-    by true true true (refused x) = refl
+    by true true true (Ok ks) = refl
+    by true true true (Err x) = refl
 
 -- the number of a refusal, 0 where there is none
 abbrev number_of : {A : Type 0} → Res A → ℕ
-number_of (got a) = 0
-number_of (refused x) = x.number
+number_of (Ok a) = 0
+number_of (Err x) = x.number
 
 -- what the call promises
-abbrev pub Said : JsonAnswer → List ℕ → After → Type 0
+abbrev pub Said : Result ℕ JsonRefusal → List ℕ → After → Type 0
 Said r after p = (json_said r ≡ p.answer) × (after ≡ p.buffer) × json_exact r
 
 -- the form is refused with 1, 2 or 7
-form-number : (p q r : Bool) (x : Refusal) → (ensure p bad_bytes1 0 >> (ensure q bad_extent2 0 >> ensure r unfit7 0)) ≡ refused x
+form-number : (p q r : Bool) (x : Refusal) → (ensure p bad_bytes1 0 >> (ensure q bad_extent2 0 >> ensure r unfit7 0)) ≡ Err x
     → x.number ≤ 7
 form-number false q r x e = let z : x.number ≡ 1 = sym (ap number_of e) in omega arith
 form-number true false r x e = let z : x.number ≡ 2 = sym (ap number_of e) in omega arith
@@ -116,22 +117,22 @@ module _ (z : Sizes) (t : ℕ) (N : List Name) (e : Extent) (bs buffer : List �
   abbrev paper : After
   paper = fill_with buffer (cells_as z t M E bs (length buffer))
 
-  form-few : form_tests z t M E ≡ refused x → x.number ≤ 7
+  form-few : form_tests z t M E ≡ Err x → x.number ≤ 7
   unfolding form_tests
   form-few q = form-number (is_type t && between 1 z.axes (length E)) (names_fit z M && good_extent M E) (not (eqb t FLOAT)) x q
 
   -- the form is refused
-  pub form-refused : (x.number ≡ 0 → ⊥) → Said (Json.Refused x) buffer paper
+  pub form-refused : (x.number ≡ 0 → ⊥) → Said (Err (Json.Refused x)) buffer paper
   unfolding fill_with
   form-refused h =
-      let q : form_tests z t M E ≡ refused x = sym j.said ∙ unless-refused x tt h in
-      let k : cells_as z t M E bs (length buffer) ≡ refused x =
+      let q : form_tests z t M E ≡ Err x = sym j.said ∙ unless-refused x tt h in
+      let k : cells_as z t M E bs (length buffer) ≡ Err x =
       in_order z t M E bs (length buffer) ∙ ap (λ (m : Res (Unit {0})). m >> (whole_of t E bs >>= filling E (length buffer))) q in
       let n = form-few q in
       rw k (refl, refl, ((λ w. omega (arith, w, n)), (λ w. omega (arith, w, n))))
 
   module _ (h : x.number ≡ 0) where
-    passed : form_tests z t M E ≡ got tt
+    passed : form_tests z t M E ≡ Ok tt
     passed = sym j.said ∙ unless-got x tt h
 
     pub form-room : (room : ℕ) → room ≡ most_cells * cell_bytes → AllRoom E room
@@ -154,20 +155,20 @@ module _ (z : Sizes) (t : ℕ) (N : List Name) (e : Extent) (bs buffer : List �
         in_order z t M E bs (length buffer)
         ∙ ap (λ (m : Res (Unit {0})). m >> (whole_of t E bs >>= filling E (length buffer))) passed
 
-    refused-so : (y : Refusal) → whole_of t E bs ≡ refused y → (r : JsonAnswer) → json_said r ≡ refused y → json_exact r → Said r buffer paper
+    refused-so : (y : Refusal) → whole_of t E bs ≡ Err y → (r : Result ℕ JsonRefusal) → json_said r ≡ Err y → json_exact r → Said r buffer paper
     unfolding fill_with
     refused-so y w r s v =
-        let k : cells_as z t M E bs (length buffer) ≡ refused y = to-text
+        let k : cells_as z t M E bs (length buffer) ≡ Err y = to-text
         ∙ ap (λ (m : Res (List Cell)). m >>= filling E (length buffer)) w in
         rw k (s, refl, v)
 
-    pub not-json-said : (out : List ℕ) (i : ℕ) → ScanFound t E bs out (Found.NotJson i) → Said (Json.NotJson i) buffer paper
+    pub not-json-said : (out : List ℕ) (i : ℕ) → ScanFound t E bs out (Found.NotJson i) → Said (Err (Json.NotJson i)) buffer paper
     unfolding ScanFound
-    not-json-said out i w = refused-so (refusal not_json15 0 i) w (Json.NotJson i) refl tt
+    not-json-said out i w = refused-so (refusal not_json15 0 i) w (Err (Json.NotJson i)) refl tt
 
-    pub misfit-said : (out : List ℕ) (i : ℕ) → ScanFound t E bs out (Found.Misfit i) → Said (Json.Misfit i) buffer paper
+    pub misfit-said : (out : List ℕ) (i : ℕ) → ScanFound t E bs out (Found.Misfit i) → Said (Err (Json.Misfit i)) buffer paper
     unfolding ScanFound
-    misfit-said out i w = refused-so (refusal misfit16 0 i) w (Json.Misfit i) refl tt
+    misfit-said out i w = refused-so (refusal misfit16 0 i) w (Err (Json.Misfit i)) refl tt
 
     module _ (out : List ℕ) (n : ℕ) (w : ScanFound t E bs out (Found.Cells n)) where
       the-cells : CellsFound t E bs out n
@@ -185,37 +186,38 @@ module _ (z : Sizes) (t : ℕ) (N : List Name) (e : Extent) (bs buffer : List �
       cs = the-cells.found
 
       to-cells : (p : Bool) → leb (n * cell_bytes) (length buffer) ≡ p
-          → cells_as z t M E bs (length buffer) ≡ (ensure p small_output14 0 >> got cs)
+          → cells_as z t M E bs (length buffer) ≡ (ensure p small_output14 0 >> Ok cs)
       unfolding cs
       to-cells p q =
           to-text ∙ (ap (λ (m : Res (List Cell)). m >>= filling E (length buffer)) the-cells.whole
-          ∙ (ap (λ (k : ℕ). ensure (leb (k * cell_bytes) (length buffer)) small_output14 0 >> got the-cells.found) (sym the-cells.full)
-          ∙ ap (λ (b : Bool). ensure b small_output14 0 >> got the-cells.found) q))
+          ∙ (ap (λ (k : ℕ). ensure (leb (k * cell_bytes) (length buffer)) small_output14 0 >> Ok the-cells.found) (sym the-cells.full)
+          ∙ ap (λ (b : Bool). ensure b small_output14 0 >> Ok the-cells.found) q))
 
-      said-by : (r : JsonAnswer) (after : List ℕ) (p : Bool) → leb (n * cell_bytes) (length buffer) ≡ p → FilledBy p out n buffer r after
+      said-by : (r : Result ℕ JsonRefusal) (after : List ℕ) (p : Bool) → leb (n * cell_bytes) (length buffer) ≡ p → FilledBy p out n buffer r after
           → Said r after paper
       unfolding FilledBy fill_with cs
       said-by r after true q v =
           rw (to-cells true q) (
-            ap json_said v.0 ∙ ap got the-cells.number,
+            ap json_said v.0 ∙ ap Ok the-cells.number,
             v.1 ∙ ap (λ (l : List ℕ). over l buffer) the-cells.held,
             subst json_exact (sym v.0) tt,
           )
       said-by r after false q v = rw (to-cells false q)
           (ap json_said v.0, v.1, subst json_exact (sym v.0) ((λ w. omega arith), (λ w. omega arith)))
 
-      pub cells-said : (r : JsonAnswer) (after : List ℕ) → Filled out n buffer r after → Said r after paper
+      pub cells-said : (r : Result ℕ JsonRefusal) (after : List ℕ) → Filled out n buffer r after → Said r after paper
       cells-said r after f = said-by r after (leb (n * cell_bytes) (length buffer)) refl f
 
 -- in a version that is told, and in no other
-pub told-said : (v : ℕ) (z : Sizes) (t : ℕ) (N : List Name) (E : List Axis) (bs buffer : List ℕ) (r : JsonAnswer) (after : List ℕ)
-    → version_told v ≡ got z
+pub told-said : (v : ℕ) (z : Sizes) (t : ℕ) (N : List Name) (E : List Axis) (bs buffer : List ℕ) (r : Result ℕ JsonRefusal) (after : List ℕ)
+    → version_told v ≡ Ok z
     → Said r after (fill_with buffer (cells_as z t N E bs (length buffer))) → Said r after (read_json v t N E bs buffer)
 unfolding cells_in
 told-said v z t N E bs buffer r after e s = rw e s
 
-pub unknown-said : (v t : ℕ) (N : List Name) (E : List Axis) (bs buffer : List ℕ) (r : JsonAnswer)
-    → version_told v ≡ refused (refusal bad_bytes1 0 0)
-    → r ≡ Json.Refused (refusal bad_bytes1 0 0) → Said r buffer (read_json v t N E bs buffer)
+pub unknown-said : (v t : ℕ) (N : List Name) (E : List Axis) (bs buffer : List ℕ) (r : Result ℕ JsonRefusal)
+    → {x : Refusal} → version_told v ≡ Err x → r ≡ Err (Json.Refused x) → Said r buffer (read_json v t N E bs buffer)
 unfolding cells_in fill_with
-unknown-said v t N E bs buffer r e q = rw e (ap json_said q, refl, subst json_exact (sym q) ((λ w. omega arith), (λ w. omega arith)))
+unknown-said v t N E bs buffer r {x} e q =
+    let n : x.number ≡ bad_bytes1 = ap (λ (y : Refusal). y.number) (untold v (sym e)) in
+    rw e (ap json_said q, refl, subst json_exact (sym q) ((λ w. omega (arith, n, w)), (λ w. omega (arith, n, w))))

@@ -1,13 +1,12 @@
 -- The loop over a text: after each token, what reading comes to is what is left of it comes to, with the cells that are stored.
-use Rattle.std.specs.Prelude.{ℕ, zero, suc, ◌+◌, ◌*◌, ◌≤◌, ◌<◌, ◌≡◌, Bool, true, false, ◌⊎◌, eqb, length, take, drop, get_or}
+use Rattle.std.specs.Prelude.{ℕ, zero, suc, ◌+◌, ◌*◌, ◌≤◌, ◌<◌, ◌≡◌, Bool, true, false, ◌⊎◌, eqb, length, take, drop, get_or, None, Some, Ok, Err}
 use Rattle.std.proofs.Math.Path.{refl, ap, subst}
 use Rattle.std.proofs.Common.{sym, ◌∙◌, inl, inr, arith, eqb-true, length-append, drop_of_length-le}
 use mathlib.Core.List.{List, [], ◌∷◌, ◌++◌, append-nil, append_assoc}
-use Rattle.std.proofs.Math.Option.{none, some}
 use Rattle.paper.specs.declared.Axis.{Axis}
 use Rattle.paper.specs.declared.Cell.{Cell}
 use Rattle.paper.specs.Limits.{most_cells, cell_bytes}
-use Rattle.paper.specs.Refusals.{Res, got, refused, ◌>>=◌, refusal, not_json15, misfit16}
+use Rattle.paper.specs.Refusals.{Res, ◌>>=◌, refusal, not_json15, misfit16}
 use Rattle.paper.specs.Numbers.{concat}
 use Rattle.paper.specs.Axes.{cells}
 use Rattle.paper.specs.Cells.{encode, cells_bytes}
@@ -84,15 +83,15 @@ pub record AllRoom (E : List Axis) (room : ℕ) : Type 0 where
 -- cells that are stored
 pub record CellsFound (t : ℕ) (E : List Axis) (s out : List ℕ) (n : ℕ) : Type 0 where
   pub found : List Cell
-  pub whole : whole_of t E s ≡ got found
+  pub whole : whole_of t E s ≡ Ok found
   pub number : n ≡ length found
   pub full : n ≡ cells E
   pub held : take (n * cell_bytes) out ≡ cells_bytes found
 
 unfoldable pub ScanFound : ℕ → List Axis → List ℕ → List ℕ → Found → Type 0
 ScanFound t E s out (Found.Cells n) = CellsFound t E s out n
-ScanFound t E s out (Found.NotJson i) = whole_of t E s ≡ refused (refusal not_json15 0 i)
-ScanFound t E s out (Found.Misfit i) = whole_of t E s ≡ refused (refusal misfit16 0 i)
+ScanFound t E s out (Found.NotJson i) = whole_of t E s ≡ Err (refusal not_json15 0 i)
+ScanFound t E s out (Found.Misfit i) = whole_of t E s ≡ Err (refusal misfit16 0 i)
 
 -- ---- on the way
 
@@ -140,7 +139,7 @@ along-start t E s i out a p =
 
 -- ---- a turn of the loop
 
-comes-some : (g : Begun) (gs : List Part) → (g ≡ Begun.Nothing → ⊥) → comes g gs ≡ some (head_of g ++ gs)
+comes-some : (g : Begun) (gs : List Part) → (g ≡ Begun.Nothing → ⊥) → comes g gs ≡ Some (head_of g ++ gs)
 unfolding comes head_of
 comes-some Begun.Nothing gs n = absurd (n refl)
 comes-some Begun.Comma gs n = refl
@@ -186,12 +185,12 @@ nothing-or Begun.True = inr (some-thing Begun.True refl)
 nothing-or Begun.False = inr (some-thing Begun.False refl)
 nothing-or Begun.Null = inr (some-thing Begun.Null refl)
 
-nothing-none : (g : Begun) (gs : List Part) → g ≡ Begun.Nothing → comes g gs ≡ none
+nothing-none : (g : Begun) (gs : List Part) → g ≡ Begun.Nothing → comes g gs ≡ None
 unfolding comes
 nothing-none g gs e = ap (λ (x : Begun). comes x gs) e
 
 twice-refused : (E : List Axis) (g : Fit) → g.stage ≡ Stopped → (t n : ℕ) (cs : List Cell) (R : Rest)
-    → with cs (outcome t n (phase_of E g) R) ≡ refused (refusal not_json15 0 g.place)
+    → with cs (outcome t n (phase_of E g) R) ≡ Err (refusal not_json15 0 g.place)
 unfolding phase_by outcome
 twice-refused E g e t n cs R = ap (λ (x : Stage). with cs (outcome t n (phase_by E x g.place g.cursor) R)) e
 
@@ -238,16 +237,16 @@ module _ (t : ℕ) (E : List Axis) (s : List ℕ) (v : Levels) (f : Fit) (i : �
       ∙ with-more a.had m.new (outcome t past (phase_of E g) R)))
 
   -- it ends there
-  pub turn_stopped : stopped? g.stage ≡ true → whole_of t E s ≡ refused (refusal not_json15 0 g.place)
+  pub turn_stopped : stopped? g.stage ≡ true → whole_of t E s ≡ Err (refusal not_json15 0 g.place)
   turn_stopped e = by (nothing-or r.begun)
     where
-      by : (r.begun ≡ Begun.Nothing) ⊎ (r.begun ≡ Begun.Nothing → ⊥) → whole_of t E s ≡ refused (refusal not_json15 0 g.place)
+      by : (r.begun ≡ Begun.Nothing) ⊎ (r.begun ≡ Begun.Nothing → ⊥) → whole_of t E s ≡ Err (refusal not_json15 0 g.place)
       by (inl q) =
-          let z : step (parts_of v) (get_or s i 0) ≡ none = u.goes ∙ nothing-none r.begun (parts_of r.levels) q in
+          let z : step (parts_of v) (get_or s i 0) ≡ None = u.goes ∙ nothing-none r.begun (parts_of r.levels) q in
           a.comes-to
           ∙ (ap (λ (x : Rest). with a.had (outcome t past (phase_of E f) x)) (left-stops s (parts_of v) i h z)
           ∙ (ap (with a.had) (stopped t past i (phase_of E f) a.alive)
-          ∙ ap (λ (x : Fit). refused (refusal not_json15 0 x.place)) (sym (m.stopped q))))
+          ∙ ap (λ (x : Fit). Err (refusal not_json15 0 x.place)) (sym (m.stopped q))))
       by (inr n) = to-rest n ∙ twice-refused E g (stage-stopped g.stage e) t past (a.had ++ m.new)
           (left s (head_of r.begun ++ parts_of r.levels) (i + 1))
 
@@ -257,7 +256,7 @@ module _ (t : ℕ) (E : List Axis) (s : List ℕ) (v : Levels) (f : Fit) (i : �
         (b.goes (parts_of r.levels) u.behind)
 
     -- what was begun stops being JSON
-    pub turn-unsound : x.sound ≡ false → whole_of t E s ≡ refused (refusal not_json15 0 (x.at + 1))
+    pub turn-unsound : x.sound ≡ false → whole_of t E s ≡ Err (refusal not_json15 0 (x.at + 1))
     turn-unsound q =
         to-reached ∙ (rw q (ap (with (a.had ++ m.new)) (stopped t past x.at (phase_of E g)
         (stage-alive E g.stage g.place g.cursor e))))
@@ -307,7 +306,7 @@ left-done s i h = let e : drop i s ≡ [] = drop_of_length-le s {i = i} h in rw 
 module _ (t : ℕ) (E : List Axis) (s : List ℕ) (v : Levels) (f : Fit) (i : ℕ) (out : List ℕ) (a : Along t E s v f i out)
     (h : length s ≤ i) where
   -- the object is not closed
-  pub end-open : ended? v ≡ false → whole_of t E s ≡ refused (refusal not_json15 0 (i + 1))
+  pub end-open : ended? v ≡ false → whole_of t E s ≡ Err (refusal not_json15 0 (i + 1))
   end-open e =
       a.comes-to
       ∙ (ap (λ (x : Rest). with a.had (outcome t (length s + 1) (phase_of E f) x))
@@ -329,7 +328,7 @@ module _ (t : ℕ) (E : List Axis) (s : List ℕ) (v : Levels) (f : Fit) (i : �
     to-stage : (x : Stage) → f.stage ≡ x → whole_of t E s ≡ with a.had (outcome t (i + 1) (phase_by E x f.place f.cursor) done)
     to-stage x q = to-done ∙ ap (λ (y : Stage). with a.had (outcome t (i + 1) (phase_by E y f.place f.cursor) done)) q
 
-    short : (d : Due) (ds : List Due) → rest_of E f.cursor ≡ d ∷ ds → f.stage ≡ Within → whole_of t E s ≡ refused (refusal misfit16 0 0)
+    short : (d : Due) (ds : List Due) → rest_of E f.cursor ≡ d ∷ ds → f.stage ≡ Within → whole_of t E s ≡ Err (refusal misfit16 0 0)
     unfolding phase_by
     short d ds q w =
         to-stage Within w
@@ -347,7 +346,7 @@ module _ (t : ℕ) (E : List Axis) (s : List ℕ) (v : Levels) (f : Fit) (i : �
           whole =
               to-stage Within w
               ∙ (ap (λ (l : List Due). with a.had (outcome t (i + 1) (within l) done)) q
-              ∙ (ap (with a.had) (done-over t (i + 1)) ∙ ap got (append-nil a.had)));
+              ∙ (ap (with a.had) (done-over t (i + 1)) ∙ ap Ok (append-nil a.had)));
           number = a.number;
           full = omega (arith, k, z);
           held = a.held;
@@ -370,7 +369,7 @@ module _ (t : ℕ) (E : List Axis) (s : List ℕ) (v : Levels) (f : Fit) (i : �
     pub end-closed : (r : Found) → r ≡ end_found (i + 1) f → ScanFound t E s out r
     end-closed r q = subst (ScanFound t E s out) (sym q) (found-by f.stage refl)
 
-pub not-json : (t : ℕ) (E : List Axis) (s out : List ℕ) (i : ℕ) → whole_of t E s ≡ refused (refusal not_json15 0 i)
+pub not-json : (t : ℕ) (E : List Axis) (s out : List ℕ) (i : ℕ) → whole_of t E s ≡ Err (refusal not_json15 0 i)
     → ScanFound t E s out (Found.NotJson i)
 unfolding ScanFound
 not-json t E s out i e = e

@@ -9,7 +9,7 @@ ghost use Rattle.json_due.specs.Due.{Stands};
 ghost use Rattle.json_read.specs.Fit.{Ready, WithinDue, ValueDue, Met, BracketMet, FitsOn, TokenMet};
 ghost use Rattle.json_read.specs.Fit.{waiting, misfitting, stopping, after_data, name_sign, sign_of};
 
-use cell::bytes::{Got, write_cell};
+use cell::bytes::write_cell;
 use json_due::{Cursor, Wanted, due_after, due_first};
 use json_levels::Begun;
 use json_text::cells::cell_at;
@@ -103,11 +103,11 @@ fn value_met(s: &[u8], at: usize, kind: u8, e: Extent, fit: Fit, out: &mut [u8])
 {
     let value = cell_at(s, at, kind);
     match value {
-        Got::Is(c) => {
+        Some(c) => {
             write_cell(out, fit.done * CELL_BYTES, c);
             return fitting(e, fit, fit.done + 1);
         }
-        Got::Bad => return misfit(fit, at),
+        None => return misfit(fit, at),
     }
 }
 

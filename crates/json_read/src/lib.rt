@@ -11,10 +11,10 @@ ghost use Rattle.json_read.specs.Read.{FormJudged, HasCells, Filled};
 use cell::bytes::copy_bytes;
 use extent::names::names_fit;
 use extent::{good_extent, rank_of};
-use paper::{AXES, CELL_BYTES, Extent, FLOAT, JsonAnswer, Name, Refusal, TYPES, Version};
+use paper::{AXES, CELL_BYTES, Extent, FLOAT, JsonRefusal, Name, Refusal, TYPES, Version};
 use refusals::{in_range, none, refuse};
 use scan::{Found, scan};
-use versions::{Told, sizes, version_told};
+use versions::{sizes, version_told};
 
 pub mod fit;
 pub mod parts;
@@ -47,16 +47,16 @@ fn form_refusal(v: Version, kind: u8, names: [Name; AXES], e: Extent) -> Refusal
 }
 
 // n cells from the reader's buffer into the caller's: 14 where that is too short.
-fn fill(found: &[u8], n: usize, cells: &mut [u8]) -> JsonAnswer
+fn fill(found: &[u8], n: usize, cells: &mut [u8]) -> Result<u32, JsonRefusal>
     requires { HasCells (length found.now) n }
     ensures { Filled found.now n cells.old result cells.new }
 {
     let bytes = n * CELL_BYTES;
     if cells.len() < bytes {
-        return JsonAnswer::Refused(refuse(14, 0));
+        return Err(JsonRefusal::Refused(refuse(14, 0)));
     }
     copy_bytes(found, 0, cells, 0, bytes);
-    JsonAnswer::Got(n as u32)
+    Ok(n as u32)
 }
 
 // In a version: the number of cells, or the refusal; then `cells` is as it was.
@@ -67,7 +67,7 @@ pub fn read_as(
     extent: Extent,
     text: &[u8],
     cells: &mut [u8],
-) -> JsonAnswer
+) -> Result<u32, JsonRefusal>
     ensures { (json_said result ≡ (fill_with cells.old (cells_as (sizes_of v) kind (names_for (axes_of extent) names) (axes_of extent)
         text.now (length cells.old))).answer)
         × (cells.new ≡ (fill_with cells.old (cells_as (sizes_of v) kind (names_for (axes_of extent) names) (axes_of extent)
@@ -75,14 +75,14 @@ pub fn read_as(
 {
     let refusal = form_refusal(v, kind, names, extent);
     if refusal.number != 0 {
-        return JsonAnswer::Refused(refusal);
+        return Err(JsonRefusal::Refused(refusal));
     }
     let mut buffer = [0u8; MOST];
     let found = scan(text, kind, extent, &mut buffer);
     match found {
         Found::Cells(n) => return fill(&buffer, n, cells),
-        Found::NotJson(i) => return JsonAnswer::NotJson(i),
-        Found::Misfit(i) => return JsonAnswer::Misfit(i),
+        Found::NotJson(i) => return Err(JsonRefusal::NotJson(i)),
+        Found::Misfit(i) => return Err(JsonRefusal::Misfit(i)),
     }
 }
 
@@ -94,15 +94,12 @@ pub fn read(
     extent: Extent,
     text: &[u8],
     cells: &mut [u8],
-) -> JsonAnswer
+) -> Result<u32, JsonRefusal>
     ensures { (json_said result ≡ (read_json version kind (names_for (axes_of extent) names) (axes_of extent) text.now
         cells.old).answer)
         × (cells.new ≡ (read_json version kind (names_for (axes_of extent) names) (axes_of extent) text.now
         cells.old).buffer) × json_exact result }
 {
-    let told = version_told(version);
-    match told {
-        Told::Is(v) => return read_as(v, kind, names, extent, text, cells),
-        Told::Unknown => return JsonAnswer::Refused(refuse(1, 0)),
-    }
+    let v = version_told(version)?;
+    read_as(v, kind, names, extent, text, cells)
 }

@@ -1,8 +1,7 @@
 -- What is left of a text from byte i on (i from 0) while parts are still to come: where it stops being JSON, and its tokens. A reader of a
 -- part says how what is left with the part in front follows from what is left behind it.
-use Rattle.std.specs.Prelude.{◌≡◌, ℕ, ◌+◌, ◌<◌, ◌≤◌, false, List, [], ◌∷◌, ◌++◌, length, drop, slice_index, refl, if◌then◌else◌}
+use Rattle.std.specs.Prelude.{◌≡◌, ℕ, ◌+◌, ◌<◌, ◌≤◌, false, List, [], ◌∷◌, ◌++◌, length, drop, slice_index, refl, if◌then◌else◌, Option, None, Some}
 use Rattle.std.proofs.Common.{sym, ap, ◌∙◌, add-one, drop-cons}
-use Rattle.std.proofs.Math.Option.{Option, none, some}
 use Rattle.std.proofs.Math.ListN.{drop_of_length-le}
 use Rattle.paper.specs.Grammar.{Part}
 use Rattle.paper.specs.Machine.{settled, step, complete, fault_from}
@@ -19,7 +18,7 @@ left s gs i = record { fault = fault_from gs (i + 1) (drop i s); tokens = tokens
 
 -- the text stops being JSON with byte i, and no token is left
 abbrev pub stops : ℕ → Rest
-stops i = record { fault = some (i + 1); tokens = [] }
+stops i = record { fault = Some (i + 1); tokens = [] }
 
 -- what is left where a reader of a part ended, with these parts to come: sound, or stopped there
 abbrev pub reached : List ℕ → List Part → Ended → Rest
@@ -44,12 +43,12 @@ module _ (s : List ℕ) (gs : List Part) (i : ℕ) where
 
   module _ (h : i < length s) where
     -- no part goes on with the byte
-    pub left-stops : step gs (slice_index s i) ≡ none → left s gs i ≡ stops i
+    pub left-stops : step gs (slice_index s i) ≡ None → left s gs i ≡ stops i
     unfolding left fault_from tokens_from
     left-stops e = rw (byte_next s i h, e)
 
     -- a byte at which no token begins
-    pub left-byte : (hs : List Part) → step gs (slice_index s i) ≡ some hs
+    pub left-byte : (hs : List Part) → step gs (slice_index s i) ≡ Some hs
         → token_of (settled gs (slice_index s i)) (i + 1) (slice_index s i) (drop (i + 1) s) ≡ [] → left s gs i ≡ left s hs (i + 1)
     unfolding left fault_from tokens_from
     left-byte hs e f = rw (byte_next s i h, e, f)
@@ -58,7 +57,7 @@ module _ (s : List ℕ) (gs : List Part) (i : ℕ) where
 abbrev pub preceded : List Token → Rest → Rest
 preceded ks r = record { fault = r.fault; tokens = ks ++ r.tokens }
 
-pub left-token : (s : List ℕ) (gs : List Part) (i : ℕ) → i < length s → (hs : List Part) → step gs (slice_index s i) ≡ some hs
+pub left-token : (s : List ℕ) (gs : List Part) (i : ℕ) → i < length s → (hs : List Part) → step gs (slice_index s i) ≡ Some hs
     → left s gs i ≡ preceded (token_of (settled gs (slice_index s i)) (i + 1) (slice_index s i) (drop (i + 1) s)) (left s hs (i + 1))
 unfolding left fault_from tokens_from
 left-token s gs i h hs e = rw (byte_next s i h, e)

@@ -1,7 +1,6 @@
 -- Numbers from a byte on: digits passed over, a digit that is due, and how what is left after a number follows from its parts.
-use Rattle.std.specs.Prelude.{◌≡◌, ℕ, ◌+◌, ◌<◌, ◌≤◌, Bool, true, false, List, [], ◌∷◌, ◌++◌, length, drop, ◌≢◌, nat_le, slice_index, slice_index_or, refl, if◌then◌else◌}
+use Rattle.std.specs.Prelude.{◌≡◌, ℕ, ◌+◌, ◌<◌, ◌≤◌, Bool, true, false, List, [], ◌∷◌, ◌++◌, length, drop, ◌≢◌, nat_le, slice_index, slice_index_or, refl, if◌then◌else◌, None, Some}
 use Rattle.std.proofs.Common.{sym, ap, ◌∙◌, leb-true, leb-false}
-use Rattle.std.proofs.Math.Option.{none, some}
 use native.Mathlib.Omega.{arith}
 use Rattle.paper.specs.Grammar.{Bytes, Part, Spot, Digits, Rule, among, digit, these, ends, optional, rules, fraction, power}
 use Rattle.paper.specs.Grammar.{one, number, at, unsigned, after_zero, after_digit, after_fraction, after_e}
@@ -17,7 +16,7 @@ use Rattle.json_text.specs.Kinds.{digit-from, digit-to, digit_not}
 
 -- a byte moves the parts on, and no token begins with it
 pub record Moves (gs : List Part) (b : ℕ) (hs : List Part) : Type 0 where
-  pub goes : step gs b ≡ some hs
+  pub goes : step gs b ≡ Some hs
   pub quiet : (i : ℕ) (bs : List ℕ) → token_of (settled gs b) i b bs ≡ []
 
 pub moved-left : (s : List ℕ) (gs hs : List Part) (i : ℕ) → i < length s → Moves gs (slice_index s i) hs → left s gs i ≡ left s hs (i + 1)
@@ -66,7 +65,7 @@ module _ (c : Bytes) (s : List ℕ) (i : ℕ) where
 pub record DigitDue (s : List ℕ) (i : ℕ) (gs hs : List Part) : Type 0 where
   pub missing : complete gs ≡ false
   pub by-digit : (b : ℕ) → among digit b ≡ true → Moves gs b hs
-  pub by-other : i < length s → among digit (slice_index s i) ≡ false → step gs (slice_index s i) ≡ none
+  pub by-other : i < length s → among digit (slice_index s i) ≡ false → step gs (slice_index s i) ≡ None
 
 -- a digit and more from byte i on end so, and no digit follows
 pub record DigitsRead (s : List ℕ) (i : ℕ) (e : Ended) : Type 0 where
@@ -113,7 +112,7 @@ settled_at : (p : Spot) (n : ℕ) (gs : List Part) (b : ℕ) → settled (at p n
 unfolding settled optional
 settled_at p n gs b = refl
 
-number-stays : (d : Digits) (gs ps : List Part) (b : ℕ) → chosen (rules (number d)) b ≡ some ps → settled (number d ∷ gs) b ≡ number d ∷ gs
+number-stays : (d : Digits) (gs ps : List Part) (b : ℕ) → chosen (rules (number d)) b ≡ Some ps → settled (number d ∷ gs) b ≡ number d ∷ gs
 unfolding settled optional
 number-stays d gs ps b e = by_end (ends d)
   where
@@ -121,7 +120,7 @@ number-stays d gs ps b e = by_end (ends d)
     by_end true = rw e
     by_end false = refl
 
-number-move : (d : Digits) (gs ps : List Part) (b : ℕ) → chosen (rules (number d)) b ≡ some ps → move (number d ∷ gs) b ≡ some (ps ++ gs)
+number-move : (d : Digits) (gs ps : List Part) (b : ℕ) → chosen (rules (number d)) b ≡ Some ps → move (number d ∷ gs) b ≡ Some (ps ++ gs)
 unfolding move
 number-move d gs ps b e = rw e
 
@@ -130,13 +129,13 @@ unfolding token_of
 number-quiet d gs i b bs = refl
 
 -- a byte that goes on with the number
-pub number-moves : (d : Digits) (gs ps : List Part) (b : ℕ) → chosen (rules (number d)) b ≡ some ps → Moves (number d ∷ gs) b (ps ++ gs)
+pub number-moves : (d : Digits) (gs ps : List Part) (b : ℕ) → chosen (rules (number d)) b ≡ Some ps → Moves (number d ∷ gs) b (ps ++ gs)
 number-moves d gs ps b e = record { goes = moves e; quiet = λ i bs. silent i bs }
   where
     stays : settled (number d ∷ gs) b ≡ number d ∷ gs
     stays = number-stays d gs ps b e
 
-    moves : chosen (rules (number d)) b ≡ some ps → step (number d ∷ gs) b ≡ some (ps ++ gs)
+    moves : chosen (rules (number d)) b ≡ Some ps → step (number d ∷ gs) b ≡ Some (ps ++ gs)
     moves q = ap (λ (l : List Part). move l b) stays ∙ number-move d gs ps b q
 
     silent : (i : ℕ) (bs : List ℕ) → token_of (settled (number d ∷ gs) b) i b bs ≡ []
@@ -160,13 +159,13 @@ abbrev pub Fractioned : List ℕ → ℕ → Digits → Type 0
 Fractioned s i d = GoesBy (fraction ∷ power ∷ []) s i d
 
 -- it is over before a byte that does not go on with it, and at the text's end
-over-settled : (d : Digits) (p : Spot) (n : ℕ) (gs : List Part) (b : ℕ) → ends d ≡ true → chosen (rules (number d)) b ≡ none
+over-settled : (d : Digits) (p : Spot) (n : ℕ) (gs : List Part) (b : ℕ) → ends d ≡ true → chosen (rules (number d)) b ≡ None
     → settled (number d ∷ at p n ∷ gs) b ≡ settled (at p n ∷ gs) b
 unfolding settled optional
 over-settled d p n gs b e c = rw (e, c) refl
 
 module _ (s : List ℕ) (i : ℕ) (d : Digits) (e : ends d ≡ true) where
-  pub number-over : (p : Spot) (n : ℕ) (gs : List Part) → (i < length s → chosen (rules (number d)) (slice_index s i) ≡ none)
+  pub number-over : (p : Spot) (n : ℕ) (gs : List Part) → (i < length s → chosen (rules (number d)) (slice_index s i) ≡ None)
       → left s (number d ∷ at p n ∷ gs) i ≡ left s (at p n ∷ gs) i
   number-over p n gs c = by-test (nat_le (length s) i) refl
     where
@@ -178,7 +177,7 @@ module _ (s : List ℕ) (i : ℕ) (d : Digits) (e : ends d ≡ true) where
           let k : i < length s = leb-false (length s) i h in
           left-settled s (number d ∷ at p n ∷ gs) (at p n ∷ gs) i k (over-settled d p n gs (slice_index s i) e (c k))
 
-  pub number-done : i ≤ length s → (i < length s → chosen (rules (number d)) (slice_index s i) ≡ none) → NumberEnds s d i (ended i true)
+  pub number-done : i ≤ length s → (i < length s → chosen (rules (number d)) (slice_index s i) ≡ None) → NumberEnds s d i (ended i true)
   number-done h c = record { within = h; onward = omega arith; goes = λ p n gs. number-over p n gs c }
 
 -- ---- an exponent
@@ -187,7 +186,7 @@ none-among : (b : ℕ) → among [] b ≡ false
 unfolding among
 none-among b = refl
 
-unsigned-none : (b : ℕ) (gs : List Part) → among digit b ≡ false → step (number unsigned ∷ gs) b ≡ none
+unsigned-none : (b : ℕ) (gs : List Part) → among digit b ≡ false → step (number unsigned ∷ gs) b ≡ None
 unfolding settled optional ends move rules chosen
 unsigned-none b gs n = rw (digit_not b n 48 48 (omega arith) (omega arith), digit_not b n 0x31 0x39 (omega arith) (omega arith)) refl
 
@@ -202,15 +201,15 @@ e_e = these "eE"
 abbrev pub signs : Bytes
 signs = these "+-"
 
-power-none : (b : ℕ) → among e_e b ≡ false → chosen (power ∷ []) b ≡ none
+power-none : (b : ℕ) → among e_e b ≡ false → chosen (power ∷ []) b ≡ None
 unfolding chosen
 power-none b e = rw e refl
 
-power-some : (b : ℕ) → among e_e b ≡ true → chosen (power ∷ []) b ≡ some (number after_e ∷ [])
+power-some : (b : ℕ) → among e_e b ≡ true → chosen (power ∷ []) b ≡ Some (number after_e ∷ [])
 unfolding chosen
 power-some b e = rw e refl
 
-digit-stays : (d : Digits) (gs : List Part) → ((b : ℕ) → among digit b ≡ true → chosen (rules (number d)) b ≡ some (number d ∷ []))
+digit-stays : (d : Digits) (gs : List Part) → ((b : ℕ) → among digit b ≡ true → chosen (rules (number d)) b ≡ Some (number d ∷ []))
     → Stays digit (number d ∷ gs)
 digit-stays d gs f b e = number-moves d gs (number d ∷ []) b (f b e)
 
@@ -325,7 +324,7 @@ no-point : (b : ℕ) → (b ≢ 46) → chosen (fraction ∷ power ∷ []) b ≡
 unfolding chosen
 no-point b n = let e : among ((46, 46) ∷ []) b ≡ among [] b = not_byte 46 b [] n in rw (e ∙ none-among b) refl
 
-a_point : (b : ℕ) → b ≡ 46 → chosen (fraction ∷ power ∷ []) b ≡ some (one digit ∷ number after_fraction ∷ [])
+a_point : (b : ℕ) → b ≡ 46 → chosen (fraction ∷ power ∷ []) b ≡ Some (one digit ∷ number after_fraction ∷ [])
 unfolding chosen among
 a_point b e = rw e refl
 
@@ -386,7 +385,7 @@ module _ (s : List ℕ) (i : ℕ) where
   minus-missing h j = record { within = h; onward = omega arith; goes = λ p n gs. left_end s (number unsigned ∷ at p n ∷ gs) i j refl }
 
   module _ (h : i < length s) where
-    first-moves : (d : Digits) (e : Ended) → chosen (rules (number unsigned)) (slice_index s i) ≡ some (number d ∷ [])
+    first-moves : (d : Digits) (e : Ended) → chosen (rules (number unsigned)) (slice_index s i) ≡ Some (number d ∷ [])
         → NumberEnds s d (i + 1) e → NumberEnds s unsigned i e
     first-moves d e q v =
         record {
@@ -426,5 +425,5 @@ module _ (s : List ℕ) (i : ℕ) where
           (none-goes p m gs);
     }
       where
-        none-goes : (p : Spot) (m : ℕ) (gs : List Part) → step (number unsigned ∷ at p m ∷ gs) (slice_index s i) ≡ none
+        none-goes : (p : Spot) (m : ℕ) (gs : List Part) → step (number unsigned ∷ at p m ∷ gs) (slice_index s i) ≡ None
         none-goes p m gs = unsigned-none (slice_index s i) (at p m ∷ gs) n

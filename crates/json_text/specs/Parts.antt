@@ -1,9 +1,8 @@
 -- A part that is neither left out nor the beginning of a token, at a byte: by the rule that has the byte, or by none. Which rule that
 -- is, is computed for all bytes from one to another at once.
-use Rattle.std.specs.Prelude.{◌≡◌, ℕ, ◌+◌, ◌<◌, ◌≤◌, Bool, true, false, ◌&&◌, ◌||◌, List, [], ◌∷◌, ◌++◌, length, drop, nat_le, nat_lt, slice_index, if◌then◌else◌}
+use Rattle.std.specs.Prelude.{◌≡◌, ℕ, ◌+◌, ◌<◌, ◌≤◌, Bool, true, false, ◌&&◌, ◌||◌, List, [], ◌∷◌, ◌++◌, length, drop, nat_le, nat_lt, slice_index, if◌then◌else◌, Option, None, Some}
 use Rattle.std.proofs.Math.Path.{refl}
 use Rattle.std.proofs.Common.{sym, subst, ◌∙◌, arith}
-use Rattle.std.proofs.Math.Option.{Option, none, some}
 use borrow.Author.Tests.{leb-true, ltb-true}
 use Rattle.paper.specs.Refusals.{between}
 use Rattle.paper.specs.Grammar.{Part, Rule, Bytes, among, optional, rules, one}
@@ -23,12 +22,12 @@ module _ (s : List ℕ) (g : Part) (gs : List Part) (i : ℕ) where
 
   module _ (q : optional g ≡ false) (h : i < length s) where
     -- no rule has the byte
-    pub part_out : chosen (rules g) (slice_index s i) ≡ none → left s (g ∷ gs) i ≡ stops i
+    pub part_out : chosen (rules g) (slice_index s i) ≡ None → left s (g ∷ gs) i ≡ stops i
     unfolding settled move
     part_out e = left-stops s (g ∷ gs) i h (rw (q, e))
 
     -- a rule has it
-    pub part_in : (ps : List Part) → chosen (rules g) (slice_index s i) ≡ some ps → token_of (g ∷ gs) (i + 1) (slice_index s i) (drop (i + 1) s) ≡ []
+    pub part_in : (ps : List Part) → chosen (rules g) (slice_index s i) ≡ Some ps → token_of (g ∷ gs) (i + 1) (slice_index s i) (drop (i + 1) s) ≡ []
         → left s (g ∷ gs) i ≡ left s (ps ++ gs) (i + 1)
     unfolding settled move
     part_in ps e t = left-byte s (g ∷ gs) i h (ps ++ gs) (rw (q, e)) (rw q t)
@@ -91,11 +90,11 @@ module _ (s : List ℕ) (g : Part) (i : ℕ) where
   part-missing h k = going-stops s (g ∷ []) i i (g ∷ []) (going s (g ∷ []) i h) (λ gs. part_end s g gs i k)
 
   module _ (q : optional g ≡ false) (h : i < length s) where
-    pub part-refused : chosen (rules g) (slice_index s i) ≡ none → Ends s (g ∷ []) i (record { at = i; sound = false })
+    pub part-refused : chosen (rules g) (slice_index s i) ≡ None → Ends s (g ∷ []) i (record { at = i; sound = false })
     part-refused e = going-stops s (g ∷ []) i i (g ∷ []) (going s (g ∷ []) i (omega arith)) (λ gs. part_out s g gs i q h e)
 
     -- its first byte, and then the parts of the rule
-    module _ (ps : List Part) (c : chosen (rules g) (slice_index s i) ≡ some ps)
+    module _ (ps : List Part) (c : chosen (rules g) (slice_index s i) ≡ Some ps)
         (t : (gs : List Part) → token_of (g ∷ gs) (i + 1) (slice_index s i) (drop (i + 1) s) ≡ []) where
       pub part_then : (e : Ended) → Ends s ps (i + 1) e → Ends s (g ∷ []) i e
       part_then e w = record {
@@ -118,8 +117,8 @@ outside (r ∷ rs) l h = (nat_lt r.1 l || nat_lt h r.0) && outside rs l h
 
 -- what all of them choose, if it is the same
 abbrev pub chosen_by : List Rule → ℕ → ℕ → Option (Option (List Part))
-chosen_by [] l h = some none
-chosen_by (r ∷ rs) l h = if covered r.byte l h then some (some r.rest) else (if outside r.byte l h then chosen_by rs l h else none)
+chosen_by [] l h = Some None
+chosen_by (r ∷ rs) l h = if covered r.byte l h then Some (Some r.rest) else (if outside r.byte l h then chosen_by rs l h else None)
 
 or-true : (x : Bool) → (x || true) ≡ true
 or-true true = refl
@@ -151,14 +150,14 @@ module _ (l h b : ℕ) (i : l ≤ b) (j : b ≤ h) where
       ∙ among-outside rs (and_right (nat_lt r.1 l || nat_lt h r.0) (outside rs l h) e)
 
   chooses : (r : Rule) (rs : List Rule) (o : Option (List Part)) (t u : Bool) → covered r.byte l h ≡ t → outside r.byte l h ≡ u
-      → (if t then some (some r.rest) else (if u then chosen_by rs l h else none)) ≡ some o
-      → (chosen_by rs l h ≡ some o → chosen rs b ≡ o) → chosen (r ∷ rs) b ≡ o
+      → (if t then Some (Some r.rest) else (if u then chosen_by rs l h else None)) ≡ Some o
+      → (chosen_by rs l h ≡ Some o → chosen rs b ≡ o) → chosen (r ∷ rs) b ≡ o
   unfolding chosen
   chooses r rs o true u c d e f = rw (among-covered r.byte c) (some_one _ _ e)
   chooses r rs o false true c d e f = rw (among-outside r.byte d) (f e)
   chooses r rs o false false c d e f = absurd (no_none _ e)
 
-  pub chosen-chosen_by : (rs : List Rule) (o : Option (List Part)) → chosen_by rs l h ≡ some o → chosen rs b ≡ o
+  pub chosen-chosen_by : (rs : List Rule) (o : Option (List Part)) → chosen_by rs l h ≡ Some o → chosen rs b ≡ o
   unfolding chosen
   chosen-chosen_by [] o e = some_one _ _ e
   chosen-chosen_by (r ∷ rs) o e = chooses r rs o _ _ refl refl e (chosen-chosen_by rs o)

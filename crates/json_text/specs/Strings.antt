@@ -1,8 +1,7 @@
 -- The characters of a string, one after the other.
-use Rattle.std.specs.Prelude.{◌≡◌, ℕ, zero, suc, ◌+◌, ◌-◌, ◌<◌, ◌≤◌, Bool, true, false, leb, List, [], ◌∷◌, ◌++◌, length, drop, replicate, ◌==◌, ◌≢◌, nat_eq, nat_le, slice_index, slice_index_or, if◌then◌else◌}
+use Rattle.std.specs.Prelude.{◌≡◌, ℕ, zero, suc, ◌+◌, ◌-◌, ◌<◌, ◌≤◌, Bool, true, false, leb, List, [], ◌∷◌, ◌++◌, length, drop, replicate, ◌==◌, ◌≢◌, nat_eq, nat_le, slice_index, slice_index_or, if◌then◌else◌, Option, None, Some}
 use Rattle.std.proofs.Math.Path.{refl, sym, ap}
 use Rattle.std.proofs.Common.{◌∙◌, append_assoc, arith, eq-eqb, ne_eqb, le-leb, leb-true, leb-false}
-use Rattle.std.proofs.Math.Option.{Option, none, some}
 use Rattle.paper.specs.Grammar.{Part, Rule, Bytes, among, range, these, hex_digit, plain, optional, rules, one, chars, escape}
 use Rattle.paper.specs.Machine.{chosen}
 use Rattle.paper.specs.JsonRead.{token_of}
@@ -31,7 +30,7 @@ spanned (suc n) l h = one (range l h) ∷ spanned n 0x80 0xbf
 
 -- what follows a character's first byte
 unfoldable pub leading : Lead → Option (List Part)
-leading r = if r.0 == 0 then none else some (spanned r.0 r.1 r.2 ++ (chars ∷ []))
+leading r = if r.0 == 0 then None else Some (spanned r.0 r.1 r.2 ++ (chars ∷ []))
 
 -- r is the first byte from i on that is not plain, or the end
 pub record Plain (s : List ℕ) (i r : ℕ) : Type 0 where
@@ -145,7 +144,7 @@ module _ (s : List ℕ) (i : ℕ) (h : i < length s) where
 
 -- its first byte, in the table
 module _ (b : ℕ) where
-  pub chosen-escape : b ≡ 0x5c → chosen (rules chars) b ≡ some (escape ∷ chars ∷ [])
+  pub chosen-escape : b ≡ 0x5c → chosen (rules chars) b ≡ Some (escape ∷ chars ∷ [])
   unfolding chosen rules among
   chosen-escape q = rw q
 
@@ -156,11 +155,11 @@ module _ (b : ℕ) where
       let y : among (these "\\") b ≡ false = among-others (0x5c ∷ []) b r (these "\\") refl in
       rw (p, x, y)
 
-pub leading-none : (r : Lead) → r.0 ≡ 0 → leading r ≡ none
+pub leading-none : (r : Lead) → r.0 ≡ 0 → leading r ≡ None
 unfolding leading
 leading-none r e = let z : nat_eq r.0 0 ≡ true = eq-eqb _ _ e in rw z
 
-pub leading-some : (r : Lead) → (r.0 ≢ 0) → leading r ≡ some (spanned r.0 r.1 r.2 ++ (chars ∷ []))
+pub leading-some : (r : Lead) → (r.0 ≢ 0) → leading r ≡ Some (spanned r.0 r.1 r.2 ++ (chars ∷ []))
 unfolding leading
 leading-some r n = let z : nat_eq r.0 0 ≡ false = ne_eqb _ _ n in rw z
 
@@ -175,7 +174,7 @@ module _ (s : List ℕ) (i : ℕ) where
 
   module _ (h : i < length s) where
     -- no rule has its first byte
-    pub pass-refused : (Other s i → chosen (rules chars) (slice_index s i) ≡ none) → Passes s i (record { at = i; sound = false })
+    pub pass-refused : (Other s i → chosen (rules chars) (slice_index s i) ≡ None) → Passes s i (record { at = i; sound = false })
     unfolding optional
     pass-refused f = record {
       within = omega arith;
@@ -186,7 +185,7 @@ module _ (s : List ℕ) (i : ℕ) where
 
     -- the parts behind it end so
     pub pass-then : (ps : List Part) (e : Ended) → Ends s ps (i + 1) e
-        → (Other s i → chosen (rules chars) (slice_index s i) ≡ some (ps ++ (chars ∷ []))) → Passes s i e
+        → (Other s i → chosen (rules chars) (slice_index s i) ≡ Some (ps ++ (chars ∷ []))) → Passes s i e
     unfolding optional token_of
     pass-then ps e w f = record {
       within = w.within;

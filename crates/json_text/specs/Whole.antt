@@ -1,7 +1,7 @@
 -- Whole numbers read digit by digit, and cells from them. The reader counts no further than the cap, which is beyond any INT.
-use Rattle.std.specs.Prelude.{◌≡◌, ℕ, ◌+◌, ◌-◌, ◌*◌, ◌%◌, ◌^◌, ◌<◌, ◌≤◌, Bool, true, false, ◌&&◌, List, [], ◌∷◌, length, drop, ℤ, pos, neg_ℤ, ◌==◌, ◌≢◌, int_le, nat_eq, nat_le, nat_lt, slice_index, slice_index_or, refl, if◌then◌else◌}
+use Rattle.std.specs.Prelude.{◌≡◌, ℕ, ◌+◌, ◌-◌, ◌*◌, ◌%◌, ◌^◌, ◌<◌, ◌≤◌, Bool, true, false, ◌&&◌, List, [], ◌∷◌, length, drop, ℤ, pos, neg_ℤ, ◌==◌, ◌≢◌, int_le, nat_eq, nat_le, nat_lt, slice_index, slice_index_or, refl, if◌then◌else◌, Option, None, Some}
 use Rattle.std.proofs.Common.{sym, ap, ◌∙◌, arith, add-one, drop_of_length-le, drop-cons, get_or-drop, to_z}
-use Rattle.std.proofs.Math.Option.{Option, none, some, map}
+use Rattle.std.specs.Option.{option_map}
 use borrow.Author.Tests.{eq-eqb, ne_eqb, eqb-true, eqb-false, ltb-true, ltb-false, leb-true, leb-false}
 use Rattle.std.proofs.Math.ListN.{get_or-eq_default}
 use Rattle.std.proofs.Math.Seq.{drop-drop}
@@ -41,7 +41,7 @@ pub record Counted (s : List ℕ) (at : ℕ) (d : Digits) : Type 0 where
   pub number : d.n ≡ capped (number_of 0 (digits_of (drop at s)))
 
 abbrev pub counted : Natural → Option ℕ
-counted m = if m.whole then some m.n else none
+counted m = if m.whole then Some m.n else None
 
 -- a magnitude with its sign
 abbrev pub signed_of : Bool → ℕ → ℤ
@@ -49,14 +49,14 @@ signed_of minus n = if minus then neg_ℤ (pos n) else pos n
 
 -- an INT, if in range
 unfoldable pub ranged : ℤ → Option Cell
-ranged z = if int_le smallest_int z && int_le z largest_int then some (Int z) else none
+ranged z = if int_le smallest_int z && int_le z largest_int then Some (Int z) else None
 
 -- the INT with this sign whose magnitude the text begins with
 unfoldable pub sized_in : Bool → List ℕ → Option Cell
-sized_in minus bs = given (map (signed_of minus) (natural bs)) none ranged
+sized_in minus bs = given (option_map (signed_of minus) (natural bs)) None ranged
 
 unfoldable pub int_in : List ℕ → Option Cell
-int_in bs = given (integer bs) none ranged
+int_in bs = given (integer bs) None ranged
 
 -- ---- the digits, one after the other
 
@@ -156,54 +156,54 @@ module _ (s : List ℕ) (at : ℕ) (d : Digits) (k : Counted s at d) where
   some-digits : (d.end ≢ at) → (many == 0) ≡ false
   some-digits n = ne_eqb many 0 (λ (l : many ≡ 0). n (omega (arith, k.ends)))
 
-  pub no-digits : d.end ≡ at → none ≡ map capped (natural (drop at s))
+  pub no-digits : d.end ≡ at → None ≡ option_map capped (natural (drop at s))
   unfolding natural
   no-digits e = let z : nat_eq many 0 ≡ true = eq-eqb many 0 (omega (arith, k.ends)) in rw z
 
   module _ (n : d.end ≡ at → ⊥) where
-    pub not-whole : among (these ".eE") (slice_index s d.end) ≡ true → none ≡ map capped (natural (drop at s))
+    pub not-whole : among (these ".eE") (slice_index s d.end) ≡ true → None ≡ option_map capped (natural (drop at s))
     unfolding natural
     not-whole e = rw (some-digits n, behind, e)
 
-    pub is_whole : among (these ".eE") (slice_index s d.end) ≡ false → some d.n ≡ map capped (natural (drop at s))
+    pub is_whole : among (these ".eE") (slice_index s d.end) ≡ false → Some d.n ≡ option_map capped (natural (drop at s))
     unfolding natural
-    is_whole e = rw (some-digits n, behind, e) (ap some k.number)
+    is_whole e = rw (some-digits n, behind, e) (ap Some k.number)
 
-    pub whole-at-end : length s ≤ d.end → some d.n ≡ map capped (natural (drop at s))
+    pub whole-at-end : length s ≤ d.end → Some d.n ≡ option_map capped (natural (drop at s))
     whole-at-end h = is_whole (past_end s d.end h)
 
 -- ---- an INT by sign and magnitude
 
-in-range-int : (z : ℤ) → up z < 2 ^ 63 → dn z ≤ 2 ^ 63 → ranged z ≡ some (Int z)
+in-range-int : (z : ℤ) → up z < 2 ^ 63 → dn z ≤ 2 ^ 63 → ranged z ≡ Some (Int z)
 unfolding ranged
 in-range-int z h i = simp (yes_le smallest_int z (omega arith), yes_le z largest_int (omega arith))
 
-too_large : (z : ℤ) → 2 ^ 63 ≤ up z → ranged z ≡ none
+too_large : (z : ℤ) → 2 ^ 63 ≤ up z → ranged z ≡ None
 unfolding ranged
 too_large z h = simp (yes_le smallest_int z (omega (arith, one-part z)), no_le z largest_int (omega (arith, one-part z)))
 
-too_small : (z : ℤ) → 2 ^ 63 < dn z → ranged z ≡ none
+too_small : (z : ℤ) → 2 ^ 63 < dn z → ranged z ≡ None
 unfolding ranged
 too_small z h = simp (no_le smallest_int z (omega (arith, one-part z)))
 
-pub over-int : (n : ℕ) → 2 ^ 63 ≤ n → ranged (pos n) ≡ none
+pub over-int : (n : ℕ) → 2 ^ 63 ≤ n → ranged (pos n) ≡ None
 over-int n h = too_large (pos n) h
 
-pub under-int : (n : ℕ) → 2 ^ 63 < n → ranged (neg_ℤ (pos n)) ≡ none
+pub under-int : (n : ℕ) → 2 ^ 63 < n → ranged (neg_ℤ (pos n)) ≡ None
 under-int n h = too_small (neg_ℤ (pos n)) (omega (arith, neg-parts (pos n)))
 
 -- the bits of n itself
-pub int-plus : (n : ℕ) (z : ℤ) → n < 2 ^ 63 → z ≡ to_z w64 n → some (Int z) ≡ ranged (pos n)
+pub int-plus : (n : ℕ) (z : ℤ) → n < 2 ^ 63 → z ≡ to_z w64 n → Some (Int z) ≡ ranged (pos n)
 int-plus n z h e =
     let p : z ≡ pos n = e ∙ to_z_pos w64 h in
-    ap (λ (y : ℤ). some (Int y)) p ∙ sym (in-range-int (pos n) h (omega arith))
+    ap (λ (y : ℤ). Some (Int y)) p ∙ sym (in-range-int (pos n) h (omega arith))
 
 -- the bits that n fills up
 pub int-minus : (n x : ℕ) (z : ℤ) → n ≤ 2 ^ 63 → x < 2 ^ 64 → (x + n) % 2 ^ 64 ≡ 0 → z ≡ to_z w64 x
-    → some (Int z) ≡ ranged (neg_ℤ (pos n))
+    → Some (Int z) ≡ ranged (neg_ℤ (pos n))
 int-minus n x z h i f e =
     let p : z ≡ neg_ℤ (pos n) = e ∙ by (nat_lt x (2 ^ 63)) refl in
-    ap (λ (y : ℤ). some (Int y)) p
+    ap (λ (y : ℤ). Some (Int y)) p
     ∙ sym (in-range-int (neg_ℤ (pos n)) (omega (arith, neg-parts (pos n))) (omega (arith, neg-parts (pos n))))
   where
     by : (t : Bool) → nat_lt x (2 ^ 63) ≡ t → to_z w64 x ≡ neg_ℤ (pos n)
@@ -230,21 +230,21 @@ capped_same minus n v e = by (nat_le cap v) refl minus
     by true l false = let i : cap ≤ v = leb-true cap v l in over-int n (omega arith) ∙ sym (over-int v (omega arith))
     by true l true = let i : cap ≤ v = leb-true cap v l in under-int n (omega arith) ∙ sym (under-int v (omega arith))
 
-sized-some : (minus : Bool) (n : ℕ) (o : Option ℕ) → some n ≡ map capped o
-    → ranged (signed_of minus n) ≡ given (map (signed_of minus) o) none ranged
-sized-some minus n none e = absurd (no_none n (sym e))
-sized-some minus n (some v) e = capped_same minus n v (some_one n (capped v) e)
+sized-some : (minus : Bool) (n : ℕ) (o : Option ℕ) → Some n ≡ option_map capped o
+    → ranged (signed_of minus n) ≡ given (option_map (signed_of minus) o) None ranged
+sized-some minus n None e = absurd (no_none n (sym e))
+sized-some minus n (Some v) e = capped_same minus n v (some_one n (capped v) e)
 
-sized-none : (minus : Bool) (o : Option ℕ) → none ≡ map capped o → none ≡ given (map (signed_of minus) o) none ranged
-sized-none minus none e = refl
-sized-none minus (some v) e = absurd (no_none (capped v) e)
+sized-none : (minus : Bool) (o : Option ℕ) → None ≡ option_map capped o → None ≡ given (option_map (signed_of minus) o) None ranged
+sized-none minus None e = refl
+sized-none minus (Some v) e = absurd (no_none (capped v) e)
 
-module _ (minus : Bool) (bs : List ℕ) (m : Natural) (k : counted m ≡ map capped (natural bs)) where
+module _ (minus : Bool) (bs : List ℕ) (m : Natural) (k : counted m ≡ option_map capped (natural bs)) where
   pub sized-yes : m.whole ≡ true → ranged (signed_of minus m.n) ≡ sized_in minus bs
   unfolding sized_in
   sized-yes e = sized-some minus m.n (natural bs) (rw e at k)
 
-  pub sized-no : m.whole ≡ false → none ≡ sized_in minus bs
+  pub sized-no : m.whole ≡ false → None ≡ sized_in minus bs
   unfolding sized_in
   sized-no e = sized-none minus (natural bs) (rw e at k)
 
@@ -260,7 +260,7 @@ module _ (s : List ℕ) (at : ℕ) where
 -- ---- a cell
 
 module _ (t : ℕ) (bs : List ℕ) where
-  pub cell-null : begins (text "null") bs ≡ true → some Empty ≡ cell_in t bs
+  pub cell-null : begins (text "null") bs ≡ true → Some Empty ≡ cell_in t bs
   unfolding cell_in
   cell-null e = rw e
 
@@ -273,15 +273,15 @@ module _ (t : ℕ) (bs : List ℕ) where
       other-type : nat_eq t 1 ≡ false
       other-type = ne_eqb t 1 k
 
-      pub cell-true : begins (text "true") bs ≡ true → some (Truth true) ≡ cell_in t bs
+      pub cell-true : begins (text "true") bs ≡ true → Some (Truth true) ≡ cell_in t bs
       unfolding cell_in
       cell-true e = rw (n, other-type, e)
 
       module _ (e : begins (text "true") bs ≡ false) where
-        pub cell-false : begins (text "false") bs ≡ true → some (Truth false) ≡ cell_in t bs
+        pub cell-false : begins (text "false") bs ≡ true → Some (Truth false) ≡ cell_in t bs
         unfolding cell_in
         cell-false f = rw (n, other-type, e, f)
 
-        pub no_cell : begins (text "false") bs ≡ false → none ≡ cell_in t bs
+        pub no_cell : begins (text "false") bs ≡ false → None ≡ cell_in t bs
         unfolding cell_in
         no_cell f = rw (n, other-type, e, f)

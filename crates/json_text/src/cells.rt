@@ -1,14 +1,13 @@
 // A cell, read where a value begins: a whole number in INT range, a truth value, or null.
 ghost use Rattle.std.specs.Prelude.{◌≡◌, ◌≤◌, length, drop};
-ghost use Rattle.std.proofs.Math.Option.{map};
+ghost use Rattle.std.specs.Option.{option_map};
 ghost use Rattle.paper.specs.Grammar.{among, these};
 ghost use Rattle.paper.specs.JsonRead.{natural, cell_in};
-ghost use Rattle.cell.specs.Reads.{told};
 ghost use Rattle.json_text.specs.Whole.{Onward, Counted, capped, counted, signed_of, ranged, sized_in, int_in};
 
 use crate::bytes::is_digit;
 use crate::words::begins_with;
-use cell::bytes::{Got, signed};
+use cell::bytes::signed;
 use paper::Cell;
 
 // Where the digits end, and their number; from CAP on, CAP.
@@ -71,7 +70,7 @@ fn goes_on(b: u8) -> bool
 // The natural number from byte `at` on.
 fn natural_at(s: &[u8], at: usize) -> Natural
     requires { at ≤ length s.now }
-    ensures { counted result ≡ map capped (natural (drop at s.now)) }
+    ensures { counted result ≡ option_map capped (natural (drop at s.now)) }
 {
     let d = digits_at(s, at);
     let i = d.end;
@@ -94,37 +93,37 @@ fn natural_at(s: &[u8], at: usize) -> Natural
 }
 
 // The INT with this sign and magnitude.
-fn int_of(minus: bool, n: u64) -> Got
-    ensures { told result ≡ ranged (signed_of minus n) }
+fn int_of(minus: bool, n: u64) -> Option<Cell>
+    ensures { result ≡ ranged (signed_of minus n) }
 {
     if minus {
         if n <= 9223372036854775808 {
-            return Got::Is(Cell::Int(signed(std::num::wrapping_sub_u64(0, n))));
+            return Some(Cell::Int(signed(std::num::wrapping_sub_u64(0, n))));
         }
-        return Got::Bad;
+        return None;
     }
     if n <= 9223372036854775807 {
-        return Got::Is(Cell::Int(signed(n)));
+        return Some(Cell::Int(signed(n)));
     }
-    Got::Bad
+    None
 }
 
 // The INT with this sign whose magnitude stands from byte `at` on.
-fn sized_at(s: &[u8], at: usize, minus: bool) -> Got
+fn sized_at(s: &[u8], at: usize, minus: bool) -> Option<Cell>
     requires { at ≤ length s.now }
-    ensures { told result ≡ sized_in minus (drop at s.now) }
+    ensures { result ≡ sized_in minus (drop at s.now) }
 {
     let m = natural_at(s, at);
     if m.whole {
         return int_of(minus, m.n);
     }
-    Got::Bad
+    None
 }
 
 // The INT from byte `at` on.
-fn int_at(s: &[u8], at: usize) -> Got
+fn int_at(s: &[u8], at: usize) -> Option<Cell>
     requires { at ≤ length s.now }
-    ensures { told result ≡ int_in (drop at s.now) }
+    ensures { result ≡ int_in (drop at s.now) }
 {
     if begins_with(s, at, b"-") {
         return sized_at(s, at + 1, true);
@@ -133,21 +132,21 @@ fn int_at(s: &[u8], at: usize) -> Got
 }
 
 // The cell of the type `kind` that the value from byte `at` on is.
-pub fn cell_at(s: &[u8], at: usize, kind: u8) -> Got
+pub fn cell_at(s: &[u8], at: usize, kind: u8) -> Option<Cell>
     requires { at ≤ length s.now }
-    ensures { told result ≡ cell_in kind (drop at s.now) }
+    ensures { result ≡ cell_in kind (drop at s.now) }
 {
     if begins_with(s, at, b"null") {
-        return Got::Is(Cell::Empty);
+        return Some(Cell::Empty);
     }
     if kind == 1 {
         return int_at(s, at);
     }
     if begins_with(s, at, b"true") {
-        return Got::Is(Cell::Truth(true));
+        return Some(Cell::Truth(true));
     }
     if begins_with(s, at, b"false") {
-        return Got::Is(Cell::Truth(false));
+        return Some(Cell::Truth(false));
     }
-    Got::Bad
+    None
 }

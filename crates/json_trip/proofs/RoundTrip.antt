@@ -1,13 +1,13 @@
 -- "Writing and then reading with the same type and extent gives the same cells": of cells, of valid arrays, and of whatever is written of
 -- a bundle; and what a refusal leaves.
-use Rattle.std.specs.Prelude.{ℕ, ◌*◌, ◌≤◌, ◌≡◌, false, not, eqb, leb, length}
+use Rattle.std.specs.Prelude.{ℕ, ◌*◌, ◌≤◌, ◌≡◌, false, not, eqb, leb, length, Ok}
 use Rattle.std.proofs.Common.{sym, ◌∙◌}
 use Rattle.std.proofs.Math.Path.{ap}
 use mathlib.Core.List.{List}
 use Rattle.std.proofs.lemmas.Bool.{not-true}
 use Rattle.paper.specs.declared.Version.{Version}
 use Rattle.paper.specs.Limits.{FLOAT, cell_bytes, sizes_of}
-use Rattle.paper.specs.Refusals.{got, unfit7, small_output14}
+use Rattle.paper.specs.Refusals.{unfit7, small_output14}
 use Rattle.paper.specs.Axes.{cells, Array}
 use Rattle.paper.specs.Bundle.{version_told, version_in, sizes_in}
 use Rattle.paper.specs.Reference.{chosen}
@@ -20,19 +20,19 @@ use Rattle.json_write.specs.Whole.{chosen-valid}
 use Rattle.json_trip.specs.RoundTrip.{round_trip}
 
 -- so for every valid array that is not FLOAT
-pub valid-trip : (u : Version) (v : ℕ) (A : Array) (room : ℕ) → version_told v ≡ got (sizes_of u) → Valid (sizes_of u) A
+pub valid-trip : (u : Version) (v : ℕ) (A : Array) (room : ℕ) → version_told v ≡ Ok (sizes_of u) → Valid (sizes_of u) A
     → eqb A.shape.type FLOAT ≡ false → cells A.shape.axes * cell_bytes ≤ room
-    → cells_in v A.shape.type A.shape.names A.shape.axes (json_text A.shape.axes A.cells) room ≡ got A.cells
+    → cells_in v A.shape.type A.shape.names A.shape.axes (json_text A.shape.axes A.cells) room ≡ Ok A.cells
 valid-trip u v A room w a f r =
     round_trip u v A.shape.type A.shape.names A.shape.axes A.cells room w a.type a.rank a.short a.extent f
     a.full
     a.kinds r
 
 -- and for whatever is written of a bundle, with the bundle's version told
-pub written-trip : (bundle : List ℕ) (k out room v : ℕ) (w : List ℕ) → Bytes bundle → written bundle k out ≡ got w
-    → version_told v ≡ got (sizes_in bundle)
-    → (A : Array) × (chosen bundle k ≡ got A) × (cells A.shape.axes * cell_bytes ≤ room
-    → cells_in v A.shape.type A.shape.names A.shape.axes w room ≡ got A.cells)
+pub written-trip : (bundle : List ℕ) (k out room v : ℕ) (w : List ℕ) → Bytes bundle → written bundle k out ≡ Ok w
+    → version_told v ≡ Ok (sizes_in bundle)
+    → (A : Array) × (chosen bundle k ≡ Ok A) × (cells A.shape.axes * cell_bytes ≤ room
+    → cells_in v A.shape.type A.shape.names A.shape.axes w room ≡ Ok A.cells)
 unfolding written
 written-trip bundle k out room v w h e y =
     let a = bind-got (chosen bundle k) _ w e in

@@ -1,8 +1,8 @@
 -- A cell's text, where a value is due in an array, gives that cell: null, true, false, or a number that a comma or a bracket ends.
-use Rattle.std.specs.Prelude.{ℕ, suc, ◌+◌, ◌≤◌, ◌<◌, ◌^◌, ◌≡◌, true, false, ◌&&◌, List, [], ◌∷◌, ◌++◌, eqb, ℤ, pos, negsuc}
+use Rattle.std.specs.Prelude.{ℕ, suc, ◌+◌, ◌≤◌, ◌<◌, ◌^◌, ◌≡◌, true, false, ◌&&◌, List, [], ◌∷◌, ◌++◌, eqb, ℤ, pos, negsuc, Some}
 use Rattle.std.proofs.Math.Path.{refl}
 use Rattle.std.proofs.Common.{sym, ap, ◌∙◌, arith, SFits}
-use Rattle.std.proofs.Math.Option.{some, map}
+use Rattle.std.specs.Option.{option_map}
 use Rattle.std.specs.Int.Signed.{le_z, mag}
 use Rattle.std.specs.Int.{w64}
 use Rattle.paper.specs.declared.Cell.{Cell}
@@ -55,17 +55,17 @@ zero-ends i n gs c bs comma = record { place = i; fault = refl; tokens = refl }
 zero-ends i n gs c bs bracket = record { place = i; fault = refl; tokens = refl }
 
 -- the first digit of a value
-digit_value : (n : ℕ) (gs : List Part) (b : ℕ) → 49 ≤ b → b ≤ 57 → step (at value n ∷ gs) b ≡ some (number after_digit ∷ gs)
+digit_value : (n : ℕ) (gs : List Part) (b : ℕ) → 49 ≤ b → b ≤ 57 → step (at value n ∷ gs) b ≡ Some (number after_digit ∷ gs)
 unfolding settled optional move rules
 digit_value n gs b p q =
-    ap (map (λ qs. qs ++ gs))
+    ap (option_map (λ qs. qs ++ gs))
     (chosen-it _ (rules (at value n)) b (rules-distinct (at value n)) (there (there (there (there (there (there (there here)))))))
     (first-yes b p q))
 
-digit-unsigned : (gs : List Part) (b : ℕ) → 49 ≤ b → b ≤ 57 → step (number unsigned ∷ gs) b ≡ some (number after_digit ∷ gs)
+digit-unsigned : (gs : List Part) (b : ℕ) → 49 ≤ b → b ≤ 57 → step (number unsigned ∷ gs) b ≡ Some (number after_digit ∷ gs)
 unfolding settled optional ends move rules
 digit-unsigned gs b p q =
-    ap (map (λ qs. qs ++ gs))
+    ap (option_map (λ qs. qs ++ gs))
     (chosen-it _ (rules (number unsigned)) b (rules-distinct (number unsigned)) (there here) (first-yes b p q))
 
 digit-token : (i n : ℕ) (gs : List Part) (b : ℕ) (bs : List ℕ) → 49 ≤ b → b ≤ 57
@@ -77,7 +77,7 @@ digit-token i n gs b bs p q = rw (bytes_apart (range 0x31 0x39) (these " \t\n\r,
 
 module _ (t n : ℕ) (gs : List Part) (c : ℕ) (bs : List ℕ) (s : Stops c) where
   -- without sign
-  plain-gives : (i : ℕ) (ds : List ℕ) (x : Cell) → Number ds → fits t cell (ds ++ (c ∷ bs)) ≡ some (x ∷ [])
+  plain-gives : (i : ℕ) (ds : List ℕ) (x : Cell) → Number ds → fits t cell (ds ++ (c ∷ bs)) ≡ Some (x ∷ [])
       → Gives t i (at value n ∷ at more_items n ∷ gs) (ds ++ (c ∷ bs)) (at more_items n ∷ gs) (c ∷ bs) (cell ∷ []) (x ∷ [])
   unfolding settled optional move rules chosen among token_of outer
   plain-gives i [] x s f = elim s [ ]
@@ -108,7 +108,7 @@ module _ (t n : ℕ) (gs : List Part) (c : ℕ) (bs : List ℕ) (s : Stops c) wh
       let d = more-digits g.place (at more_items n ∷ gs) ds (c ∷ bs) r in
       quiet-quiet g (quiet-quiet d (digit-ends d.place n gs c bs s))
 
-  minus-gives : (i : ℕ) (ds : List ℕ) (x : Cell) → Number ds → fits t cell (45 ∷ (ds ++ (c ∷ bs))) ≡ some (x ∷ [])
+  minus-gives : (i : ℕ) (ds : List ℕ) (x : Cell) → Number ds → fits t cell (45 ∷ (ds ++ (c ∷ bs))) ≡ Some (x ∷ [])
       → Gives t i (at value n ∷ at more_items n ∷ gs) (45 ∷ (ds ++ (c ∷ bs))) (at more_items n ∷ gs) (c ∷ bs) (cell ∷ []) (x ∷ [])
   unfolding settled optional move rules chosen among token_of outer
   minus-gives i ds x m f =
@@ -128,7 +128,7 @@ mag-fits : (z : ℤ) → SFits w64 z → mag z < 2 ^ 63
 mag-fits z h = h.sfits
 
 int-cell : (z : ℤ) (c : ℕ) (bs : List ℕ) → SFits w64 z → Stops c → begins (text "null") (decimal z ++ (c ∷ bs)) ≡ false
-    → fits INT cell (decimal z ++ (c ∷ bs)) ≡ some (Int z ∷ [])
+    → fits INT cell (decimal z ++ (c ∷ bs)) ≡ Some (Int z ∷ [])
 unfolding fits cell_in
 int-cell z c bs h s e = rw (e, integer-back z c bs (mag-fits z h) s, in-int z h)
 

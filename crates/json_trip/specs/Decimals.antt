@@ -1,8 +1,7 @@
 -- A number in decimal is read back: its digits begin with no 0 unless they are 0, and their number is that number.
-use Rattle.std.specs.Prelude.{ℕ, zero, suc, ◌+◌, ◌-◌, ◌*◌, ◌/◌, ◌%◌, ◌^◌, ◌≤◌, ◌<◌, ◌≡◌, refl, Bool, true, false, List, [], ◌∷◌, ◌++◌, eqb, ltb, length, get_or, ℤ, pos, negsuc, if◌then◌else◌}
+use Rattle.std.specs.Prelude.{ℕ, zero, suc, ◌+◌, ◌-◌, ◌*◌, ◌/◌, ◌%◌, ◌^◌, ◌≤◌, ◌<◌, ◌≡◌, refl, Bool, true, false, List, [], ◌∷◌, ◌++◌, eqb, ltb, length, get_or, ℤ, pos, negsuc, if◌then◌else◌, Some}
 use Prim.Native.Char.{code}
 use Rattle.std.proofs.Common.{ap, ◌∙◌, pow-suc, arith, ltb-true, ltb-false, le-leb, ne_eqb, eqb-true}
-use Rattle.std.proofs.Math.Option.{some}
 use Rattle.std.proofs.lemmas.Bool.{eqb-false}
 use Rattle.std.proofs.Math.Dec.{eqb-suc-zero}
 use Rattle.std.specs.Int.Signed.{mag}
@@ -117,7 +116,7 @@ whole c comma = refl
 whole c bracket = refl
 
 run-natural : (b : ℕ) (ds : List ℕ) (c : ℕ) (bs : List ℕ) → Run (b ∷ ds) → Stops c
-    → natural (b ∷ (ds ++ (c ∷ bs))) ≡ some (number_of 0 (b ∷ ds))
+    → natural (b ∷ (ds ++ (c ∷ bs))) ≡ Some (number_of 0 (b ∷ ds))
 unfolding natural
 run-natural b ds c bs r s =
     rw (run_of (b ∷ ds) c bs r s, eqb-suc-zero (length ds), at-end (b ∷ ds) c bs, whole c s)
@@ -127,7 +126,7 @@ number-run [] n = elim n [ ]
 number-run (b ∷ ds) nought = next {b = 48} (omega arith) (omega arith) end
 number-run (b ∷ ds) (other p q r) = let l : 48 ≤ b = omega arith in next l q r
 
-pub number-natural : (ds : List ℕ) (c : ℕ) (bs : List ℕ) → Number ds → Stops c → natural (ds ++ (c ∷ bs)) ≡ some (number_of 0 ds)
+pub number-natural : (ds : List ℕ) (c : ℕ) (bs : List ℕ) → Number ds → Stops c → natural (ds ++ (c ∷ bs)) ≡ Some (number_of 0 ds)
 number-natural [] c bs n s = elim n [ ]
 number-natural (b ∷ ds) c bs n s = run-natural b ds c bs (number-run (b ∷ ds) n) s
 
@@ -150,7 +149,7 @@ begins-no-letter w v (b ∷ ds) bs n h = rw (ne_eqb b w (λ e. above b ds w n h 
     above b ds w nought h e = omega arith
     above b ds w (other p q r) h e = omega arith
 
-pub integer-back : (z : ℤ) (c : ℕ) (bs : List ℕ) → mag z < 2 ^ 63 → Stops c → integer (decimal z ++ (c ∷ bs)) ≡ some z
+pub integer-back : (z : ℤ) (c : ℕ) (bs : List ℕ) → mag z < 2 ^ 63 → Stops c → integer (decimal z ++ (c ∷ bs)) ≡ Some z
 unfolding decimal alike
 integer-back (pos x) c bs h s =
     let l : x < 10 ^ 20 = omega arith in

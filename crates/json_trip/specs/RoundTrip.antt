@@ -1,17 +1,16 @@
 -- "Writing and then reading with the same type and extent gives the same cells": of cells, of valid arrays, and of whatever is written of
 -- a bundle; and what a refusal leaves.
-use Rattle.std.specs.Prelude.{ℕ, ◌*◌, ◌≤◌, ◌≡◌, refl, true, false, eqb, length}
+use Rattle.std.specs.Prelude.{ℕ, ◌*◌, ◌≤◌, ◌≡◌, refl, true, false, eqb, length, None, Some, Ok, Err}
 use Rattle.std.proofs.Common.{sym, ◌∙◌, arith, le-leb}
 use Rattle.std.proofs.Math.Path.{ap}
 use mathlib.Core.List.{List, [], ◌∷◌, ◌++◌, append-nil}
-use Rattle.std.proofs.Math.Option.{none, some}
 use Rattle.paper.specs.declared.Version.{Version}
 use Rattle.paper.specs.declared.Name.{Name}
 use Rattle.paper.specs.declared.Axis.{Axis}
 use Rattle.paper.specs.declared.Cell.{Cell}
 use Rattle.paper.specs.declared.Refusal.{Refusal}
 use Rattle.paper.specs.Limits.{FLOAT, cell_bytes, sizes_of}
-use Rattle.paper.specs.Refusals.{Res, got, refused, between}
+use Rattle.paper.specs.Refusals.{Res, between}
 use Rattle.paper.specs.Numbers.{text, alike}
 use Rattle.paper.specs.Axes.{cells, good_extent}
 use Rattle.paper.specs.Cells.{is_type}
@@ -39,31 +38,31 @@ module _ (t : ℕ) (E : List Axis) (cs : List Cell)
   abbrev its_rest : List Token
   its_rest = tokens_from at_data 9 (brackets E cs ++ text "}")
 
-  no-fault : fault (json_text E cs) ≡ none
+  no-fault : fault (json_text E cs) ≡ None
   unfolding fault_from settled optional move rules Machine.chosen among
   no-fault = g.fault
 
-  its-data : (k : Token) × (data_in (tokens_from start 1 (json_text E cs)) ≡ some (k, its_rest))
+  its-data : (k : Token) × (data_in (tokens_from start 1 (json_text E cs)) ≡ Some (k, its_rest))
   unfolding tokens_from settled optional move rules Machine.chosen among token_of outer data_in spells alike
   its-data = (_, refl)
 
-  one-data : data_in its_rest ≡ none
+  one-data : data_in its_rest ≡ None
   unfolding tokens_from settled optional move rules Machine.chosen among token_of outer data_in
   one-data = g.names
 
-  its-tokens : data_of (json_text E cs) ≡ got its_rest
+  its-tokens : data_of (json_text E cs) ≡ Ok its_rest
   unfolding data_of
   its-tokens = rw (its-data.1, one-data, no-fault)
 
-  its-cells : fitted t (due E) its_rest ≡ got cs
+  its-cells : fitted t (due E) its_rest ≡ Ok cs
   unfolding fitted
-  its-cells = ap (λ ds. fitted t ds its_rest) (sym (append-nil (due E))) ∙ g.cells [] ∙ ap got (append-nil cs)
+  its-cells = ap (λ ds. fitted t ds its_rest) (sym (append-nil (due E))) ∙ g.cells [] ∙ ap Ok (append-nil cs)
 
 -- in the version told: an extent of one axis or more, its cells of the type, and room for them
-pub round_trip : (u : Version) (v t : ℕ) (N : List Name) (E : List Axis) (cs : List Cell) (room : ℕ) → version_told v ≡ got (sizes_of u)
+pub round_trip : (u : Version) (v t : ℕ) (N : List Name) (E : List Axis) (cs : List Cell) (room : ℕ) → version_told v ≡ Ok (sizes_of u)
     → is_type t ≡ true → between 1 (sizes_of u).axes (length E) ≡ true → names_fit (sizes_of u) N ≡ true → good_extent N E ≡ true
     → eqb t FLOAT ≡ false → length cs ≡ cells E → EachOfKind t cs → cells E * cell_bytes ≤ room
-    → cells_in v t N E (json_text E cs) room ≡ got cs
+    → cells_in v t N E (json_text E cs) room ≡ Ok cs
 unfolding cells_in cells_as
 round_trip u v t N E cs room w h b n e f l k r =
     let s = (extent-true N E e).0 in
@@ -73,12 +72,12 @@ round_trip u v t N E cs room w h b n e f l k r =
     rw (w, h, b, n, e, f, its-tokens t E cs g, its-cells t E cs g, le-leb (cells E * cell_bytes) room r)
 
 -- a refusal leaves the cell buffer as it was
-fill-leaves : (buffer : List ℕ) (m : Res (List Cell)) (r : Refusal) → (fill_with buffer m).answer ≡ refused r
+fill-leaves : (buffer : List ℕ) (m : Res (List Cell)) (r : Refusal) → (fill_with buffer m).answer ≡ Err r
     → (fill_with buffer m).buffer ≡ buffer
 unfolding fill_with
-fill-leaves buffer (got cs) r e = absurd (none-refused (length cs) r e)
-fill-leaves buffer (refused x) r e = refl
+fill-leaves buffer (Ok cs) r e = absurd (none-refused (length cs) r e)
+fill-leaves buffer (Err x) r e = refl
 
 pub read-leaves : (v t : ℕ) (N : List Name) (E : List Axis) (bs buffer : List ℕ) (r : Refusal)
-    → (read_json v t N E bs buffer).answer ≡ refused r → (read_json v t N E bs buffer).buffer ≡ buffer
+    → (read_json v t N E bs buffer).answer ≡ Err r → (read_json v t N E bs buffer).buffer ≡ buffer
 read-leaves v t N E bs buffer r e = fill-leaves buffer (cells_in v t N E bs (length buffer)) r e

@@ -1,7 +1,7 @@
 -- The longest text: an array that was read is valid, so no cell takes over 20 bytes; on d axes n cells take at most 10 + n * (19 + 2d)
 -- bytes. So a buffer of 126,986 bytes holds every text, and one text needs all of them.
 use Prim.Native.String.{String}
-use Rattle.std.specs.Prelude.{ℕ, zero, suc, ◌+◌, ◌*◌, ◌≤◌, ◌≡◌, refl, true, false, List, [], ◌∷◌, map, eqb, ℤ, pos, negsuc, length, get_or}
+use Rattle.std.specs.Prelude.{ℕ, zero, suc, ◌+◌, ◌*◌, ◌≤◌, ◌≡◌, refl, true, false, List, [], ◌∷◌, map, eqb, ℤ, pos, negsuc, length, get_or, Ok}
 use Rattle.std.proofs.Common.{sym, ap, ◌∙◌, arith, suc-mul, mul-le-mul_left, mul-le-mul_right, le-leb, SFits}
 use Rattle.std.specs.Int.{w64}
 use Rattle.paper.specs.declared.Name.{Name}
@@ -11,7 +11,6 @@ use Rattle.paper.specs.declared.Cell.{Cell}
 use Rattle.paper.specs.declared.Cell.TheVariants.{Empty, Int}
 use Rattle.paper.specs.Bundle.{version_in}
 use Rattle.paper.specs.Limits.{FLOAT, most_axes, most_cells, smallest_int, sizes_of}
-use Rattle.paper.specs.Refusals.{got}
 use Rattle.paper.specs.Numbers.{from}
 use Rattle.paper.specs.Axes.{cells, good_extent, Array}
 use Rattle.paper.specs.Reference.{chosen}
@@ -75,7 +74,7 @@ longest = most_text most_cells most_axes
 pub longest-is : longest ≡ 126986
 longest-is = refl
 
-pub every-text : (bs : List ℕ) (k : ℕ) (A : Array) → Bytes bs → chosen bs k ≡ got A
+pub every-text : (bs : List ℕ) (k : ℕ) (A : Array) → Bytes bs → chosen bs k ≡ Ok A
     → length (json_text A.shape.axes A.cells) ≤ longest
 every-text bs k A b e =
     let v = chosen-valid bs k A b e in
@@ -88,8 +87,8 @@ every-text bs k A b e =
     )
 
 -- a buffer of that length is never refused with 14
-pub never-14 : (bs : List ℕ) (k room : ℕ) (A : Array) → Bytes bs → chosen bs k ≡ got A → eqb A.shape.type FLOAT ≡ false → longest ≤ room
-    → written bs k room ≡ got (json_text A.shape.axes A.cells)
+pub never-14 : (bs : List ℕ) (k room : ℕ) (A : Array) → Bytes bs → chosen bs k ≡ Ok A → eqb A.shape.type FLOAT ≡ false → longest ≤ room
+    → written bs k room ≡ Ok (json_text A.shape.axes A.cells)
 unfolding written
 never-14 bs k room A b e t h = rw (e, t, le-leb (length (json_text A.shape.axes A.cells)) room (omega (arith, every-text bs k A b e)))
 

@@ -1,8 +1,7 @@
 -- What the writer is given and what it leaves: rows of cells, the axes that are left, the whole text; and an array of a bundle written,
 -- by the ways in which its judging can end.
-use Rattle.std.specs.Prelude.{ℕ, zero, suc, ◌+◌, ◌-◌, ◌*◌, ◌^◌, ◌≤◌, ◌<◌, ◌≡◌, refl, false, List, [], ◌∷◌, ◌++◌, map, eqb, length}
+use Rattle.std.specs.Prelude.{ℕ, zero, suc, ◌+◌, ◌-◌, ◌*◌, ◌^◌, ◌≤◌, ◌<◌, ◌≡◌, refl, false, List, [], ◌∷◌, ◌++◌, map, eqb, length, Some, Ok, Err}
 use Rattle.std.proofs.Common.{sym, ap, subst, ◌∙◌, le_trans, arith, length-append, drop-drop}
-use Rattle.std.proofs.Math.Option.{some}
 use Rattle.std.proofs.Math.Nat.{zero-add}
 use Rattle.laws.specs.Sizes.{fits}
 use borrow.Author.Tests.{eq-eqb, ne_eqb, le-leb, lt-leb}
@@ -14,7 +13,7 @@ use Rattle.paper.specs.declared.Axis.{Axis}
 use Rattle.paper.specs.declared.Cell.{Cell}
 use Rattle.paper.specs.declared.Refusal.{Refusal}
 use Rattle.paper.specs.Limits.{FLOAT, most_axes, most_cells, cell_bytes, sizes_of}
-use Rattle.paper.specs.Refusals.{Res, got, refused, refusal, present, unknown4, unfit7, small_output14}
+use Rattle.paper.specs.Refusals.{Res, refusal, present, unknown4, unfit7, small_output14}
 use Rattle.paper.specs.Numbers.{text, from, part, nth}
 use Rattle.paper.specs.Axes.{width, cells, Array}
 use Rattle.paper.specs.Cells.{cell_of}
@@ -170,13 +169,13 @@ module _ {bs : List ℕ} {at : ℕ} {E : List Axis} (v : Whole bs at E) where
 -- ---- an array of a bundle
 
 -- it is valid
-nth-valid : (z : Sizes) (As : List Array) (k : ℕ) (A : Array) → EachValid z As → nth As k ≡ some A → Valid z A
+nth-valid : (z : Sizes) (As : List Array) (k : ℕ) (A : Array) → EachValid z As → nth As k ≡ Some A → Valid z A
 nth-valid z As zero A v e = absurd (no_none A e)
 nth-valid z [] (suc k) A v e = absurd (no_none A e)
 nth-valid z (B ∷ As) (suc zero) A v e = subst (Valid z) (some_one B A e) v.0
 nth-valid z (B ∷ As) (suc (suc k)) A v e = nth-valid z As (suc k) A v.1 e
 
-pub chosen-valid : (bs : List ℕ) (k : ℕ) (A : Array) → Bytes bs → chosen bs k ≡ got A → Valid (sizes_in bs) A
+pub chosen-valid : (bs : List ℕ) (k : ℕ) (A : Array) → Bytes bs → chosen bs k ≡ Ok A → Valid (sizes_in bs) A
 unfolding chosen
 chosen-valid bs k A b e =
     let r = bind-got (read_bundle bs) (λ As. present (nth As k) (refusal unknown4 k 0)) A e in
@@ -192,7 +191,7 @@ Both bs k out r last = (r ≡ (write_json bs k out).answer) × (last ≡ (write_
 
 module _ {bs : List ℕ} {k : ℕ} {c : Chosen} (v : ChosenHead bs k c) (out : List ℕ) where
   -- the array's own refusal
-  pub own-refusal : (c.refusal.number ≡ 0 → ⊥) → Both bs k out (refused c.refusal) out
+  pub own-refusal : (c.refusal.number ≡ 0 → ⊥) → Both bs k out (Err c.refusal) out
   unfolding written put_into
   own-refusal n = rw (← its-refusal v n) (refl, refl)
 
@@ -200,7 +199,7 @@ module _ {bs : List ℕ} {k : ℕ} {c : Chosen} (v : ChosenHead bs k c) (out : L
     abbrev its_text : List ℕ
     its_text = json_at bs c.head.at c.head.form.kind (axes_of c.head.form.extent)
 
-    pub float-refused : c.head.form.kind ≡ FLOAT → {x : Refusal} → x ≡ refusal unfit7 k 0 → Both bs k out (refused x) out
+    pub float-refused : c.head.form.kind ≡ FLOAT → {x : Refusal} → x ≡ refusal unfit7 k 0 → Both bs k out (Err x) out
     unfolding written put_into array_at
     float-refused e q = rw (← its-array v y, eq-eqb c.head.form.kind FLOAT e, q) (refl, refl)
 
@@ -208,16 +207,16 @@ module _ {bs : List ℕ} {k : ℕ} {c : Chosen} (v : ChosenHead bs k c) (out : L
       not_float : eqb c.head.form.kind FLOAT ≡ false
       not_float = ne_eqb c.head.form.kind FLOAT f
 
-      pub small-refused : length out < length its_text → {x : Refusal} → x ≡ refusal small_output14 0 0 → Both bs k out (refused x) out
+      pub small-refused : length out < length its_text → {x : Refusal} → x ≡ refusal small_output14 0 0 → Both bs k out (Err x) out
       unfolding written put_into array_at
       small-refused l q = rw (← its-array v y, not_float, lt-leb (length its_text) (length out) l, q) (refl, refl)
 
       pub text-got : {n r : ℕ} {last : List ℕ} → length its_text ≤ length out → n ≡ length its_text → Stored out 0 its_text r last
-          → Both bs k out (got n) last
+          → Both bs k out (Ok n) last
       unfolding written put_into array_at
       text-got {n} {r} {last} l q s =
           let e : last ≡ its_text ++ drop (length its_text) out = s.1 ∙ sets-eq its_text out 0 (omega arith) ∙ rw zero-add in
-          rw (← its-array v y, not_float, le-leb (length its_text) (length out) l) (ap got q, e)
+          rw (← its-array v y, not_float, le-leb (length its_text) (length out) l) (ap Ok q, e)
 
     pub its-whole : Bytes bs → Whole bs c.head.at (axes_of c.head.form.extent)
     unfolding array_at

@@ -5,7 +5,7 @@
 ghost use Rattle.std.specs.Prelude.{[], ◌∷◌, ◌≡◌, ◌+◌, ◌*◌, ◌^◌, ◌<◌, ◌≤◌, length};
 ghost use Rattle.paper.specs.Limits.{most_cells, cell_bytes};
 ghost use Rattle.paper.specs.Axes.{cells};
-ghost use Rattle.paper.specs.Answers.{axes_of, number_said};
+ghost use Rattle.paper.specs.Answers.{axes_of};
 ghost use Rattle.paper.specs.Json.{cell_text, write_json};
 ghost use Rattle.laws.specs.Limits.{Sound};
 ghost use Rattle.json_write.specs.Stores.{Stored};
@@ -15,7 +15,7 @@ ghost use Rattle.json_write.specs.Whole.{cell_by, json_at, RowReady, RowDrawn, T
 
 use decimal::{int_length, put_int, put_text};
 use extent::{axis_of, rank_of, width_of};
-use paper::{Axis, AxisIndex, Cell, Extent, FLOAT, NumberAnswer};
+use paper::{Axis, AxisIndex, Cell, Extent, FLOAT, Refusal};
 use refer::{choose, held_cell};
 use refusals::refuse;
 
@@ -193,17 +193,17 @@ fn put_json(out: &mut [u8], s: &[u8], from: usize, kind: u8, extent: Extent) -> 
 }
 
 // Array k of a bundle as JSON: the text's length, or the refusal; then `out` is as it was.
-pub fn write(s: &[u8], k: u32, out: &mut [u8]) -> NumberAnswer
-    ensures { (number_said result ≡ (write_json s.now k out.old).answer)
+pub fn write(s: &[u8], k: u32, out: &mut [u8]) -> Result<u32, Refusal>
+    ensures { (result ≡ (write_json s.now k out.old).answer)
         × (out.new ≡ (write_json s.now k out.old).buffer) }
 {
     let array = choose(s, k);
     let refusal = array.refusal;
     if refusal.number != 0 {
-        return NumberAnswer::Refused(refusal);
+        return Err(refusal);
     }
     if array.head.form.kind == FLOAT {
-        return NumberAnswer::Refused(refuse(7, k));
+        return Err(refuse(7, k));
     }
     let long = json_length(
         s,
@@ -213,7 +213,7 @@ pub fn write(s: &[u8], k: u32, out: &mut [u8]) -> NumberAnswer
         array.head.cells,
     );
     if out.len() < long {
-        return NumberAnswer::Refused(refuse(14, 0));
+        return Err(refuse(14, 0));
     }
     put_json(
         out,
@@ -222,5 +222,5 @@ pub fn write(s: &[u8], k: u32, out: &mut [u8]) -> NumberAnswer
         array.head.form.kind,
         array.head.form.extent,
     );
-    NumberAnswer::Got(long as u32)
+    Ok(long as u32)
 }

@@ -1,12 +1,12 @@
 -- Cells seen without a branch: marks and numbers of some cells joined bit by bit. What the joined figures rule out, each cell's rule out.
-use Rattle.std.specs.Prelude.{◌≡◌, ℕ, zero, suc, ◌+◌, ◌-◌, ◌*◌, ◌/◌, ◌%◌, ◌^◌, ◌<◌, ◌≤◌, Bool, true, false, ◌&&◌, List, length, drop, ◌==◌, ◌≢◌, bit_and, bit_or, nat_le, nat_lt, slice_index, refl}
+use Rattle.std.specs.Prelude.{◌≡◌, ℕ, zero, suc, ◌+◌, ◌-◌, ◌*◌, ◌/◌, ◌%◌, ◌^◌, ◌<◌, ◌≤◌, Bool, true, false, ◌&&◌, List, length, drop, ◌==◌, ◌≢◌, bit_and, bit_or, nat_le, nat_lt, slice_index, refl, is_some}
 use Rattle.std.proofs.Common.{sym, ap, ◌∙◌, mod-eq_of_lt, arith, eqb-true, leb-true, leb-false, ltb-true, ltb-false}
 use Rattle.std.proofs.lemmas.Nat.{and_comm, and_le_l, and_le_r, and_mask}
 use Rattle.std.specs.Int.Bits.{or_add_and}
 use Rattle.paper.specs.Limits.{cell_bytes, word_bytes, INT, FLOAT}
 use Rattle.paper.specs.Numbers.{part, le_of}
 use Rattle.paper.specs.Cells.{filled, cell_from, cell_of}
-use Rattle.laws.specs.Judged.{is?, first_bad, bad_more, bad-start}
+use Rattle.laws.specs.Judged.{first_bad, bad_more, bad-start}
 use Rattle.laws.specs.Tests.{and_left, and_right}
 use Rattle.cell.proofs.Cases.{filled-float, filled-float-bad, filled-truth, filled-truth-bad, from-filled, from_empty}
 use Rattle.cell.proofs.Runs.{run-cons}
@@ -20,7 +20,7 @@ pub record Sound (l : Look) : Type 0 where
 
 -- cells from a byte on, as they are judged
 abbrev pub is_cell : ℕ → List ℕ → ℕ → Type 0
-is_cell t s at = is? (cell_of t (part at cell_bytes s)) ≡ true
+is_cell t s at = is_some (cell_of t (part at cell_bytes s)) ≡ true
 
 pub record FourAt (t : ℕ) (s : List ℕ) (at : ℕ) : Type 0 where
   pub one : is_cell t s at
@@ -52,32 +52,32 @@ all_ones ones n e h = rw e (and_comm (2 ^ 64 - 1) n ∙ and_mask n 64 ∙ mod-eq
 -- ---- a number that fits its type
 
 module _ (t n : ℕ) where
-  pub float_fits : t ≡ FLOAT → nat_lt (n % 0x8000_0000_0000_0000) 0x7ff0_0000_0000_0000 ≡ is? (filled t n)
+  pub float_fits : t ≡ FLOAT → nat_lt (n % 0x8000_0000_0000_0000) 0x7ff0_0000_0000_0000 ≡ is_some (filled t n)
   float_fits e = by (nat_lt (n % 0x8000_0000_0000_0000) 0x7ff0_0000_0000_0000) refl
     where
-      by : (b : Bool) → nat_lt (n % 0x8000_0000_0000_0000) 0x7ff0_0000_0000_0000 ≡ b → b ≡ is? (filled t n)
-      by true q = sym (ap is? (filled-float t n e (ltb-true _ _ q)))
-      by false q = sym (ap is? (filled-float-bad t n e (ltb-false _ _ q)))
+      by : (b : Bool) → nat_lt (n % 0x8000_0000_0000_0000) 0x7ff0_0000_0000_0000 ≡ b → b ≡ is_some (filled t n)
+      by true q = sym (ap is_some (filled-float t n e (ltb-true _ _ q)))
+      by false q = sym (ap is_some (filled-float-bad t n e (ltb-false _ _ q)))
 
-  pub truth-fits : (t ≢ INT) → (t ≢ FLOAT) → nat_le n 1 ≡ is? (filled t n)
+  pub truth-fits : (t ≢ INT) → (t ≢ FLOAT) → nat_le n 1 ≡ is_some (filled t n)
   truth-fits a b = by (nat_le n 1) refl
     where
-      by : (c : Bool) → nat_le n 1 ≡ c → c ≡ is? (filled t n)
-      by true q = sym (ap is? (filled-truth t n a b (leb-true _ _ q)))
-      by false q = sym (ap is? (filled-truth-bad t n a b (leb-false _ _ q)))
+      by : (c : Bool) → nat_le n 1 ≡ c → c ≡ is_some (filled t n)
+      by true q = sym (ap is_some (filled-truth t n a b (leb-true _ _ q)))
+      by false q = sym (ap is_some (filled-truth-bad t n a b (leb-false _ _ q)))
 
 -- ---- one cell
 
-looked : (t m n : ℕ) → m ≤ 1 → (m ≡ 0 → n ≡ 0) → is? (filled t n) ≡ true → is? (cell_from t m n) ≡ true
-looked t zero n h z f = ap is? (from_empty t n zero refl (z refl))
-looked t (suc zero) n h z f = ap is? (from-filled t n (suc zero) refl) ∙ f
+looked : (t m n : ℕ) → m ≤ 1 → (m ≡ 0 → n ≡ 0) → is_some (filled t n) ≡ true → is_some (cell_from t m n) ≡ true
+looked t zero n h z f = ap is_some (from_empty t n zero refl (z refl))
+looked t (suc zero) n h z f = ap is_some (from-filled t n (suc zero) refl) ∙ f
 looked t (suc (suc m)) n h z f = absurd (omega arith)
 
 pub look_is : (t : ℕ) (s : List ℕ) (at m n left : ℕ) (fit : Bool) → at + cell_bytes ≤ length s → m ≡ slice_index s at
-    → n ≡ le_of (part (at + 1) word_bytes s) → (m ≡ 0 → left ≡ n) → fit ≡ is? (filled t n)
+    → n ≡ le_of (part (at + 1) word_bytes s) → (m ≡ 0 → left ≡ n) → fit ≡ is_some (filled t n)
     → Sound (record { marks = m; left = left; fit = fit }) → is_cell t s at
 look_is t s at m n left fit h e f u q v =
-    ap (λ (bs : List ℕ). is? (cell_of t bs)) (run-cons s at word_bytes (omega arith))
+    ap (λ (bs : List ℕ). is_some (cell_of t bs)) (run-cons s at word_bytes (omega arith))
     ∙ rw (sym e, sym f) (looked t m n v.marked (λ z. sym (u z) ∙ v.none_left) (sym q ∙ v.fits))
 
 -- ---- some cells and others

@@ -2,16 +2,15 @@
 // then one after the other up to the first that is none.
 #![tactic(auto)]
 
-ghost use Rattle.std.specs.Prelude.{◌≡◌, ◌+◌, ◌*◌, ◌≤◌, true, length, drop};
+ghost use Rattle.std.specs.Prelude.{◌≡◌, ◌+◌, ◌*◌, ◌≤◌, true, length, drop, is_some};
 ghost use Rattle.paper.specs.Limits.{cell_bytes};
 ghost use Rattle.paper.specs.Numbers.{part};
 ghost use Rattle.paper.specs.Cells.{cell_of, filled};
-ghost use Rattle.laws.specs.Judged.{is?, first_bad};
+ghost use Rattle.laws.specs.Judged.{first_bad};
 ghost use Rattle.judged.specs.Looks.{Sound, FourAt, EightAt, Ahead};
 
-use cell::bytes::{Got, read_cell, word};
+use cell::bytes::{read_cell, word};
 use paper::CELL_BYTES;
-use std::num::wrapping_sub_u64;
 
 // ---- cells without a branch
 
@@ -25,7 +24,7 @@ pub struct Look {
 
 // A filled cell's number is one of the type `kind`.
 fn is_filled(kind: u8, n: u64) -> bool
-    ensures { result ≡ is? (filled kind n) }
+    ensures { result ≡ is_some (filled kind n) }
 {
     match kind {
         1 => true,
@@ -38,21 +37,15 @@ fn is_filled(kind: u8, n: u64) -> bool
 fn unmarked(mark: u64, n: u64) -> u64
     ensures { mark ≡ 0 → result ≡ n }
 {
-    wrapping_sub_u64(mark, 1) & n
-}
-
-fn wide(mark: u8) -> u64
-    ensures { result ≡ mark }
-{
-    mark as u64
+    mark.wrapping_sub(1) & n
 }
 
 // One cell.
 fn look_at(s: &[u8], at: usize, kind: u8) -> Look
     requires { at + cell_bytes ≤ length s.now }
-    ensures { Sound result → is? (cell_of kind (part at cell_bytes s.now)) ≡ true }
+    ensures { Sound result → is_some (cell_of kind (part at cell_bytes s.now)) ≡ true }
 {
-    let mark = wide(s[at]);
+    let mark = u64::from(s[at]);
     let n = word(s, at + 1);
     Look {
         marks: mark,
@@ -106,14 +99,12 @@ fn eights_ahead(s: &[u8], at: usize, kind: u8, n: usize) -> usize
     ensures { Ahead kind s.now at n result }
 {
     let turns = n / 8;
-    let mut t: usize = 0;
-    while t < turns {
+    for t in 0..turns {
         if !eight_at(s, at + t * 8 * CELL_BYTES, kind) {
             return t * 8;
         }
-        t += 1;
     }
-    t * 8
+    turns * 8
 }
 
 // The same, with a loop of its own for each type: the compiler then has no test of it in the loop.
@@ -134,13 +125,9 @@ fn ahead(s: &[u8], at: usize, kind: u8, n: usize) -> usize
 // The nine bytes at `at` are a cell of the type `kind`.
 fn cell_at(s: &[u8], at: usize, kind: u8) -> bool
     requires { at + cell_bytes ≤ length s.now }
-    ensures { result ≡ is? (cell_of kind (part at cell_bytes s.now)) }
+    ensures { result ≡ is_some (cell_of kind (part at cell_bytes s.now)) }
 {
-    let got = read_cell(s, at, kind);
-    match got {
-        Got::Is(_) => true,
-        Got::Bad => false,
-    }
+    read_cell(s, at, kind).is_some()
 }
 
 // The ordinality of the first of n cells of the type `kind` from `at` on that is none, or 0.
@@ -148,12 +135,10 @@ pub fn first_bad(s: &[u8], at: usize, kind: u8, n: usize) -> usize
     requires { at + n * cell_bytes ≤ length s.now }
     ensures { (result ≡ first_bad kind 1 n (drop at s.now)) × (result ≤ n) }
 {
-    let mut i = ahead(s, at, kind, n);
-    while i < n {
+    for i in ahead(s, at, kind, n)..n {
         if !cell_at(s, at + i * CELL_BYTES, kind) {
             return i + 1;
         }
-        i += 1;
     }
     0
 }

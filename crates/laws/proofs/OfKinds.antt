@@ -1,6 +1,6 @@
 -- What an operator gives is a cell of its result's type: a number that fits, a finite FLOAT, a truth value, or nothing. So it can be
 -- written, and read back as the same cell.
-use Rattle.std.specs.Prelude.{ℕ, ◌≡◌, true, false, not, ◌&&◌, ◌||◌, pos, neg_ℤ, nat_abs, ◌+ℤ◌, ◌-ℤ◌, ◌*ℤ◌}
+use Rattle.std.specs.Prelude.{ℕ, ◌≡◌, true, false, not, ◌&&◌, ◌||◌, pos, neg_ℤ, nat_abs, ◌+ℤ◌, ◌-ℤ◌, ◌*ℤ◌, Ok}
 use Rattle.std.proofs.Common.{subst}
 use Rattle.std.specs.Bool.{beq}
 use Rattle.std.specs.Int.Signed.{lt_z, le_z, quot_z, rem_z}
@@ -12,7 +12,6 @@ use Rattle.paper.specs.Cells.{is_true, is_false}
 use Rattle.paper.specs.Operators.{two, and_cell, or_cell, not_cell, applied, pair_cell, gives, gives_one, fit_float, int_by, float_div, eq_z, abs_float, single_cell}
 use Rattle.paper.specs.declared.Cell.{Cell}
 use Rattle.paper.specs.declared.Cell.TheVariants.{Empty}
-use Rattle.paper.specs.declared.Answer.TheVariants.{Is}
 use Rattle.paper.specs.declared.PairOp.{PairOp}
 use Rattle.paper.specs.declared.PairOp.TheVariants.{Add, Sub, Mul, Div, Mod, Eq, Ne, Lt, Le, Gt, Ge, And, Or}
 use Rattle.paper.specs.declared.SingleOp.{SingleOp}
@@ -31,7 +30,7 @@ fine-pair Add kind a b h = fine-worked _ _ (λ x y. fine-int (x +ℤ y)) (λ x y
 fine-pair Sub kind a b h = fine-worked _ _ (λ x y. fine-int (x -ℤ y)) (λ x y. fine-float (Ieee.sub binary64 x y) (sub-fits binary64 x y)) kind a b h
 fine-pair Mul kind a b h = fine-worked _ _ (λ x y. fine-int (x *ℤ y)) (λ x y. fine-float (Ieee.mul binary64 x y) (mul-fits binary64 x y)) kind a b h
 fine-pair Div kind a b h = fine-worked (int_by quot_z) float_div (fine-by quot_z) fine-over kind a b h
-fine-pair Mod kind a b h = fine-worked (int_by rem_z) (λ x y. Is Empty) (fine-by rem_z) (λ x y. nothing FLOAT) kind a b h
+fine-pair Mod kind a b h = fine-worked (int_by rem_z) (λ x y. Ok Empty) (fine-by rem_z) (λ x y. nothing FLOAT) kind a b h
 fine-pair Eq kind a b h = fine-compared eq_z Ieee.eq beq (two a b)
 fine-pair Ne kind a b h = fine-compared (λ x y. not (eq_z x y)) Ieee.ne (λ x y. not (beq x y)) (two a b)
 fine-pair Lt kind a b h = fine-compared lt_z Ieee.lt (λ x y. false) (two a b)
@@ -51,8 +50,8 @@ fine-single IsTrue kind c h = truth _
 fine-single IsFalse kind c h = truth _
 fine-single IsUnknown kind c h = truth _
 
-pub pair-kind : (o : PairOp) (t : ℕ) (a b c : Cell) → OfKind t a → pair_cell o a b ≡ Is c → OfKind (gives o t) c
+pub pair-kind : (o : PairOp) (t : ℕ) (a b c : Cell) → OfKind t a → pair_cell o a b ≡ Ok c → OfKind (gives o t) c
 pair-kind o t a b c h e = subst (Fine (gives o t)) e (fine-pair o t a b h)
 
-pub single-kind : (o : SingleOp) (t : ℕ) (a c : Cell) → OfKind t a → single_cell o a ≡ Is c → OfKind (gives_one o t) c
+pub single-kind : (o : SingleOp) (t : ℕ) (a c : Cell) → OfKind t a → single_cell o a ≡ Ok c → OfKind (gives_one o t) c
 single-kind o t a c h e = subst (Fine (gives_one o t)) e (fine-single o t a h)

@@ -1,7 +1,7 @@
 -- Two arrays that agree as an operation asks, and what that says of their axes: as many, and the limits that are compared are the same.
 -- Who moves or works out cells cites these laws, never the comparison itself.
 use Prim.Native.Nat.{ℕ, zero, suc, ◌+◌, ◌-◌, ◌*◌, ◌≤◌}
-use Rattle.std.specs.Prelude.{◌≡◌, Bool, true, false, ◌&&◌, List, [], ◌∷◌, ◌++◌, eqb, length, take, if◌then◌else◌}
+use Rattle.std.specs.Prelude.{◌≡◌, Bool, true, false, ◌&&◌, List, [], ◌∷◌, ◌++◌, eqb, length, take, if◌then◌else◌, Ok, Err}
 use Rattle.std.proofs.Math.Path.{refl, subst}
 use Rattle.std.proofs.Common.{sym, ap, arith, eqb-true, ne_eqb}
 use Rattle.std.proofs.Math.Bool.{not}
@@ -14,7 +14,7 @@ use Rattle.paper.specs.declared.Move.TheVariants.{Update, Put, Glue}
 use Rattle.paper.specs.declared.Work.TheVariants.{Pair}
 use Rattle.paper.specs.declared.Operation.{Operation}
 use Rattle.paper.specs.declared.Operation.TheVariants.{Moves, Works}
-use Rattle.paper.specs.Refusals.{Res, got, refused, ◌>>◌, refusal, differ8, ensure_same}
+use Rattle.paper.specs.Refusals.{Res, ◌>>◌, refusal, differ8, ensure_same}
 use Rattle.paper.specs.Numbers.{from}
 use Rattle.paper.specs.Axes.{same_name, name_at, without}
 use Rattle.paper.specs.Recipe.{as_many, axis_differs, in_step, first_difference, indices, agree}
@@ -26,10 +26,10 @@ abbrev pub Agree : Operation → ℕ → List Name → List Axis → List Name �
 Agree op k M E N F = agree op k M E N F ≡ 0
 
 -- the test of it, passed
-pub same-got : {B : Type 0} (d k : ℕ) (m : Res B) (b : B) → (ensure_same d k >> m) ≡ got b → (d ≡ 0) × (m ≡ got b)
+pub same-got : {B : Type 0} (d k : ℕ) (m : Res B) (b : B) → (ensure_same d k >> m) ≡ Ok b → (d ≡ 0) × (m ≡ Ok b)
 same-got d k m b e = by (eqb d 0) refl e
   where
-    by : (t : Bool) → eqb d 0 ≡ t → ((if t then got tt else refused (refusal differ8 k d)) >> m) ≡ got b → (d ≡ 0) × (m ≡ got b)
+    by : (t : Bool) → eqb d 0 ≡ t → ((if t then Ok tt else Err (refusal differ8 k d)) >> m) ≡ Ok b → (d ≡ 0) × (m ≡ Ok b)
     by true q h = (eqb-true d 0 q, h)
     by false q h = absurd (no-refusal _ b h)
 

@@ -1,6 +1,6 @@
 -- When a result is empty. Arithmetic and comparisons: where they don't refuse, exactly if an operand is empty. AND and OR are not among
 -- them: FALSE AND empty is FALSE. Is-empty, is-true, is-false and is-unknown: never.
-use Rattle.std.specs.Prelude.{ℕ, ◌≡◌, refl, Bool, true, false, not, ◌&&◌, ◌||◌, T, leb, ℤ, pos, ◌+ℤ◌, ◌-ℤ◌, ◌*ℤ◌, if◌then◌else◌}
+use Rattle.std.specs.Prelude.{ℕ, ◌≡◌, refl, Bool, true, false, not, ◌&&◌, ◌||◌, T, leb, ℤ, pos, ◌+ℤ◌, ◌-ℤ◌, ◌*ℤ◌, if◌then◌else◌, Ok, Err}
 use Rattle.std.proofs.Common.{sym, ap, ◌∙◌, subst, arith}
 use Rattle.std.specs.Bool.{beq}
 use Rattle.std.specs.Int.Signed.{lt_z, le_z, quot_z, rem_z}
@@ -8,14 +8,12 @@ use Rattle.std.specs.Float.Ieee as Ieee
 use Rattle.std.specs.Float.{binary64, fin}
 use Rattle.paper.specs.Limits.{INT, FLOAT, BOOLEAN, smallest_int, largest_int}
 use Rattle.paper.specs.Cells.{finite, is_true, is_false}
-use Rattle.paper.specs.Operators.{pair_no, single_no, takes, takes_one, two, worked, compared, applied, pair_cell, empty_cell}
+use Rattle.paper.specs.Operators.{pair_no, single_no, takes, takes_one, two, worked, compared, applied, pair_cell, empty_cell, Answer}
 use Rattle.paper.specs.Operators.{signed, single_cell, fit_int, fit_float, int_by, float_div, eq_z}
 use Rattle.paper.specs.declared.Cell.{Cell}
 use Rattle.paper.specs.declared.Cell.TheVariants.{Empty, Int, Float, Truth}
 use Rattle.paper.specs.declared.Two.{Two}
 use Rattle.paper.specs.declared.Two.TheVariants.{Ints, Floats, Truths, OneEmpty}
-use Rattle.paper.specs.declared.Answer.{Answer}
-use Rattle.paper.specs.declared.Answer.TheVariants.{Is, Refused}
 use Rattle.paper.specs.declared.PairOp.{PairOp}
 use Rattle.paper.specs.declared.PairOp.TheVariants.{Add, Sub, Mul, Div, Mod, Eq, Ne, Lt, Le, Gt, Ge, And, Or}
 use Rattle.paper.specs.declared.SingleOp.{SingleOp}
@@ -28,8 +26,8 @@ not_logic o = leb (pair_no o) (pair_no Ge)
 
 -- the cell given, if one is, is empty exactly if e
 abbrev pub EmptyIf : Bool → Answer → Type 0
-EmptyIf e (Is c) = empty_cell c ≡ e
-EmptyIf e (Refused n) = Unit {0}
+EmptyIf e (Ok c) = empty_cell c ≡ e
+EmptyIf e (Err n) = Unit {0}
 
 by : (e b : Bool) (x y : Answer) → EmptyIf e x → EmptyIf e y → EmptyIf e (if b then x else y)
 by e true x y f g = f
@@ -39,11 +37,11 @@ by e false x y f g = g
 
 filled-int : (z : ℤ) → EmptyIf false (fit_int z)
 unfolding fit_int
-filled-int z = by false (le_z smallest_int z && le_z z largest_int) (Is (Int z)) _ refl tt
+filled-int z = by false (le_z smallest_int z && le_z z largest_int) (Ok (Int z)) _ refl tt
 
 filled-float : (x : Ieee.Float) → EmptyIf false (fit_float x)
 unfolding fit_float
-filled-float x = by false (finite x) (Is (Float x)) _ refl tt
+filled-float x = by false (finite x) (Ok (Float x)) _ refl tt
 
 filled-by : (f : ℤ → ℤ → ℤ) (x y : ℤ) → EmptyIf false (int_by f x y)
 unfolding int_by
@@ -113,7 +111,7 @@ empty-pair Mul kind a b n t =
 empty-pair Div kind a b n t =
     empty-worked (int_by quot_z) float_div kind (filled-by quot_z) (λ f. filled-over) (other (takes Div) kind BOOLEAN t refl) a b
 empty-pair Mod kind a b n t =
-    empty-worked (int_by rem_z) (λ x y. Is Empty) kind (filled-by rem_z) (λ f x y. absurd (other (takes Mod) kind FLOAT t refl f))
+    empty-worked (int_by rem_z) (λ x y. Ok Empty) kind (filled-by rem_z) (λ f x y. absurd (other (takes Mod) kind FLOAT t refl f))
     (other (takes Mod) kind BOOLEAN t refl) a b
 empty-pair Eq kind a b n t = empty-compared eq_z Ieee.eq beq kind a b
 empty-pair Ne kind a b n t = empty-compared (λ x y. not (eq_z x y)) Ieee.ne (λ x y. not (beq x y)) kind a b
@@ -147,11 +145,11 @@ empty-one IsUnknown kind a n t = absurd (no n)
 
 -- arithmetic on one cell, negate and absolute: likewise
 pub single-empty : (o : SingleOp) (kind : ℕ) (a c : Cell) → leb (single_no o) (single_no Absolute) ≡ true → takes_one o kind ≡ true
-    → OfKind kind a → single_cell o a ≡ Is c → empty_cell c ≡ empty_cell a
+    → OfKind kind a → single_cell o a ≡ Ok c → empty_cell c ≡ empty_cell a
 single-empty o kind a c n t h e = subst (EmptyIf (empty_cell a)) e (empty-one o kind a n t h)
 
 -- is-empty, is-true, is-false and is-unknown give TRUE or FALSE, whatever the cell
-pub never-empty : (o : SingleOp) (a : Cell) → leb (single_no IsEmpty) (single_no o) ≡ true → (b : Bool) × (single_cell o a ≡ Is (Truth b))
+pub never-empty : (o : SingleOp) (a : Cell) → leb (single_no IsEmpty) (single_no o) ≡ true → (b : Bool) × (single_cell o a ≡ Ok (Truth b))
 unfolding single_cell
 never-empty Negate a n = absurd (no n)
 never-empty Absolute a n = absurd (no n)

@@ -1,33 +1,27 @@
 -- Cells judged one after the other: the first that is none, and what the paper's reading of them then is. A loop that judges cells
 -- carries a number; what reads them later cites the cell at an index, and that it is one.
 use Prim.Native.Nat.{ℕ, zero, suc, ◌+◌, ◌-◌, ◌*◌, ◌≤◌, ◌<◌}
-use Rattle.std.specs.Prelude.{◌≡◌, refl, Bool, true, false, List, [], ◌∷◌, eqb, length, get_or, take, drop, if◌then◌else◌}
+use Rattle.std.specs.Prelude.{◌≡◌, refl, Bool, true, false, List, [], ◌∷◌, eqb, length, get_or, take, drop, if◌then◌else◌, Option, None, Some, Ok, Err, is_some}
+use Rattle.std.specs.Option.{unwrap_or}
 use Rattle.std.proofs.Common.{sym, ap, ◌∙◌, ne_eqb}
-use Rattle.std.proofs.Math.Option.{Option, none, some}
 use native.Mathlib.Omega.{arith}
 use Rattle.std.proofs.Math.Seq.{drop-drop}
 use Rattle.paper.specs.declared.Cell.{Cell}
 use Rattle.paper.specs.declared.Cell.TheVariants.{Empty}
 use Rattle.paper.specs.declared.Refusal.{Refusal}
-use Rattle.paper.specs.Refusals.{Res, got, refused, ◌>>=◌, refusal, present, bad_cell3}
+use Rattle.paper.specs.Refusals.{Res, ◌>>=◌, refusal, present, bad_cell3}
 use Rattle.paper.specs.Cells.{cell_of}
 use Rattle.paper.specs.Bundle.{cells_of}
 use Rattle.paper.specs.Limits.{cell_bytes}
 
--- something is there
-abbrev pub is? : {A : Type 0} → Option A → Bool
-is? none = false
-is? (some a) = true
-
 -- the ordinality of the first of n cells that is none, the first of them at o; 0 where each is one
 unfoldable pub first_bad : ℕ → ℕ → ℕ → List ℕ → ℕ
 first_bad t o zero bs = 0
-first_bad t o (suc n) bs = if is? (cell_of t (take cell_bytes bs)) then first_bad t (o + 1) n (drop cell_bytes bs) else o
+first_bad t o (suc n) bs = if is_some (cell_of t (take cell_bytes bs)) then first_bad t (o + 1) n (drop cell_bytes bs) else o
 
 -- the cell, or an empty one
 abbrev pub or_empty : Option Cell → Cell
-or_empty (some c) = c
-or_empty none = Empty
+or_empty c = unwrap_or c Empty
 
 -- n cells, each judged already
 unfoldable pub cells_from : ℕ → ℕ → List ℕ → List Cell
@@ -36,10 +30,10 @@ cells_from t (suc n) bs = or_empty (cell_of t (take cell_bytes bs)) ∷ cells_fr
 
 -- the paper's reading of cells, by the first that is none
 abbrev pub judged : ℕ → ℕ → List Cell → Res (List Cell)
-judged k o cs = if eqb o 0 then got cs else refused (refusal bad_cell3 k o)
+judged k o cs = if eqb o 0 then Ok cs else Err (refusal bad_cell3 k o)
 
 onwards : (b : Bool) (c : Cell) (cs : List Cell) (r : Refusal)
-    → ((if b then got cs else refused r) >>= (λ ds. got (c ∷ ds))) ≡ (if b then got (c ∷ cs) else refused r)
+    → ((if b then Ok cs else Err r) >>= (λ ds. Ok (c ∷ ds))) ≡ (if b then Ok (c ∷ cs) else Err r)
 onwards true c cs r = refl
 onwards false c cs r = refl
 
@@ -50,29 +44,29 @@ cells-judged (suc n) k t o bs h = by (cells-judged n k t (o + 1) (drop cell_byte
   where
     by : cells_of k t (o + 1) n (drop cell_bytes bs) ≡ judged k (first_bad t (o + 1) n (drop cell_bytes bs)) (cells_from t n (drop cell_bytes bs))
         → (c : Option Cell)
-        → (present c (refusal bad_cell3 k o) >>= (λ c. cells_of k t (o + 1) n (drop cell_bytes bs) >>= (λ cs. got (c ∷ cs))))
-        ≡ judged k (if is? c then first_bad t (o + 1) n (drop cell_bytes bs) else o) (or_empty c ∷ cells_from t n (drop cell_bytes bs))
-    by q none = let f : eqb o 0 ≡ false = ne_eqb o 0 (λ e. omega arith) in rw f
-    by q (some c) =
-        ap (λ (m : Res (List Cell)). m >>= (λ cs. got (c ∷ cs))) q
+        → (present c (refusal bad_cell3 k o) >>= (λ c. cells_of k t (o + 1) n (drop cell_bytes bs) >>= (λ cs. Ok (c ∷ cs))))
+        ≡ judged k (if is_some c then first_bad t (o + 1) n (drop cell_bytes bs) else o) (or_empty c ∷ cells_from t n (drop cell_bytes bs))
+    by q None = let f : eqb o 0 ≡ false = ne_eqb o 0 (λ e. omega arith) in rw f
+    by q (Some c) =
+        ap (λ (m : Res (List Cell)). m >>= (λ cs. Ok (c ∷ cs))) q
         ∙ onwards (eqb (first_bad t (o + 1) n (drop cell_bytes bs)) 0) c _ _
 
 -- ---- the loop, in remaining form
 
 module _ (s : List ℕ) (at t n i : ℕ) (h : i < n) where
   bad-turn : first_bad t (i + 1) (n - i) (drop (at + i * cell_bytes) s)
-      ≡ (if is? (cell_of t (take cell_bytes (drop (at + i * cell_bytes) s))) then first_bad t (i + 1 + 1) (n - (i + 1)) (drop (at + (i + 1) * cell_bytes) s) else i + 1)
+      ≡ (if is_some (cell_of t (take cell_bytes (drop (at + i * cell_bytes) s))) then first_bad t (i + 1 + 1) (n - (i + 1)) (drop (at + (i + 1) * cell_bytes) s) else i + 1)
   unfolding first_bad
   bad-turn =
       let e : n - i ≡ suc (n - (i + 1)) = omega arith in
       let f : at + (i + 1) * cell_bytes ≡ at + i * cell_bytes + cell_bytes = omega arith in
       rw (e, f, ← drop-drop cell_bytes (at + i * cell_bytes) s)
 
-  pub bad_more : is? (cell_of t (take cell_bytes (drop (at + i * cell_bytes) s))) ≡ true
+  pub bad_more : is_some (cell_of t (take cell_bytes (drop (at + i * cell_bytes) s))) ≡ true
       → first_bad t (i + 1 + 1) (n - (i + 1)) (drop (at + (i + 1) * cell_bytes) s) ≡ first_bad t (i + 1) (n - i) (drop (at + i * cell_bytes) s)
   bad_more e = sym (bad-turn ∙ rw e)
 
-  pub bad-here : is? (cell_of t (take cell_bytes (drop (at + i * cell_bytes) s))) ≡ false
+  pub bad-here : is_some (cell_of t (take cell_bytes (drop (at + i * cell_bytes) s))) ≡ false
       → i + 1 ≡ first_bad t (i + 1) (n - i) (drop (at + i * cell_bytes) s)
   bad-here e = sym (bad-turn ∙ rw e)
 
@@ -107,11 +101,11 @@ judged-first true x o p z = (refl, z)
 judged-first false x o p z = absurd (omega arith)
 
 pub cell-is : (n t o i : ℕ) (bs : List ℕ) → 0 < o → first_bad t o n bs ≡ 0 → i < n
-    → is? (cell_of t (take cell_bytes (drop (i * cell_bytes) bs))) ≡ true
+    → is_some (cell_of t (take cell_bytes (drop (i * cell_bytes) bs))) ≡ true
 unfolding first_bad
 cell-is zero t o i bs p z h = absurd (omega arith)
-cell-is (suc n) t o zero bs p z h = (judged-first (is? (cell_of t (take cell_bytes bs))) _ o p z).0
+cell-is (suc n) t o zero bs p z h = (judged-first (is_some (cell_of t (take cell_bytes bs))) _ o p z).0
 cell-is (suc n) t o (suc i) bs p z h =
     let e : suc i * cell_bytes ≡ cell_bytes + i * cell_bytes = omega arith in
-    ap (λ (j : ℕ). is? (cell_of t (take cell_bytes (drop j bs)))) e ∙ sym (ap (λ (l : List ℕ). is? (cell_of t (take cell_bytes l))) (drop-drop (i * cell_bytes) cell_bytes bs))
-    ∙ cell-is n t (o + 1) i (drop cell_bytes bs) (omega arith) (judged-first (is? (cell_of t (take cell_bytes bs))) _ o p z).1 (omega arith)
+    ap (λ (j : ℕ). is_some (cell_of t (take cell_bytes (drop j bs)))) e ∙ sym (ap (λ (l : List ℕ). is_some (cell_of t (take cell_bytes l))) (drop-drop (i * cell_bytes) cell_bytes bs))
+    ∙ cell-is n t (o + 1) i (drop cell_bytes bs) (omega arith) (judged-first (is_some (cell_of t (take cell_bytes bs))) _ o p z).1 (omega arith)

@@ -1,6 +1,6 @@
 -- What an operator gives is a cell of its result's type: a number that fits, a finite FLOAT, a truth value, or nothing. So it can be
 -- written, and read back as the same cell.
-use Rattle.std.specs.Prelude.{ℕ, ◌≡◌, refl, Bool, true, false, ◌&&◌, T, ℤ, pos, if◌then◌else◌}
+use Rattle.std.specs.Prelude.{ℕ, ◌≡◌, refl, Bool, true, false, ◌&&◌, T, ℤ, pos, if◌then◌else◌, Ok, Err}
 use Rattle.std.proofs.Common.{sym, subst, arith}
 use Rattle.std.specs.Int.Signed.{le_z}
 use Rattle.std.specs.Float.Ieee as Ieee
@@ -8,21 +8,19 @@ use Rattle.std.specs.Float.{binary64, nan, inf, fin}
 use Rattle.std.specs.Int.{w64}
 use Rattle.paper.specs.Limits.{INT, FLOAT, BOOLEAN, smallest_int, largest_int}
 use Rattle.paper.specs.Cells.{finite}
-use Rattle.paper.specs.Operators.{two, worked, compared, fit_int, fit_float, int_by, eq_z, abs_float, signed}
+use Rattle.paper.specs.Operators.{two, worked, compared, fit_int, fit_float, int_by, eq_z, abs_float, signed, Answer}
 use Rattle.paper.specs.declared.Cell.{Cell}
 use Rattle.paper.specs.declared.Cell.TheVariants.{Empty, Int, Float, Truth}
 use Rattle.paper.specs.declared.Two.{Two}
 use Rattle.paper.specs.declared.Two.TheVariants.{Ints, Floats, Truths, OneEmpty, Unlike}
-use Rattle.paper.specs.declared.Answer.{Answer}
-use Rattle.paper.specs.declared.Answer.TheVariants.{Is, Refused}
 use Rattle.laws.specs.Tests.{and_left, and_right}
 use Rattle.laws.specs.Parts.{one-part, le_yes, parts-fit}
 use Rattle.laws.specs.Cells.{OfKind}
 
 -- a cell of the type, or a refusal
 abbrev pub Fine : ℕ → Answer → Type 0
-Fine kind (Is c) = OfKind kind c
-Fine kind (Refused n) = Unit {0}
+Fine kind (Ok c) = OfKind kind c
+Fine kind (Err n) = Unit {0}
 
 pub by : (kind : ℕ) (b : Bool) (x y : Answer) → (b ≡ true → Fine kind x) → Fine kind y → Fine kind (if b then x else y)
 by kind true x y f g = f refl
@@ -33,13 +31,13 @@ by kind false x y f g = g
 pub fine-int : (z : ℤ) → Fine INT (fit_int z)
 unfolding fit_int OfKind
 fine-int z =
-    by INT (le_z smallest_int z && le_z z largest_int) (Is (Int z)) _
+    by INT (le_z smallest_int z && le_z z largest_int) (Ok (Int z)) _
     (λ e. (refl, parts-fit w64 z (omega (arith, one-part z, le_yes smallest_int z (and_left (le_z smallest_int z) (le_z z largest_int) e), le_yes z largest_int (and_right (le_z smallest_int z) (le_z z largest_int) e)))))
     tt
 
 pub fine-float : (x : Ieee.Float) → T (Ieee.fits binary64 x) → Fine FLOAT (fit_float x)
 unfolding fit_float OfKind
-fine-float x h = by FLOAT (finite x) (Is (Float x)) _ (λ e. (refl, (h, subst T (sym e) tt))) tt
+fine-float x h = by FLOAT (finite x) (Ok (Float x)) _ (λ e. (refl, (h, subst T (sym e) tt))) tt
 
 pub fine-by : (f : ℤ → ℤ → ℤ) (x y : ℤ) → Fine INT (int_by f x y)
 unfolding int_by

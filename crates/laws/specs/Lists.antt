@@ -1,11 +1,11 @@
 -- Lists: numbers in a row, lists joined, what stands at an index, and what a loop stores one after the other.
-use Rattle.std.specs.Prelude.{ℕ, zero, suc, ◌+◌, ◌-◌, ◌≤◌, ◌<◌, ◌≡◌, refl, Bool, true, false, List, [], ◌∷◌, ◌++◌, map, eqb, length, get_or, take, set}
+use Rattle.std.specs.Prelude.{ℕ, zero, suc, ◌+◌, ◌-◌, ◌≤◌, ◌<◌, ◌≡◌, refl, Bool, true, false, List, [], ◌∷◌, ◌++◌, map, eqb, length, get_or, take, set, None, Some, Ok, Err}
+use Rattle.std.specs.Option.{option_map}
 use Rattle.std.proofs.Common.{sym, ap, subst, ◌∙◌, append_assoc, add-zero, zero-add, arith, eqb-true, get_or-take, get_or-set_same, get_or-set_other, length-take-le}
 use Rattle.std.proofs.Math.Option
-use Rattle.std.proofs.Math.Option.{none, some}
 use Rattle.std.proofs.lemmas.Bool.{eqb-false}
 use Rattle.std.proofs.lemmas.List.{length-map}
-use Rattle.paper.specs.Refusals.{Res, got, refused, ◌>>=◌}
+use Rattle.paper.specs.Refusals.{Res, ◌>>=◌}
 use Rattle.paper.specs.Numbers.{nth, concat, from}
 
 pub from-split : (k m n : ℕ) → from k (m + n) ≡ from k m ++ from (k + m) n
@@ -40,29 +40,29 @@ get_or-mapped f (a ∷ l) zero d e h = refl
 get_or-mapped f (a ∷ l) (suc i) d e h = get_or-mapped f l i d e (omega arith)
 
 -- past the end of a list there is nothing; from 1 to its end there is the element before that index
-pub nth_past : {A : Type 0} (l : List A) (k : ℕ) → length l < k → nth l k ≡ none
+pub nth_past : {A : Type 0} (l : List A) (k : ℕ) → length l < k → nth l k ≡ None
 nth_past l zero h = refl
 nth_past [] (suc k) h = refl
 nth_past (a ∷ l) (suc zero) h = absurd (omega arith)
 nth_past (a ∷ l) (suc (suc k)) h = nth_past l (suc k) (omega arith)
 
-pub nth-some : {A : Type 0} (l : List A) (k : ℕ) (d : A) → 1 ≤ k → k ≤ length l → nth l k ≡ some (get_or l (k - 1) d)
+pub nth-some : {A : Type 0} (l : List A) (k : ℕ) (d : A) → 1 ≤ k → k ≤ length l → nth l k ≡ Some (get_or l (k - 1) d)
 nth-some l zero d h b = absurd (omega arith)
 nth-some [] (suc k) d h b = absurd (omega arith)
 nth-some (a ∷ l) (suc zero) d h b = refl
 nth-some (a ∷ l) (suc (suc k)) d h b =
     let e : suc k - 1 ≡ k = omega arith in
     let g : suc (suc k) - 1 ≡ suc k = omega arith in
-    rw g (nth-some l (suc k) d (omega arith) (omega arith) ∙ ap (λ (j : ℕ). some (get_or l j d)) e)
+    rw g (nth-some l (suc k) d (omega arith) (omega arith) ∙ ap (λ (j : ℕ). Some (get_or l j d)) e)
 
-pub nth-mapped : {A C : Type 0} (f : A → C) (l : List A) (n : ℕ) → nth (map f l) n ≡ Option.map f (nth l n)
+pub nth-mapped : {A C : Type 0} (f : A → C) (l : List A) (n : ℕ) → nth (map f l) n ≡ option_map f (nth l n)
 nth-mapped f l zero = refl
 nth-mapped f [] (suc n) = refl
 nth-mapped f (a ∷ l) (suc zero) = refl
 nth-mapped f (a ∷ l) (suc (suc n)) = nth-mapped f l (suc n)
 
 -- one more: it stands past those before, and they stay
-pub nth_last : {A : Type 0} (l : List A) (x : A) → nth (l ++ (x ∷ [])) (suc (length l)) ≡ some x
+pub nth_last : {A : Type 0} (l : List A) (x : A) → nth (l ++ (x ∷ [])) (suc (length l)) ≡ Some x
 nth_last [] x = refl
 nth_last (a ∷ l) x = nth_last l x
 
@@ -75,11 +75,11 @@ nth-others (a ∷ l) x (suc (suc n)) h = nth-others l x (suc n) (λ e. h (ap suc
 
 -- the kth of the first n of a list, made into something else
 pub nth-first : {A B : Type 0} (f : A → B) (l : List A) (d : A) (n k : ℕ) → 1 ≤ k → k ≤ n → n ≤ length l
-    → nth (map f (take n l)) k ≡ some (f (get_or l (k - 1) d))
+    → nth (map f (take n l)) k ≡ Some (f (get_or l (k - 1) d))
 nth-first f l d n k a b h =
     let c : length (take n l) ≡ n = length-take-le n l h in
     nth-some (map f (take n l)) k (f d) a (omega (arith, length-map (take n l) f))
-    ∙ ap some (get_or-mapped f (take n l) (k - 1) d (f d) (omega arith) ∙ ap f (get_or-take n l (k - 1) d (omega arith)))
+    ∙ ap Some (get_or-mapped f (take n l) (k - 1) d (f d) (omega arith) ∙ ap f (get_or-take n l (k - 1) d (omega arith)))
 
 -- ---- two lists, element by element
 
@@ -113,19 +113,19 @@ get_or-zipped f (x ∷ xs) (y ∷ ys) (suc j) a c d h e = get_or-zipped f xs ys 
 
 -- what was done, in front of what is still to do
 unfoldable pub in_front_of : {A : Type 0} → List A → Res (List A) → Res (List A)
-in_front_of done (got l) = got (done ++ l)
-in_front_of done (refused r) = refused r
+in_front_of done (Ok l) = Ok (done ++ l)
+in_front_of done (Err r) = Err r
 
 pub front-none : {A : Type 0} (m : Res (List A)) → in_front_of [] m ≡ m
 unfolding in_front_of
-front-none (got l) = refl
-front-none (refused r) = refl
+front-none (Ok l) = refl
+front-none (Err r) = refl
 
 pub front-more : {A : Type 0} (done : List A) (a : A) (m : Res (List A))
-    → in_front_of done (m >>= (λ l. got (a ∷ l))) ≡ in_front_of (done ++ (a ∷ [])) m
+    → in_front_of done (m >>= (λ l. Ok (a ∷ l))) ≡ in_front_of (done ++ (a ∷ [])) m
 unfolding in_front_of
-front-more done a (got l) = ap got (sym (append_assoc done (a ∷ []) l))
-front-more done a (refused r) = refl
+front-more done a (Ok l) = ap Ok (sym (append_assoc done (a ∷ []) l))
+front-more done a (Err r) = refl
 
 less : (j i : ℕ) → j < i + 1 → (j ≡ i → ⊥) → j < i
 less j i h n = omega arith

@@ -1,11 +1,10 @@
 -- A step that was planned passed its tests: what each test says of it, over the bundle's arrays and the results of earlier steps.
-use Rattle.std.specs.Prelude.{ℕ, zero, suc, ◌+◌, ◌/◌, ◌%◌, ◌≤◌, ◌<◌, ◌≡◌, refl, true, ◌&&◌, List, [], ◌∷◌, ◌++◌, map, eqb, leb, length, get_or, take, drop, if◌then◌else◌}
+use Rattle.std.specs.Prelude.{ℕ, zero, suc, ◌+◌, ◌/◌, ◌%◌, ◌≤◌, ◌<◌, ◌≡◌, refl, true, ◌&&◌, List, [], ◌∷◌, ◌++◌, map, eqb, leb, length, get_or, take, drop, if◌then◌else◌, Option, Some, Ok}
 use Rattle.std.proofs.Common.{sym, ap, subst, append_assoc, append-nil, arith, leb-true}
-use Rattle.std.proofs.Math.Option.{Option, some}
 use Rattle.paper.specs.declared.Sizes.{Sizes}
 use Rattle.paper.specs.declared.Operation.{Operation}
 use Rattle.paper.specs.Limits.{head_bytes, most_steps}
-use Rattle.paper.specs.Refusals.{Res, got, ◌>>◌, refusal, present, between, unknown4, bad_axis5, outside6, unfit7, bad_result9}
+use Rattle.paper.specs.Refusals.{Res, ◌>>◌, refusal, present, between, unknown4, bad_axis5, outside6, unfit7, bad_result9}
 use Rattle.paper.specs.Axes.{Shape}
 use Rattle.paper.specs.Recipe.{Step, Planned, operation, step_of, operand, no_shape, uses, unused_zero, axis_in, types_fit, agree, fits_in, result_of, good_result, step_tests, step_result, step_over, plan_step, plan_steps, plan_recipe}
 use Rattle.laws.specs.Agreeing.{Agree, same-got}
@@ -19,8 +18,8 @@ pub record Tested (z : Sizes) (s : Step) (A B : Shape) : Type 0 where
   pub agrees : Agree s.operation s.axis A.names A.axes B.names B.axes
   pub fits : fits_in s.operation s A B ≡ true
 
-pub tests-passed : {C : Type 0} (z : Sizes) (k : ℕ) (s : Step) (A B : Shape) (m : Res C) (c : C) → (step_tests z k s A B >> m) ≡ got c
-    → Tested z s A B × (m ≡ got c)
+pub tests-passed : {C : Type 0} (z : Sizes) (k : ℕ) (s : Step) (A B : Shape) (m : Res C) (c : C) → (step_tests z k s A B >> m) ≡ Ok c
+    → Tested z s A B × (m ≡ Ok c)
 unfolding step_tests
 tests-passed z k s A B m c e =
     let op = s.operation in
@@ -34,19 +33,19 @@ tests-passed z k s A B m c e =
 
 -- operand B, where a step uses one
 abbrev pub operand_b : List Shape → List Shape → Step → Option Shape
-operand_b arrays earlier s = if (uses s.operation).b then operand arrays earlier s.b else some no_shape
+operand_b arrays earlier s = if (uses s.operation).b then operand arrays earlier s.b else Some no_shape
 
 -- a step with its operands
 pub record Passed (z : Sizes) (arrays earlier : List Shape) (p : Planned) : Type 0 where
   pub first : Shape
   pub second : Shape
-  pub is-first : operand arrays earlier p.step.a ≡ some first
-  pub is-second : operand_b arrays earlier p.step ≡ some second
+  pub is-first : operand arrays earlier p.step.a ≡ Some first
+  pub is-second : operand_b arrays earlier p.step ≡ Some second
   pub tested : Tested z p.step first second
   pub shape : p.shape ≡ result_of z.name p.step first second
   pub good : good_result p.shape.names p.shape.axes ≡ true
 
-plan-passed : (z : Sizes) (k : ℕ) (arrays earlier : List Shape) (bs : List ℕ) (p : Planned) → plan_step z k arrays earlier bs ≡ got p
+plan-passed : (z : Sizes) (k : ℕ) (arrays earlier : List Shape) (bs : List ℕ) (p : Planned) → plan_step z k arrays earlier bs ≡ Ok p
     → Passed z arrays earlier p
 unfolding plan_step step_over step_result
 plan-passed z k arrays earlier bs p e =
@@ -58,7 +57,7 @@ plan-passed z k arrays earlier bs p e =
     let B : Shape = b.0 in
     let t = tests-passed z k s A B _ p b.2 in
     let r = ensure-got (good_result (result_of z.name s A B).names (result_of z.name s A B).axes) bad_result9 k
-    (got (record { step = s; shape = result_of z.name s A B })) p t.1 in
+    (Ok (record { step = s; shape = result_of z.name s A B })) p t.1 in
     subst (Passed z arrays earlier) (got-one (record { step = s; shape = result_of z.name s A B }) p r.1)
     (record {
       first = A;
@@ -74,7 +73,7 @@ abbrev shapes_of : List Planned → List Shape
 shapes_of ps = map (λ (p : Planned). p.shape) ps
 
 steps-passed : (z : Sizes) (n k : ℕ) (arrays earlier : List Shape) (bs : List ℕ) (ps : List Planned)
-    → plan_steps z k n arrays earlier bs ≡ got ps
+    → plan_steps z k n arrays earlier bs ≡ Ok ps
     → (length ps ≡ n) × ((j : ℕ) (d : Planned) → j < length ps → Passed z arrays (earlier ++ shapes_of (take j ps)) (get_or ps j d))
 unfolding plan_steps
 steps-passed z zero k arrays earlier bs ps e =
@@ -90,7 +89,7 @@ steps-passed z (suc n) k arrays earlier bs ps e =
     (got-one (a.0 ∷ b.0) ps b.2)
     (ap suc r.0, each a.0 b.0 a.1 r.1)
   where
-    each : (p : Planned) (l : List Planned) → plan_step z k arrays earlier (take z.step bs) ≡ got p
+    each : (p : Planned) (l : List Planned) → plan_step z k arrays earlier (take z.step bs) ≡ Ok p
         → ((j : ℕ) (d : Planned) → j < length l → Passed z arrays ((earlier ++ (p.shape ∷ [])) ++ shapes_of (take j l)) (get_or l j d))
         → (j : ℕ) (d : Planned) → j < suc (length l) → Passed z arrays (earlier ++ shapes_of (take j (p ∷ l))) (get_or (p ∷ l) j d)
     each p l q f zero d h = subst (λ (m : List Shape). Passed z arrays m p) (sym (append-nil earlier))
@@ -99,7 +98,7 @@ steps-passed z (suc n) k arrays earlier bs ps e =
         (append_assoc earlier (p.shape ∷ []) (shapes_of (take j l))) (f j d (omega arith))
 
 -- each step of a recipe planned
-pub recipe-passed : (z : Sizes) (arrays : List Shape) (bs : List ℕ) (ps : List Planned) → plan_recipe z arrays bs ≡ got ps
+pub recipe-passed : (z : Sizes) (arrays : List Shape) (bs : List ℕ) (ps : List Planned) → plan_recipe z arrays bs ≡ Ok ps
     → (1 ≤ length ps) × ((j : ℕ) (d : Planned) → j < length ps
     → Passed z arrays (map (λ (p : Planned). p.shape) (take j ps)) (get_or ps j d))
 unfolding plan_recipe

@@ -1,14 +1,13 @@
 -- Cells keep their type through every step: where the operands' cells are of their types, and the types passed test 7, each cell of
 -- the result is of the result's type, which is a type.
-use Rattle.std.specs.Prelude.{ℕ, ◌-◌, ◌≡◌, refl, Bool, true, false, List, eqb, leb, get_or, if◌then◌else◌}
+use Rattle.std.specs.Prelude.{ℕ, ◌-◌, ◌≡◌, refl, Bool, true, false, List, eqb, leb, get_or, if◌then◌else◌, Ok}
 use Rattle.std.proofs.Common.{sym, subst, eqb-true}
 use Rattle.paper.specs.Limits.{BOOLEAN}
 use Rattle.paper.specs.Axes.{Array, inside, ordinality, at}
 use Rattle.paper.specs.Cells.{is_type}
-use Rattle.paper.specs.Operators.{pair_no, single_no, gives, gives_one}
+use Rattle.paper.specs.Operators.{Answer, pair_no, single_no, gives, gives_one}
 use Rattle.paper.specs.Recipe.{Step, result_type}
 use Rattle.paper.specs.Values.{Whence, taken}
-use Rattle.paper.specs.declared.Answer.TheVariants.{Is}
 use Rattle.paper.specs.declared.Cell.{Cell}
 use Rattle.paper.specs.declared.Cell.TheVariants.{Empty}
 use Rattle.paper.specs.declared.Operation.{Operation}
@@ -38,7 +37,7 @@ at-kept A p k = one_of A.shape.type (inside A.shape.axes p) _ Empty (k (ordinali
 
 -- ---- a step's cell
 
-pub is_one : (c d : Cell) → Is c ≡ Is d → c ≡ d
+pub is_one : (c d : Cell) → ◌≡◌ {A = Answer} (Ok c) (Ok d) → c ≡ d
 is_one c d e = cc
 
 -- where cells are moved: A's, B's, which has A's type, or an empty one

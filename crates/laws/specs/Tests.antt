@@ -1,10 +1,9 @@
 -- Tests: truth values joined, and what it says of a `do` block's lines that the whole was accepted or refused, each test in turn. Laws
 -- take an accepted block apart, put one together, and follow a refusal.
-use Rattle.std.specs.Prelude.{◌≡◌, refl, Bool, true, false, ◌&&◌, ◌⊎◌, ℕ, ◌≤◌, leb}
+use Rattle.std.specs.Prelude.{◌≡◌, refl, Bool, true, false, ◌&&◌, ◌⊎◌, ℕ, ◌≤◌, leb, Option, None, Some, Ok, Err}
 use Rattle.std.proofs.Common.{ap, inl, inr, arith, leb-true}
-use Rattle.std.proofs.Math.Option.{Option, none, some}
 use Rattle.paper.specs.declared.Refusal.{Refusal}
-use Rattle.paper.specs.Refusals.{Res, got, refused, ◌>>=◌, ◌>>◌, ensure, present, between}
+use Rattle.paper.specs.Refusals.{Res, ◌>>=◌, ◌>>◌, ensure, present, between}
 
 -- ---- a test made of two parts
 
@@ -54,50 +53,50 @@ between-true n k e = (leb-true 1 k (and_left (leb 1 k) (leb k n) e), leb-true k 
 
 -- ---- what is there, and what isn't
 
-pub some_one : {A : Type 0} (x y : A) → some x ≡ some y → x ≡ y
+pub some_one : {A : Type 0} (x y : A) → Some x ≡ Some y → x ≡ y
 some_one x y e = cc
 
-pub no_none : {A : Type 0} (x : A) → none ≡ some x → ⊥
+pub no_none : {A : Type 0} (x : A) → None ≡ Some x → ⊥
 no_none x e = let z : ◌≡◌ {A = ℕ} 0 1 = cc in omega arith
 
 -- ---- what an accepted test was
 
-pub no-refusal : {A : Type 0} (r : Refusal) (a : A) → refused r ≡ got a → ⊥
+pub no-refusal : {A : Type 0} (r : Refusal) (a : A) → Err r ≡ Ok a → ⊥
 no-refusal r a e = let z : ◌≡◌ {A = ℕ} 0 1 = cc in omega arith
 
-pub got-one : {A : Type 0} (a b : A) → got a ≡ got b → a ≡ b
+pub got-one : {A : Type 0} (a b : A) → ◌≡◌ {A = Res A} (Ok a) (Ok b) → a ≡ b
 got-one a b e = cc
 
-pub bind-got : {A B : Type 0} (m : Res A) (f : A → Res B) (b : B) → (m >>= f) ≡ got b → (a : A) × (m ≡ got a) × (f a ≡ got b)
-bind-got (got a) f b e = (a, refl, e)
-bind-got (refused r) f b e = absurd (no-refusal r b e)
+pub bind-got : {A B : Type 0} (m : Res A) (f : A → Res B) (b : B) → (m >>= f) ≡ Ok b → (a : A) × (m ≡ Ok a) × (f a ≡ Ok b)
+bind-got (Ok a) f b e = (a, refl, e)
+bind-got (Err r) f b e = absurd (no-refusal r b e)
 
-pub ensure-got : {B : Type 0} (t : Bool) (n k : ℕ) (m : Res B) (b : B) → (ensure t n k >> m) ≡ got b → (t ≡ true) × (m ≡ got b)
+pub ensure-got : {B : Type 0} (t : Bool) (n k : ℕ) (m : Res B) (b : B) → (ensure t n k >> m) ≡ Ok b → (t ≡ true) × (m ≡ Ok b)
 ensure-got true n k m b e = (refl, e)
 ensure-got false n k m b e = absurd (no-refusal _ b e)
 
-pub ensured : (t : Bool) (n k : ℕ) → ensure t n k ≡ got tt → t ≡ true
+pub ensured : (t : Bool) (n k : ℕ) → ensure t n k ≡ Ok tt → t ≡ true
 ensured true n k e = refl
 ensured false n k e = absurd (no-refusal _ tt e)
 
-pub present-got : {A : Type 0} (o : Option A) (r : Refusal) (a : A) → present o r ≡ got a → o ≡ some a
-present-got (some x) r a e = ap some (got-one x a e)
-present-got none r a e = absurd (no-refusal r a e)
+pub present-got : {A : Type 0} (o : Option A) (r : Refusal) (a : A) → present o r ≡ Ok a → o ≡ Some a
+present-got (Some x) r a e = ap Some (got-one x a e)
+present-got None r a e = absurd (no-refusal r a e)
 
 -- ---- tests that hold
 
 pub ensure-yes : {B : Type 0} (t : Bool) (n k : ℕ) (m : Res B) → t ≡ true → (ensure t n k >> m) ≡ m
 ensure-yes t n k m e = rw e
 
-pub bind-yes : {A B : Type 0} (m : Res A) (f : A → Res B) (a : A) → m ≡ got a → (m >>= f) ≡ f a
+pub bind-yes : {A B : Type 0} (m : Res A) (f : A → Res B) (a : A) → m ≡ Ok a → (m >>= f) ≡ f a
 bind-yes m f a e = rw e
 
 -- ---- what a refusal was
 
-pub none-refused : {A : Type 0} (a : A) (r : Refusal) → got a ≡ refused r → ⊥
+pub none-refused : {A : Type 0} (a : A) (r : Refusal) → Ok a ≡ Err r → ⊥
 none-refused a r e = let z : ◌≡◌ {A = ℕ} 0 1 = cc in omega arith
 
-pub bind-refused : {A B : Type 0} (m : Res A) (f : A → Res B) (r : Refusal) → (m >>= f) ≡ refused r
-    → (m ≡ refused r) ⊎ ((a : A) × (f a ≡ refused r))
-bind-refused (got a) f r e = inr (a, e)
-bind-refused (refused x) f r e = inl (ap refused (let q : x ≡ r = cc in q))
+pub bind-refused : {A B : Type 0} (m : Res A) (f : A → Res B) (r : Refusal) → (m >>= f) ≡ Err r
+    → (m ≡ Err r) ⊎ ((a : A) × (f a ≡ Err r))
+bind-refused (Ok a) f r e = inr (a, e)
+bind-refused (Err x) f r e = inl (ap Err (let q : x ≡ r = cc in q))

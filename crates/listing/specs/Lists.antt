@@ -1,7 +1,7 @@
 -- A page row after row: the rows of the TRUE cells met so far stand in the buffer, and with those that are still to be met there are as
 -- many as there is room for. The loop ends with the buffer full or the cells used up, and in both cases goes on where it stands.
 use Prim.Native.Nat.{ℕ, suc, ◌+◌, ◌-◌, ◌*◌, ◌/◌, ◌≤◌, ◌<◌}
-use Rattle.std.specs.Prelude.{◌≡◌, Bool, drop, get_or, if◌then◌else◌}
+use Rattle.std.specs.Prelude.{◌≡◌, Bool, drop, get_or, if◌then◌else◌, Ok}
 use Rattle.std.proofs.Math.Path.{refl, sym, ap, ap₂}
 use Rattle.std.proofs.Common.{◌∙◌, suc-mul, mul-le-mul_right, div-mul-le_self, le-div_iff_mul-le, add-one, length-append, drop_of_length-le, take_at, drop_at, take_all, drop-cons, drop-drop}
 use Rattle.std.proofs.Math.Bool.{true, false}
@@ -16,7 +16,6 @@ use Rattle.paper.specs.declared.Cell.{Cell}
 use Rattle.paper.specs.declared.Cell.TheVariants.{Empty}
 use Rattle.paper.specs.declared.Listed.{Listed}
 use Rattle.paper.specs.Limits.{BOOLEAN, limit_bytes, cell_bytes}
-use Rattle.paper.specs.Refusals.{got}
 use Rattle.paper.specs.Numbers.{part, le_bytes, position_bytes, last_of, concat, over}
 use Rattle.paper.specs.Axes.{cells, coordinate, Shape, Array}
 use Rattle.paper.specs.Cells.{cell_of, is_true, trues}
@@ -39,7 +38,7 @@ pub record Listable (E : List Axis) (at n start : ℕ) (work rows : List ℕ) : 
 -- the page of any array with these axes whose cells are those bytes' cells
 pub record ListedAs (work : List ℕ) (at : ℕ) (E : List Axis) (start : ℕ) (rows : List ℕ) (r : Listed) (after : List ℕ) : Type 0 where
   pub page : (A : Array) (w : List ℕ) → A.shape.axes ≡ E → A.cells ≡ cells_from BOOLEAN (cells E) (drop at work)
-      → page_of A start rows w ≡ record { answer = got r; work = w; rows = after }
+      → page_of A start rows w ≡ record { answer = Ok r; work = w; rows = after }
 
 -- ---- the next cell
 
@@ -224,7 +223,7 @@ row-axes s t e = ap {B = ℕ → List ℕ} (λ (E : List Axis) (o : ℕ). le_byt
 
 -- an answer, by its parts
 abbrev paged_as : ℕ → ℕ → List ℕ → List ℕ → Paged
-paged_as w o u d = record { answer = got (record { written = w; next = record { 0 = o } }); work = u; rows = d }
+paged_as w o u d = record { answer = Ok (record { written = w; next = record { 0 = o } }); work = u; rows = d }
 
 module _ (work : List ℕ) (at n start : ℕ) (E : List Axis) (d₀ : List ℕ) {d : List ℕ} {room k w : ℕ} (h : n ≡ cells E) (b : 1 ≤ start)
     (g : room ≡ length d₀ / row_bytes (nameless E)) (v : Listing work at n E (start - 1) room d₀ d k w) (z : Ended n room k w) where

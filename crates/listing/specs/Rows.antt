@@ -1,9 +1,8 @@
 -- A row put into the row buffer: its ordinality, then a coordinate's positions one after the other. And a cell's nine bytes, as TRUE.
-use Rattle.std.specs.Prelude.{ℕ, ◌+◌, ◌*◌, ◌≤◌, ◌<◌, ◌≡◌, Bool, true, false, ◌&&◌, eqb, leb, take, drop, get_or, if◌then◌else◌}
+use Rattle.std.specs.Prelude.{ℕ, ◌+◌, ◌*◌, ◌≤◌, ◌<◌, ◌≡◌, Bool, true, false, ◌&&◌, eqb, leb, take, drop, get_or, if◌then◌else◌, None, Some}
 use Rattle.std.proofs.Math.Path.{refl, ap, ap₂}
 use Rattle.std.proofs.Common.{sym, ◌∙◌, ne_eqb, leb-false, take_at, drop_at, take_all, of_z}
 use mathlib.Core.List.{List, [], ◌∷◌, ◌++◌, map, append_assoc}
-use Rattle.std.proofs.Math.Option.{none, some}
 use native.Mathlib.Omega.{arith}
 use Rattle.std.proofs.Math.ListN.{length, length-append}
 use Rattle.std.proofs.Math.Seq.{paste, paste-zero}
@@ -28,7 +27,7 @@ no-mark : (mark n : ℕ) → (mark ≡ 1 → ⊥) → false ≡ is_true (or_empt
 unfolding cell_from is_truth
 no-mark mark n h = rw (ne_eqb mark 1 h) (by (eqb mark 0 && eqb n 0))
   where
-    by : (b : Bool) → false ≡ is_true (or_empty (if b then some Empty else none))
+    by : (b : Bool) → false ≡ is_true (or_empty (if b then Some Empty else None))
     by true = refl
     by false = refl
 
@@ -41,7 +40,7 @@ by_number n = by (leb n 1) refl
     truth true = refl
     truth false = refl
 
-    by : (b : Bool) → leb n 1 ≡ b → eqb n 1 ≡ is_true (or_empty (if b then some (Truth (eqb n 1)) else none))
+    by : (b : Bool) → leb n 1 ≡ b → eqb n 1 ≡ is_true (or_empty (if b then Some (Truth (eqb n 1)) else None))
     by true e = truth (eqb n 1)
     by false e = let l = leb-false n 1 e in ne_eqb n 1 (omega arith)
 

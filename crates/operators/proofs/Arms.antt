@@ -1,4 +1,5 @@
 -- What the paper says of two cells: in the arm of a `match both(a, b)`, and with the two cells exchanged. Assumes nothing.
+use Rattle.std.specs.Prelude.{Ok}
 use mathlib.Core.Bool.{Bool}
 use mathlib.Core.List.{[], ◌∷◌}
 use mathlib.Core.Path.{◌≡◌, refl, sym, ap, ap₂, ◌∙◌}
@@ -9,13 +10,11 @@ use mir.Val.{SFits, to_z, of_z}
 use mir.Facts.{to_z-of_z}
 use denote.Enum.Declared.{tag_of}
 use types.Run.{OneOf, miss}
-use Rattle.paper.specs.Operators.{two, worked, compared, signed, applied, pair_cell}
+use Rattle.paper.specs.Operators.{two, worked, compared, signed, applied, pair_cell, Answer}
 use Rattle.paper.specs.declared.Cell.{Cell}
 use Rattle.paper.specs.declared.Cell.TheVariants.{Empty, Int, Float, Truth}
 use Rattle.paper.specs.declared.Two.{Two}
 use Rattle.paper.specs.declared.Two.TheVariants.{Ints, Floats, Truths, OneEmpty, Unlike}
-use Rattle.paper.specs.declared.Answer.{Answer}
-use Rattle.paper.specs.declared.Answer.TheVariants.{Is}
 use Rattle.paper.specs.contracts.Cell as Cell'
 use Rattle.paper.specs.contracts.Two as Two'
 use Rattle.paper.specs.declared.PairOp.{PairOp}
@@ -33,7 +32,7 @@ ints-arm o a b e h g f k = g ∙ ap₂ (λ (x y : ℤ). applied o (Ints x y) a b
 -- the last arm, of all kinds of two cells that no arm before it has
 module _ (f : ℤ → ℤ → Answer) where
   pub worked-last : (g : Ieee.Float → Ieee.Float → Answer) (t : Two) → OneOf (2 ∷ 3 ∷ 4 ∷ []) (tag_of Two'.the_type t)
-      → Is Empty ≡ worked f g t
+      → Ok Empty ≡ worked f g t
   unfolding worked
   worked-last g (Ints x y) k = absurd (miss (2 ∷ 3 ∷ 4 ∷ []) 0 tt k)
   worked-last g (Floats x y) k = absurd (miss (2 ∷ 3 ∷ 4 ∷ []) 1 tt k)
@@ -41,7 +40,7 @@ module _ (f : ℤ → ℤ → Answer) where
   worked-last g OneEmpty k = refl
   worked-last g Unlike k = refl
 
-  pub modulo-last : (t : Two) → OneOf (1 ∷ 2 ∷ 3 ∷ 4 ∷ []) (tag_of Two'.the_type t) → Is Empty ≡ worked f (λ x y. Is Empty) t
+  pub modulo-last : (t : Two) → OneOf (1 ∷ 2 ∷ 3 ∷ 4 ∷ []) (tag_of Two'.the_type t) → Ok Empty ≡ worked f (λ x y. Ok Empty) t
   unfolding worked
   modulo-last (Ints x y) k = absurd (miss (1 ∷ 2 ∷ 3 ∷ 4 ∷ []) 0 tt k)
   modulo-last (Floats x y) k = refl
@@ -50,7 +49,7 @@ module _ (f : ℤ → ℤ → Answer) where
   modulo-last Unlike k = refl
 
 pub compared-last : (f : ℤ → ℤ → Bool) (g : Ieee.Float → Ieee.Float → Bool) (h : Bool → Bool → Bool) (t : Two)
-    → OneOf (3 ∷ 4 ∷ []) (tag_of Two'.the_type t) → Is Empty ≡ compared f g h t
+    → OneOf (3 ∷ 4 ∷ []) (tag_of Two'.the_type t) → Ok Empty ≡ compared f g h t
 unfolding compared
 compared-last f g h (Ints x y) k = absurd (miss (3 ∷ 4 ∷ []) 0 tt k)
 compared-last f g h (Floats x y) k = absurd (miss (3 ∷ 4 ∷ []) 1 tt k)
@@ -60,7 +59,7 @@ compared-last f g h Unlike k = refl
 
 -- and of one cell
 pub signed-last : (f : ℤ → ℤ) (g : Ieee.Float → Ieee.Float) (c : Cell) → OneOf (0 ∷ 3 ∷ []) (tag_of Cell'.the_type c)
-    → Is Empty ≡ signed f g c
+    → Ok Empty ≡ signed f g c
 unfolding signed
 signed-last f g Empty k = refl
 signed-last f g (Int x) k = absurd (miss (0 ∷ 3 ∷ []) 1 tt k)

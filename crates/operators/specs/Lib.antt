@@ -1,3 +1,2 @@
 -- What the contracts cite beside the paper's definitions.
 pub mod Logic
-pub mod Told

@@ -1,25 +1,12 @@
 // The operators' numbers, each way: a number's operator, or that it has none, and an operator's number.
 ghost use Rattle.std.specs.Prelude.{◌≡◌};
 ghost use Rattle.paper.specs.Operators.{pair_op, pair_no, single_op, single_no};
-ghost use Rattle.operators.specs.Told.{told_pair, told_single};
 
 use paper::{PairOp, SingleOp};
 
-#[derive(Clone, Copy)]
-pub enum PairGot {
-    Is(PairOp),
-    Unknown,
-}
-
-#[derive(Clone, Copy)]
-pub enum SingleGot {
-    Is(SingleOp),
-    Unknown,
-}
-
 // The pair operator whose number is n.
-pub fn pair_op(n: u8) -> PairGot
-    ensures { told_pair result ≡ pair_op n }
+pub fn pair_op(n: u8) -> Option<PairOp>
+    ensures { result ≡ pair_op n }
 {
     let op = match n {
         1 => PairOp::Add,
@@ -35,9 +22,9 @@ pub fn pair_op(n: u8) -> PairGot
         11 => PairOp::Ge,
         12 => PairOp::And,
         13 => PairOp::Or,
-        _ => return PairGot::Unknown,
+        _ => return None,
     };
-    PairGot::Is(op)
+    Some(op)
 }
 
 pub fn pair_number(op: PairOp) -> u8
@@ -61,8 +48,8 @@ pub fn pair_number(op: PairOp) -> u8
 }
 
 // The single operator whose number is n.
-pub fn single_op(n: u8) -> SingleGot
-    ensures { told_single result ≡ single_op n }
+pub fn single_op(n: u8) -> Option<SingleOp>
+    ensures { result ≡ single_op n }
 {
     let op = match n {
         1 => SingleOp::Negate,
@@ -72,9 +59,9 @@ pub fn single_op(n: u8) -> SingleGot
         5 => SingleOp::IsTrue,
         6 => SingleOp::IsFalse,
         7 => SingleOp::IsUnknown,
-        _ => return SingleGot::Unknown,
+        _ => return None,
     };
-    SingleGot::Is(op)
+    Some(op)
 }
 
 pub fn single_number(op: SingleOp) -> u8

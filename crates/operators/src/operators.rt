@@ -6,61 +6,61 @@ ghost use Rattle.paper.specs.declared.PairOp.TheVariants.{Add, Sub, Mul, Div, Mo
 ghost use Rattle.paper.specs.declared.SingleOp.TheVariants.{Negate, Absolute, Not, IsEmpty, IsTrue, IsFalse, IsUnknown};
 
 use crate::pairs::both;
-use paper::{Answer, Cell, PairOp, SingleOp, Two};
+use paper::{Cell, Fault, PairOp, SingleOp, Two};
 
-pub fn add(a: Cell, b: Cell) -> Answer
+pub fn add(a: Cell, b: Cell) -> Result<Cell, Fault>
     ensures { result ≡ pair_cell Add a b }
 {
     match both(a, b) {
         Two::Ints(x, y) => return cell::ints::int_add(x, y),
         Two::Floats(x, y) => return cell::floats::float_add(x, y),
-        _ => return Answer::Is(Cell::Empty),
+        _ => return Ok(Cell::Empty),
     }
 }
 
-pub fn sub(a: Cell, b: Cell) -> Answer
+pub fn sub(a: Cell, b: Cell) -> Result<Cell, Fault>
     ensures { result ≡ pair_cell Sub a b }
 {
     match both(a, b) {
         Two::Ints(x, y) => return cell::ints::int_sub(x, y),
         Two::Floats(x, y) => return cell::floats::float_sub(x, y),
-        _ => return Answer::Is(Cell::Empty),
+        _ => return Ok(Cell::Empty),
     }
 }
 
-pub fn mul(a: Cell, b: Cell) -> Answer
+pub fn mul(a: Cell, b: Cell) -> Result<Cell, Fault>
     ensures { result ≡ pair_cell Mul a b }
 {
     match both(a, b) {
         Two::Ints(x, y) => return cell::ints::int_mul(x, y),
         Two::Floats(x, y) => return cell::floats::float_mul(x, y),
-        _ => return Answer::Is(Cell::Empty),
+        _ => return Ok(Cell::Empty),
     }
 }
 
-pub fn div(a: Cell, b: Cell) -> Answer
+pub fn div(a: Cell, b: Cell) -> Result<Cell, Fault>
     ensures { result ≡ pair_cell Div a b }
 {
     match both(a, b) {
         Two::Ints(x, y) => return cell::ints::int_div(x, y),
         Two::Floats(x, y) => return cell::floats::float_div(x, y),
-        _ => return Answer::Is(Cell::Empty),
+        _ => return Ok(Cell::Empty),
     }
 }
 
-pub fn modulo(a: Cell, b: Cell) -> Answer
+pub fn modulo(a: Cell, b: Cell) -> Result<Cell, Fault>
     ensures { result ≡ pair_cell Mod a b }
 {
     match both(a, b) {
         Two::Ints(x, y) => return cell::ints::int_mod(x, y),
-        _ => return Answer::Is(Cell::Empty),
+        _ => return Ok(Cell::Empty),
     }
 }
 
-pub fn eq(a: Cell, b: Cell) -> Answer
+pub fn eq(a: Cell, b: Cell) -> Result<Cell, Fault>
     ensures { result ≡ pair_cell Eq a b }
 {
-    Answer::Is(match both(a, b) {
+    Ok(match both(a, b) {
         Two::Ints(x, y) => Cell::Truth(cell::ints::int_eq(x, y)),
         Two::Floats(x, y) => Cell::Truth(x == y),
         Two::Truths(x, y) => Cell::Truth(x == y),
@@ -68,10 +68,10 @@ pub fn eq(a: Cell, b: Cell) -> Answer
     })
 }
 
-pub fn ne(a: Cell, b: Cell) -> Answer
+pub fn ne(a: Cell, b: Cell) -> Result<Cell, Fault>
     ensures { result ≡ pair_cell Ne a b }
 {
-    Answer::Is(match both(a, b) {
+    Ok(match both(a, b) {
         Two::Ints(x, y) => Cell::Truth(!cell::ints::int_eq(x, y)),
         Two::Floats(x, y) => Cell::Truth(x != y),
         Two::Truths(x, y) => Cell::Truth(x != y),
@@ -79,10 +79,10 @@ pub fn ne(a: Cell, b: Cell) -> Answer
     })
 }
 
-pub fn lt(a: Cell, b: Cell) -> Answer
+pub fn lt(a: Cell, b: Cell) -> Result<Cell, Fault>
     ensures { result ≡ pair_cell Lt a b }
 {
-    Answer::Is(match both(a, b) {
+    Ok(match both(a, b) {
         Two::Ints(x, y) => Cell::Truth(x < y),
         Two::Floats(x, y) => Cell::Truth(x < y),
         Two::Truths(_, _) => Cell::Truth(false),
@@ -90,10 +90,10 @@ pub fn lt(a: Cell, b: Cell) -> Answer
     })
 }
 
-pub fn le(a: Cell, b: Cell) -> Answer
+pub fn le(a: Cell, b: Cell) -> Result<Cell, Fault>
     ensures { result ≡ pair_cell Le a b }
 {
-    Answer::Is(match both(a, b) {
+    Ok(match both(a, b) {
         Two::Ints(x, y) => Cell::Truth(x <= y),
         Two::Floats(x, y) => Cell::Truth(x <= y),
         Two::Truths(_, _) => Cell::Truth(false),
@@ -101,83 +101,83 @@ pub fn le(a: Cell, b: Cell) -> Answer
     })
 }
 
-pub fn gt(a: Cell, b: Cell) -> Answer
+pub fn gt(a: Cell, b: Cell) -> Result<Cell, Fault>
     ensures { result ≡ pair_cell Gt a b }
 {
     lt(b, a)
 }
 
-pub fn ge(a: Cell, b: Cell) -> Answer
+pub fn ge(a: Cell, b: Cell) -> Result<Cell, Fault>
     ensures { result ≡ pair_cell Ge a b }
 {
     le(b, a)
 }
 
-pub fn negate(c: Cell) -> Answer
+pub fn negate(c: Cell) -> Result<Cell, Fault>
     ensures { result ≡ single_cell Negate c }
 {
     match c {
         Cell::Int(x) => return cell::ints::int_neg(x),
-        Cell::Float(x) => return Answer::Is(Cell::Float(-x)),
-        _ => return Answer::Is(Cell::Empty),
+        Cell::Float(x) => return Ok(Cell::Float(-x)),
+        _ => return Ok(Cell::Empty),
     }
 }
 
-pub fn absolute(c: Cell) -> Answer
+pub fn absolute(c: Cell) -> Result<Cell, Fault>
     ensures { result ≡ single_cell Absolute c }
 {
     match c {
         Cell::Int(x) => return cell::ints::int_abs(x),
-        Cell::Float(x) => return Answer::Is(Cell::Float(cell::floats::float_abs(x))),
-        _ => return Answer::Is(Cell::Empty),
+        Cell::Float(x) => return Ok(Cell::Float(cell::floats::float_abs(x))),
+        _ => return Ok(Cell::Empty),
     }
 }
 
-pub fn and(a: Cell, b: Cell) -> Answer
+pub fn and(a: Cell, b: Cell) -> Result<Cell, Fault>
     ensures { result ≡ pair_cell And a b }
 {
-    Answer::Is(crate::logic::decided_by(false, a, b))
+    Ok(crate::logic::decided_by(false, a, b))
 }
 
-pub fn or(a: Cell, b: Cell) -> Answer
+pub fn or(a: Cell, b: Cell) -> Result<Cell, Fault>
     ensures { result ≡ pair_cell Or a b }
 {
-    Answer::Is(crate::logic::decided_by(true, a, b))
+    Ok(crate::logic::decided_by(true, a, b))
 }
 
-pub fn negation(c: Cell) -> Answer
+pub fn negation(c: Cell) -> Result<Cell, Fault>
     ensures { result ≡ single_cell Not c }
 {
-    Answer::Is(crate::logic::not_cell(c))
+    Ok(crate::logic::not_cell(c))
 }
 
-pub fn emptiness(c: Cell) -> Answer
+pub fn emptiness(c: Cell) -> Result<Cell, Fault>
     ensures { result ≡ single_cell IsEmpty c }
 {
-    Answer::Is(Cell::Truth(crate::logic::is_empty(c)))
+    Ok(Cell::Truth(crate::logic::is_empty(c)))
 }
 
-pub fn trueness(c: Cell) -> Answer
+pub fn trueness(c: Cell) -> Result<Cell, Fault>
     ensures { result ≡ single_cell IsTrue c }
 {
-    Answer::Is(Cell::Truth(crate::logic::is_truth(true, c)))
+    Ok(Cell::Truth(crate::logic::is_truth(true, c)))
 }
 
-pub fn falseness(c: Cell) -> Answer
+pub fn falseness(c: Cell) -> Result<Cell, Fault>
     ensures { result ≡ single_cell IsFalse c }
 {
-    Answer::Is(Cell::Truth(crate::logic::is_truth(false, c)))
+    Ok(Cell::Truth(crate::logic::is_truth(false, c)))
 }
 
 // Unknown is what an empty cell is.
-pub fn unknownness(c: Cell) -> Answer
+pub fn unknownness(c: Cell) -> Result<Cell, Fault>
     ensures { result ≡ single_cell IsUnknown c }
 {
     emptiness(c)
 }
 
 // cell, operator, cell
-pub fn pair(op: PairOp, a: Cell, b: Cell) -> Answer
+pub fn pair(op: PairOp, a: Cell, b: Cell) -> Result<Cell, Fault>
     ensures { result ≡ pair_cell op a b }
 {
     match op {
@@ -198,7 +198,7 @@ pub fn pair(op: PairOp, a: Cell, b: Cell) -> Answer
 }
 
 // operator, cell
-pub fn single(op: SingleOp, c: Cell) -> Answer
+pub fn single(op: SingleOp, c: Cell) -> Result<Cell, Fault>
     ensures { result ≡ single_cell op c }
 {
     match op {

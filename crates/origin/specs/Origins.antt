@@ -1,6 +1,6 @@
 -- Where a cell of a moved result comes from: the paper's coordinate of A or of B, as a cell of that array counted from 0, and the cell
 -- that stands there. Then the forms in which the code finds it: a coordinate in an extent, and two arrays' cells in turn.
-use Rattle.std.specs.Prelude.{ℕ, ◌+◌, ◌-◌, ◌*◌, ◌<◌, ◌≡◌, Bool, List, ltb, length, get_or, if◌then◌else◌}
+use Rattle.std.specs.Prelude.{ℕ, ◌+◌, ◌-◌, ◌*◌, ◌<◌, ◌≡◌, Bool, List, ltb, length, get_or, if◌then◌else◌, Some, None, Option}
 use Rattle.std.proofs.Math.Path.{refl}
 use Rattle.std.proofs.Math.Bool.{true, false}
 use native.Mathlib.Omega.{arith}
@@ -19,8 +19,6 @@ use Rattle.laws.specs.Glue.{turn, in_turn}
 use Rattle.extent.specs.Judged.{Small}
 use Rattle.origin.specs.declared.Origin.{Origin}
 use Rattle.origin.specs.declared.Origin.TheVariants.{Nowhere, FromA, FromB}
-use Rattle.origin.specs.declared.Found.{Found}
-use Rattle.origin.specs.declared.Found.TheVariants.{After, Outside}
 
 -- a step that moves cells and passed its tests: E and F are the axes of A and B, G those of the result
 pub record Moving (m : Move) (st : Step) (E F G : List Axis) : Type 0 where
@@ -84,25 +82,25 @@ module _ (E F : List Axis) where
 
 -- ---- a coordinate found in an extent
 
-unfoldable pub found_in : List Axis → List ℕ → Found
-found_in E p = if inside E p then After (offset E p) else Outside
+unfoldable pub found_in : List Axis → List ℕ → Option ℕ
+found_in E p = if inside E p then Some (offset E p) else None
 
 -- A's cell there, or none
-abbrev pub in_a : Found → Origin
-in_a (After j) = FromA j
-in_a Outside = Nowhere
+abbrev pub in_a : Option ℕ → Origin
+in_a (Some j) = FromA j
+in_a None = Nowhere
 
 -- B's cell there, or A's cell k
-abbrev pub over_a : ℕ → Found → Origin
-over_a k (After j) = FromB j
-over_a k Outside = FromA k
+abbrev pub over_a : ℕ → Option ℕ → Origin
+over_a k (Some j) = FromB j
+over_a k None = FromA k
 
 module _ (E : List Axis) (p : List ℕ) where
-  pub found_at : (o : ℕ) → inside E p ≡ true → o ≡ ordinality E p → After (o - 1) ≡ found_in E p
+  pub found_at : (o : ℕ) → inside E p ≡ true → o ≡ ordinality E p → Some (o - 1) ≡ found_in E p
   unfolding found_in
   found_at o i e = let n : o - 1 ≡ offset E p = omega arith in rw (i, n)
 
-  pub found_none : inside E p ≡ false → Outside ≡ found_in E p
+  pub found_none : inside E p ≡ false → None ≡ found_in E p
   unfolding found_in
   found_none i = rw i
 
@@ -111,7 +109,7 @@ module _ (E : List Axis) (p : List ℕ) where
     unfolding found_in origin_at
     found_first = by (inside E p)
       where
-        by : (b : Bool) → in_a (if b then After (offset E p) else Outside) ≡ origin_at E F (if b then from_a p else nowhere)
+        by : (b : Bool) → in_a (if b then Some (offset E p) else None) ≡ origin_at E F (if b then from_a p else nowhere)
         by true = refl
         by false = refl
 
@@ -123,7 +121,7 @@ module _ (E : List Axis) (p : List ℕ) where
     unfolding found_in origin_at
     found-over q e = rw (← e) (by (inside F q))
       where
-        by : (b : Bool) → over_a (offset E p) (if b then After (offset F q) else Outside) ≡ origin_at E F (if b then from_b q else from_a p)
+        by : (b : Bool) → over_a (offset E p) (if b then Some (offset F q) else None) ≡ origin_at E F (if b then from_b q else from_a p)
         by true = refl
         by false = refl
 

@@ -1,6 +1,6 @@
 -- Place: B lies on one position of an axis that it lacks. With that axis put in, of that one position, B is an extent with A's axes, and
 -- a coordinate is found in it as the paper has it: by its position on the axis, and by its others in B.
-use Rattle.std.specs.Prelude.{ℕ, suc, ◌+◌, ◌-◌, ◌*◌, ◌≤◌, ◌<◌, ◌≡◌, refl, Bool, List, ◌∷◌, length, get_or, take, drop}
+use Rattle.std.specs.Prelude.{ℕ, suc, ◌+◌, ◌-◌, ◌*◌, ◌≤◌, ◌<◌, ◌≡◌, refl, Bool, List, ◌∷◌, length, get_or, take, drop, Some, None, Option}
 use Rattle.std.proofs.Common.{sym, ap, ◌∙◌, one-mul, take-append-drop, length-append, length-drop, get_or-take, get_or-drop, get_or-append-add}
 use Rattle.std.proofs.Math.Bool.{true, false}
 use Rattle.std.proofs.Math.Nat.{zero-mul, zero-add}
@@ -16,8 +16,6 @@ use Rattle.laws.specs.Places.{on_axis-true, true-on_axis}
 use Rattle.laws.specs.Limits.{sound-take, sound-drop}
 use Rattle.laws.specs.Joins.{cells-append, sound-append, at-index, length_before}
 use Rattle.extent.specs.Judged.{Small}
-use Rattle.origin.specs.declared.Found.{Found}
-use Rattle.origin.specs.declared.Found.TheVariants.{After, Outside}
 use Rattle.origin.specs.Origins.{found_in}
 use Rattle.origin.specs.Found.{joined, found-both}
 
@@ -62,9 +60,9 @@ module _ {k : ℕ} {F : List Axis} (h : Insertable k F) (a : Axis) where
 abbrev pub spot : ℕ → Axis
 spot x = limited x x
 
-outside-right : (n : ℕ) (f : Found) → joined n f Outside ≡ Outside
-outside-right n (After i) = refl
-outside-right n Outside = refl
+outside-right : (n : ℕ) (f : Option ℕ) → joined n f None ≡ None
+outside-right n (Some i) = refl
+outside-right n None = refl
 
 module _ (x y : ℕ) (F : List Axis) (q : List ℕ) where
   spot_on : y ≡ x → found_in (spot x ∷ F) (y ∷ q) ≡ found_in F q
@@ -73,7 +71,7 @@ module _ (x y : ℕ) (F : List Axis) (q : List ℕ) where
       let z : x - x ≡ 0 = omega arith in
       rw (e, true-on_axis (spot x) x (omega arith) (omega arith), z, zero-mul (cells F), zero-add (offset F q))
 
-  spot-off : (y ≡ x → ⊥) → found_in (spot x ∷ F) (y ∷ q) ≡ Outside
+  spot-off : (y ≡ x → ⊥) → found_in (spot x ∷ F) (y ∷ q) ≡ None
   unfolding found_in alike
   spot-off n = rw (off (on_axis (spot x) y) refl)
     where
@@ -119,7 +117,7 @@ module _ (k x : ℕ) (F : List Axis) (p : List ℕ) (one : 1 ≤ k) (last : k �
       parted ∙ ap (joined (cells post) (found_in pre before)) (spot_on x y post after e)
       ∙ sym (ap (λ (E : List Axis). found_in E (without k p)) (sym (take-append-drop (k - 1) F)) ∙ found-both pre post before after fits)
 
-  pub patch-off : (y ≡ x → ⊥) → found_in (put_in k (spot x) F) p ≡ Outside
+  pub patch-off : (y ≡ x → ⊥) → found_in (put_in k (spot x) F) p ≡ None
   patch-off n =
       parted ∙ ap (joined (cells post) (found_in pre before)) (spot-off x y post after n)
       ∙ outside-right (cells post) (found_in pre before)

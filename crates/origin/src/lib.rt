@@ -28,26 +28,19 @@ pub enum Origin {
     FromB(usize),
 }
 
-// Where a coordinate is found in an extent: so many cells after the first, or outside.
-#[derive(Clone, Copy)]
-pub enum Found {
-    After(usize),
-    Outside,
-}
-
 // ---- by coordinate
 
-// Where the coordinate of cell k of an extent is found in another.
-pub fn found_at(t: Extent, k: usize, e: Extent) -> Found
+// Where the coordinate of cell k of an extent is found in another: so many cells after the first, or nowhere.
+pub fn found_at(t: Extent, k: usize, e: Extent) -> Option<usize>
     requires { Beside (axes_of t) (axes_of e) k }
     ensures { result ≡ found_in (axes_of e) (at_offset (axes_of t) k) }
 {
     let p = place::coordinate_of(t, Ordinality(k as u32 + 1));
     if !place::is_inside(e, p) {
-        return Found::Outside;
+        return None;
     }
     let o = place::ordinality_of(e, p);
-    Found::After(o.0 as usize - 1)
+    Some(o.0 as usize - 1)
 }
 
 // A's cell there, or none.
@@ -57,8 +50,8 @@ fn in_first(t: Extent, k: usize, e: Extent) -> Origin
 {
     let found = found_at(t, k, e);
     match found {
-        Found::After(j) => return Origin::FromA(j),
-        Found::Outside => return Origin::Nowhere,
+        Some(j) => return Origin::FromA(j),
+        None => return Origin::Nowhere,
     }
 }
 
@@ -69,8 +62,8 @@ fn laid_over(t: Extent, k: usize, f: Extent, j: usize) -> Origin
 {
     let found = found_at(t, k, f);
     match found {
-        Found::After(i) => return Origin::FromB(i),
-        Found::Outside => return Origin::FromA(j),
+        Some(i) => return Origin::FromB(i),
+        None => return Origin::FromA(j),
     }
 }
 
@@ -99,10 +92,8 @@ pub fn patch_of(f: Extent, k: AxisIndex, x: u32) -> Extent
     let a = Axis { lo: x, hi: x };
     let n = extent::rank_of(f) + 1;
     let mut new = shape::empty();
-    let mut i: usize = 0;
-    while i < n {
-        i += 1;
-        new = shape::with_axis(new, axis_in(f, k, a, AxisIndex(i as u32)));
+    for i in 0..n {
+        new = shape::with_axis(new, axis_in(f, k, a, AxisIndex(i as u32 + 1)));
     }
     new
 }
@@ -116,11 +107,8 @@ pub fn cells_after(e: Extent, before: usize) -> usize
     ensures { (result ≡ cells (drop before (axes_of e))) × (1 ≤ result) × (result ≤ most_cells) }
 {
     let mut n: u64 = 1;
-    let mut i = extent::rank_of(e);
-    while before < i {
-        i -= 1;
-        let a = e.axes[i];
-        n = extent::width_of(a) * n;
+    for i in (before..extent::rank_of(e)).rev() {
+        n *= extent::width_of(e.axes[i]);
     }
     n as usize
 }

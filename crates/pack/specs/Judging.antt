@@ -1,5 +1,5 @@
 -- Forms judged one after the other: what is known of one, the loop as a record with a law for each event, and what is known of all.
-use Rattle.std.specs.Prelude.{ℕ, ◌+◌, ◌-◌, ◌*◌, ◌≤◌, ◌<◌, ◌≡◌, refl, Bool, true, false, List, [], ◌∷◌, map, length, get_or, take}
+use Rattle.std.specs.Prelude.{ℕ, ◌+◌, ◌-◌, ◌*◌, ◌≤◌, ◌<◌, ◌≡◌, refl, Bool, true, false, List, [], ◌∷◌, map, length, get_or, take, Err}
 use Rattle.std.proofs.Math.Path.{sym, ap}
 use Rattle.std.proofs.Common.{ap₂, ◌∙◌, add-one, arith, ne_eqb, length-drop, drop-drop}
 use Rattle.std.proofs.Math.ListN.{drop, length-append, drop_of_length-le}
@@ -7,7 +7,7 @@ use Rattle.paper.specs.declared.Sizes.{Sizes}
 use Rattle.paper.specs.declared.Form.{Form}
 use Rattle.paper.specs.declared.Refusal.{Refusal}
 use Rattle.paper.specs.Limits.{most_arrays, most_axes, type_bytes, cell_bytes}
-use Rattle.paper.specs.Refusals.{refused, refusal, between, bad_bytes1, bad_extent2}
+use Rattle.paper.specs.Refusals.{refusal, between, bad_bytes1, bad_extent2}
 use Rattle.paper.specs.Numbers.{none?}
 use Rattle.paper.specs.Cells.{is_type}
 use Rattle.paper.specs.Bundle.{mark_bytes, names_fit, pack_array, pack_arrays, packed}
@@ -35,7 +35,7 @@ abbrev pub over : Refusal → Verdict
 over x = record { refusal = x; long = 0 }
 
 pub record JudgedForm (z : Sizes) (bs : List ℕ) (from k : ℕ) (form : Form) (r : FormJudged) : Type 0 where
-  pub no : (r.refusal.number ≡ 0 → ⊥) → pack_array z k (shape_of form) (drop from bs) ≡ refused r.refusal
+  pub no : (r.refusal.number ≡ 0 → ⊥) → pack_array z k (shape_of form) (drop from bs) ≡ Err r.refusal
   pub ready : r.refusal.number ≡ 0 → FormPassed z form (drop from bs)
   pub end : r.refusal.number ≡ 0 → r.end ≡ from + cell_room form
   pub long : r.refusal.number ≡ 0 → r.long ≡ length (form_bytes z form (drop from bs))
@@ -53,7 +53,7 @@ module _ (z : Sizes) (form : Form) {n : ℕ} (r : Rank form.extent n) where
 
 -- each way out of the judging of one
 module _ {z : Sizes} (fits : Fits z) {bs : List ℕ} {from k : ℕ} {form : Form} where
-  form-refused : {x : Refusal} → (x.number ≡ 0 → ⊥) → pack_array z k (shape_of form) (drop from bs) ≡ refused x
+  form-refused : {x : Refusal} → (x.number ≡ 0 → ⊥) → pack_array z k (shape_of form) (drop from bs) ≡ Err x
       → JudgedForm z bs from k form (stopped x)
   form-refused h q =
       record { no = λ f. q; ready = λ f. search; end = λ f. search; long = λ f. search; few = omega arith; room = omega arith }
@@ -112,8 +112,8 @@ pub record Judging (z : Sizes) (fs : List Form) (bs : List ℕ) (at long i : ℕ
   pub turns : i ≤ length fs
   pub few : long ≤ mark_bytes + 1 + i * most_bytes
   pub room : at ≤ length bs
-  pub no : (x : Refusal) → pack_arrays z (i + 1) (map shape_of (drop i fs)) (drop at bs) ≡ refused x
-      → pack_arrays z 1 (map shape_of fs) bs ≡ refused x
+  pub no : (x : Refusal) → pack_arrays z (i + 1) (map shape_of (drop i fs)) (drop at bs) ≡ Err x
+      → pack_arrays z 1 (map shape_of fs) bs ≡ Err x
   pub ready : AllReady z (drop i fs) (drop at bs) → AllReady z fs bs
   pub rest : rest_of (drop i fs) (drop at bs) ≡ rest_of fs bs
   pub size : long + length (laid_bytes z (drop i fs) (drop at bs)) ≡ mark_bytes + 1 + length (laid_bytes z fs bs)
@@ -124,7 +124,7 @@ judging-start z fs bs =
 
 module _ {z : Sizes} (fits : Fits z) {fs : List Form} {bs : List ℕ} {at long i : ℕ} (v : Judging z fs bs at long i)
     {f : Form} (e : drop i fs ≡ f ∷ drop (i + 1) fs) {r : FormJudged} (j : JudgedForm z bs at (i + 1) f r) where
-  judging-refused : (r.refusal.number ≡ 0 → ⊥) → pack_arrays z 1 (map shape_of fs) bs ≡ refused r.refusal
+  judging-refused : (r.refusal.number ≡ 0 → ⊥) → pack_arrays z 1 (map shape_of fs) bs ≡ Err r.refusal
   unfolding pack_arrays
   judging-refused h = v.no r.refusal (rw (e, j.no h))
 
@@ -145,7 +145,7 @@ module _ {z : Sizes} (fits : Fits z) {fs : List Form} {bs : List ℕ} {at long i
 -- ---- all of them
 
 pub record JudgedAll (z : Sizes) (count : ℕ) (forms : List Form) (bs : List ℕ) (r : Verdict) : Type 0 where
-  pub no : (r.refusal.number ≡ 0 → ⊥) → (room : ℕ) → packed z (shapes_of count forms) bs room ≡ refused r.refusal
+  pub no : (r.refusal.number ≡ 0 → ⊥) → (room : ℕ) → packed z (shapes_of count forms) bs room ≡ Err r.refusal
   pub counted : r.refusal.number ≡ 0 → between 1 most_arrays count ≡ true
   pub ready : r.refusal.number ≡ 0 → AllReady z (take count forms) bs
   pub rest : r.refusal.number ≡ 0 → rest_of (take count forms) bs ≡ []
@@ -159,7 +159,7 @@ pub record Counted (count : ℕ) (forms : List Form) : Type 0 where
 
 -- each way out
 module _ {z : Sizes} (fits : Fits z) {count : ℕ} {forms : List Form} where
-  all-refused : {bs : List ℕ} {x : Refusal} → (x.number ≡ 0 → ⊥) → ((room : ℕ) → packed z (shapes_of count forms) bs room ≡ refused x)
+  all-refused : {bs : List ℕ} {x : Refusal} → (x.number ≡ 0 → ⊥) → ((room : ℕ) → packed z (shapes_of count forms) bs room ≡ Err x)
       → JudgedAll z count forms bs (over x)
   all-refused h q =
       record { no = λ f. q; counted = λ f. search; ready = λ f. search; rest = λ f. search; long = λ f. search; few = omega arith }

@@ -1,9 +1,8 @@
 -- Forms whose cells stand one after the other in a buffer: what it is that each was judged good, the bytes that the bundle then has, and
 -- that packing gives these bytes.
-use Rattle.std.specs.Prelude.{ℕ, zero, suc, ◌+◌, ◌*◌, ◌≤◌, ◌<◌, ◌≡◌, refl, false, ◌&&◌, List, [], ◌∷◌, ◌++◌, map, drop, replicate, if◌then◌else◌}
+use Rattle.std.specs.Prelude.{ℕ, zero, suc, ◌+◌, ◌*◌, ◌≤◌, ◌<◌, ◌≡◌, refl, false, ◌&&◌, List, [], ◌∷◌, ◌++◌, map, drop, replicate, if◌then◌else◌, Option, None, Some, Ok, Err, is_some}
 use Rattle.std.proofs.Common.{sym, ap, ◌∙◌, arith, length-append, length-take, length-drop, take-add}
 use Rattle.std.proofs.Math.Bool.{true}
-use Rattle.std.proofs.Math.Option.{Option, none, some}
 use borrow.Author.Tests.{le-leb}
 use Rattle.std.proofs.Math.Dec.{leb}
 use Rattle.std.proofs.Math.ListN.{length, take}
@@ -15,7 +14,7 @@ use Rattle.paper.specs.declared.Axis.{Axis}
 use Rattle.paper.specs.declared.Cell.{Cell}
 use Rattle.paper.specs.declared.Form.{Form}
 use Rattle.paper.specs.Limits.{most_arrays, most_axes, most_cells, half_name, limits_bytes, type_bytes, cell_bytes}
-use Rattle.paper.specs.Refusals.{got, refused, ◌>>◌, refusal, ensure, between, bad_bytes1, small_output14}
+use Rattle.paper.specs.Refusals.{◌>>◌, refusal, ensure, between, bad_bytes1, small_output14}
 use Rattle.paper.specs.Numbers.{concat, none?}
 use Rattle.paper.specs.Axes.{good_extent, axis_within, within, Shape, Array}
 use Rattle.paper.specs.Cells.{is_type, cell_of, cells_bytes}
@@ -23,7 +22,7 @@ use Rattle.paper.specs.Bundle.{mark, names_fit, array_of, pack_array, axes_bytes
 use Rattle.paper.specs.Answers.{axes_of, shape_of}
 use Rattle.laws.specs.Answers.{no_head}
 use Rattle.laws.specs.Cells.{bytes_back}
-use Rattle.laws.specs.Judged.{is?, or_empty, first_bad, cells_from, cells-judged}
+use Rattle.laws.specs.Judged.{or_empty, first_bad, cells_from, cells-judged}
 use Rattle.laws.specs.Numbers.{Bytes, bytes_take, bytes_drop}
 use Rattle.laws.specs.Sizes.{Fits}
 use Rattle.laws.specs.Tests.{and_left, and_right}
@@ -76,9 +75,9 @@ pub within-alike : (E M : List Axis) → within E M ≡ true → length M ≡ le
 within-alike E M e = sym (alike-length axis_within E M e)
 
 -- cells judged, written again, are their bytes
-first_one : (c : Option Cell) (x o : ℕ) → 0 < o → (if is? c then x else o) ≡ 0 → (c ≡ some (or_empty c)) × (x ≡ 0)
-first_one none x o p e = absurd (omega arith)
-first_one (some c) x o p e = (refl, e)
+first_one : (c : Option Cell) (x o : ℕ) → 0 < o → (if is_some c then x else o) ≡ 0 → (c ≡ Some (or_empty c)) × (x ≡ 0)
+first_one None x o p e = absurd (omega arith)
+first_one (Some c) x o p e = (refl, e)
 
 cells-written : (n t o : ℕ) (bs : List ℕ) → 0 < o → n * cell_bytes ≤ length bs → Bytes bs → first_bad t o n bs ≡ 0
     → cells_bytes (cells_from t n bs) ≡ take (n * cell_bytes) bs
@@ -116,7 +115,7 @@ module _ {z : Sizes} (fits : Fits z) {f : Form} {bs : List ℕ} (v : FormPassed 
   ready-long =
       simp (length-append, length-take) (omega (arith, axes-length z fits N E M v.named ready-alike, v.fits))
 
-  pub ready-packed : (k : ℕ) → pack_array z k (shape_of f) bs ≡ got (array_in f bs, drop (cell_room f) bs)
+  pub ready-packed : (k : ℕ) → pack_array z k (shape_of f) bs ≡ Ok (array_in f bs, drop (cell_room f) bs)
   unfolding pack_array array_of array_in
   ready-packed k =
       let l : leb (cell_room f) (length bs) ≡ true = le-leb (cell_room f) (length bs) v.fits in
@@ -152,7 +151,7 @@ arrays-count [] bs = refl
 arrays-count (f ∷ fs) bs = ap suc (arrays-count fs (drop (cell_room f) bs))
 
 arrays-packed : (z : Sizes) → Fits z → (fs : List Form) (k : ℕ) (bs : List ℕ) → AllReady z fs bs
-    → pack_arrays z k (map shape_of fs) bs ≡ got (arrays_in fs bs, rest_of fs bs)
+    → pack_arrays z k (map shape_of fs) bs ≡ Ok (arrays_in fs bs, rest_of fs bs)
 unfolding pack_arrays arrays_in rest_of
 arrays-packed z p [] k bs v = refl
 arrays-packed z p (f ∷ fs) k bs v = rw (ready-packed p v.0 k, arrays-packed z p fs (k + 1) (drop (cell_room f) bs) v.1)
@@ -174,14 +173,14 @@ module _ (z : Sizes) (p : Fits z) (count : ℕ) (forms : List Form) (bs : List �
     (b : between 1 most_arrays count ≡ true)
     (v : AllReady z (take count forms) bs) where
   -- every form passed its tests, and cell bytes are left over
-  pub packed-left : none? (rest_of (take count forms) bs) ≡ false → packed z (shapes_of count forms) bs room ≡ refused (refusal bad_bytes1 0 0)
+  pub packed-left : none? (rest_of (take count forms) bs) ≡ false → packed z (shapes_of count forms) bs room ≡ Err (refusal bad_bytes1 0 0)
   unfolding packed
   packed-left e = rw (shapes-length count forms, b, shapes-few count forms h, arrays-packed z p (take count forms) 1 bs v, e)
 
   -- none are left over: the bundle, where there is room for it
   pub packed-ready : rest_of (take count forms) bs ≡ [] → Bytes bs
       → packed z (shapes_of count forms) bs room
-      ≡ (ensure (leb (length (bundle_of z count (take count forms) bs)) room) small_output14 0 >> got
+      ≡ (ensure (leb (length (bundle_of z count (take count forms) bs)) room) small_output14 0 >> Ok
       (bundle_of z count (take count forms) bs))
   unfolding packed bundle_bytes
   packed-ready e g =

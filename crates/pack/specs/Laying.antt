@@ -1,6 +1,6 @@
 -- Arrays written one after the other: an array's parts as the code puts them, the loop over the arrays as a record with a law for each
 -- event, and packing as a whole.
-use Rattle.std.specs.Prelude.{ℕ, ◌+◌, ◌*◌, ◌≤◌, ◌<◌, ◌≡◌, List, [], ◌∷◌, ◌++◌, leb, take, drop}
+use Rattle.std.specs.Prelude.{ℕ, ◌+◌, ◌*◌, ◌≤◌, ◌<◌, ◌≡◌, List, [], ◌∷◌, ◌++◌, leb, take, drop, Ok, Err}
 use Rattle.std.proofs.Math.Path.{refl, sym, ap}
 use Rattle.std.proofs.Common.{◌∙◌, le-leb, drop_of_length-le}
 use native.Mathlib.Omega.{arith}
@@ -10,14 +10,12 @@ use Rattle.std.proofs.Math.Seq.{drop-drop}
 use Rattle.paper.specs.declared.Sizes.{Sizes}
 use Rattle.paper.specs.declared.Form.{Form}
 use Rattle.paper.specs.declared.Refusal.{Refusal}
-use Rattle.paper.specs.declared.NumberAnswer.{NumberAnswer}
-use Rattle.paper.specs.declared.NumberAnswer.TheVariants.{Got, Refused}
 use Rattle.paper.specs.Limits.{most_arrays, most_cells, cell_bytes}
-use Rattle.paper.specs.Refusals.{Res, got, refused, ◌>>=◌, ◌>>◌, refusal, ensure, bad_bytes1, small_output14}
+use Rattle.paper.specs.Refusals.{Res, ◌>>=◌, ◌>>◌, refusal, ensure, bad_bytes1, small_output14}
 use Rattle.paper.specs.Numbers.{le_bytes, part}
 use Rattle.paper.specs.Axes.{Shape}
 use Rattle.paper.specs.Bundle.{mark, mark_bytes, version_told, packed, After, put_into, pack}
-use Rattle.paper.specs.Answers.{axes_of, shape_of, number_said}
+use Rattle.paper.specs.Answers.{axes_of, shape_of}
 use Rattle.laws.specs.Numbers.{Bytes}
 use Rattle.laws.specs.Sizes.{Fits}
 use Rattle.laws.specs.Tests.{between-true}
@@ -139,12 +137,12 @@ module _ {z : Sizes} {fs : List Form} {bs d₀ d : List ℕ} {from at i : ℕ} (
 -- ---- packing
 
 -- the promise in a version: the answer and the output buffer after are those that the paper's packing gives of these shapes and cells
-pub record PackedAs (z : Sizes) (ss : List Shape) (bs out : List ℕ) (r : NumberAnswer) (y : List ℕ) : Type 0 where
-  pub said : number_said r ≡ (put_into out (packed z ss bs (length out))).answer
+pub record PackedAs (z : Sizes) (ss : List Shape) (bs out : List ℕ) (r : Res ℕ) (y : List ℕ) : Type 0 where
+  pub said : r ≡ (put_into out (packed z ss bs (length out))).answer
   pub wrote : y ≡ (put_into out (packed z ss bs (length out))).buffer
 
-pub pack-refused : (z : Sizes) (ss : List Shape) (bs out : List ℕ) (x : Refusal) → packed z ss bs (length out) ≡ refused x
-    → PackedAs z ss bs out (Refused x) out
+pub pack-refused : (z : Sizes) (ss : List Shape) (bs out : List ℕ) (x : Refusal) → packed z ss bs (length out) ≡ Err x
+    → PackedAs z ss bs out (Err x) out
 unfolding put_into
 pack-refused z ss bs out x e = record { said = rw e; wrote = rw e }
 
@@ -168,17 +166,17 @@ module _ {z : Sizes} (fits : Fits z) {count : ℕ} {forms : List Form} {bs : Lis
       record { few = count-least.1; ready = j.ready y; room = omega (arith, j.long y) }
 
   module _ (l : length forms ≡ most_arrays) (g : Bytes bs) (out : List ℕ) where
-    by-room : packed z (shapes_of count forms) bs (length out) ≡ (ensure (leb (length bundle) (length out)) small_output14 0 >> got bundle)
+    by-room : packed z (shapes_of count forms) bs (length out) ≡ (ensure (leb (length bundle) (length out)) small_output14 0 >> Ok bundle)
     by-room = packed-ready z fits count forms bs (length out) (omega (arith, count-least)) (j.counted y) (j.ready y) (j.rest y) g
 
-    pub pack-small : length out < r.long → PackedAs z (shapes_of count forms) bs out (Refused (refusal small_output14 0 0)) out
+    pub pack-small : length out < r.long → PackedAs z (shapes_of count forms) bs out (Err (refusal small_output14 0 0)) out
     pack-small h = pack-refused z _ bs out _ (rw (lt-leb (length bundle) (length out) (omega (arith, its-length))) at by-room)
 
     pub pack-got : r.long ≤ length out → (x w : List ℕ) → x ≡ put out 0 (mark z ++ (count ∷ []))
-        → w ≡ put x (mark_bytes + 1) (laid_bytes z (take count forms) bs) → PackedAs z (shapes_of count forms) bs out (Got r.long) w
+        → w ≡ put x (mark_bytes + 1) (laid_bytes z (take count forms) bs) → PackedAs z (shapes_of count forms) bs out (Ok r.long) w
     unfolding put_into le_bytes
     pack-got h x w p q =
-        let e : packed z (shapes_of count forms) bs (length out) ≡ got bundle =
+        let e : packed z (shapes_of count forms) bs (length out) ≡ Ok bundle =
         rw (le-leb (length bundle) (length out) (omega (arith, its-length))) at by-room in
         let u =
         after out 0 (mark z ++ (count ∷ [])) (laid_bytes z (take count forms) bs) x w (mark_bytes + 1) (omega (arith, j.long y)) refl p q in
@@ -188,17 +186,17 @@ module _ {z : Sizes} (fits : Fits z) {count : ℕ} {forms : List Form} {bs : Lis
 -- ---- by the version told
 
 -- the promise: so by the number of a version
-pub record PackedInto (version : ℕ) (ss : List Shape) (bs out : List ℕ) (r : NumberAnswer) (y : List ℕ) : Type 0 where
-  pub said : number_said r ≡ (pack version ss bs out).answer
+pub record PackedInto (version : ℕ) (ss : List Shape) (bs out : List ℕ) (r : Res ℕ) (y : List ℕ) : Type 0 where
+  pub said : r ≡ (pack version ss bs out).answer
   pub wrote : y ≡ (pack version ss bs out).buffer
 
 module _ (version : ℕ) (ss : List Shape) (bs out : List ℕ) where
   -- another number than a version's
-  pub told_none : refused (refusal bad_bytes1 0 0) ≡ version_told version → PackedInto version ss bs out (Refused (refusal bad_bytes1 0 0)) out
+  pub told_none : {x : Refusal} → Err x ≡ version_told version → PackedInto version ss bs out (Err x) out
   unfolding put_into
   told_none e = record { said = rw (← e); wrote = rw (← e) }
 
-  pub told-one : (z : Sizes) → got z ≡ version_told version → {r : NumberAnswer} {y : List ℕ} → PackedAs z ss bs out r y
+  pub told-one : (z : Sizes) → Ok z ≡ version_told version → {r : Res ℕ} {y : List ℕ} → PackedAs z ss bs out r y
       → PackedInto version ss bs out r y
   told-one z e p =
       let q : put_into out (packed z ss bs (length out)) ≡ pack version ss bs out =

@@ -81,15 +81,13 @@ pub fn judged(v: Version, count: usize, forms: [Form; paper::ARRAYS], cells: &[u
     }
     let mut at: usize = 0;
     let mut long = OPENING_BYTES;
-    let mut i = 0;
-    while i < count {
+    for i in 0..count {
         let one = form_judged(v, cells, at, (i + 1) as u32, forms[i]);
         if one.refusal.number != 0 {
             return all_refused(one.refusal);
         }
         at = one.end;
         long += one.long;
-        i += 1;
     }
     if at < cells.len() {
         return all_refused(refuse(1, 0));

@@ -7,10 +7,10 @@ ghost use Rattle.pack.specs.Laid.{shapes_of};
 ghost use Rattle.pack.specs.Laying.{PackedAs, PackedInto};
 
 use judge::judged;
-use paper::{Form, NumberAnswer, Version};
+use paper::{Form, Refusal, Version};
 use put::{put_arrays, put_mark};
 use refusals::refuse;
-use versions::{Told, version_told};
+use versions::version_told;
 
 pub mod judge;
 pub mod put;
@@ -23,21 +23,21 @@ pub fn pack_as(
     forms: [Form; paper::ARRAYS],
     cells: &[u8],
     out: &mut [u8],
-) -> NumberAnswer
+) -> Result<u32, Refusal>
     ensures { PackedAs (sizes_of v) (shapes_of count forms) cells.now out.old result out.new }
 {
     let verdict = judged(v, count, forms, cells);
     let refusal = verdict.refusal;
     if refusal.number != 0 {
-        return NumberAnswer::Refused(refusal);
+        return Err(refusal);
     }
     let long = verdict.long;
     if out.len() < long {
-        return NumberAnswer::Refused(refuse(14, 0));
+        return Err(refuse(14, 0));
     }
     put_mark(v, out, count as u8);
     put_arrays(v, count, forms, cells, out);
-    NumberAnswer::Got(long as u32)
+    Ok(long as u32)
 }
 
 // So of the version that a number tells of: another than 1 and 2 is refused before all else.
@@ -47,11 +47,9 @@ pub fn pack(
     forms: [Form; paper::ARRAYS],
     cells: &[u8],
     out: &mut [u8],
-) -> NumberAnswer
+) -> Result<u32, Refusal>
     ensures { PackedInto version (shapes_of count forms) cells.now out.old result out.new }
 {
-    match version_told(version) {
-        Told::Is(v) => return pack_as(v, count, forms, cells, out),
-        Told::Unknown => return NumberAnswer::Refused(refuse(1, 0)),
-    }
+    let v = version_told(version)?;
+    pack_as(v, count, forms, cells, out)
 }

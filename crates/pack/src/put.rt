@@ -83,10 +83,8 @@ fn put_axes(v: Version, d: &mut [u8], at: usize, names: [Name; AXES], e: Extent,
 {
     let z = sizes(v);
     let rank = rank_of(e);
-    let mut i = 0;
-    while i < rank {
+    for i in 0..rank {
         put_axis(v, d, at + i * z.axis, names[i], e.axes[i], m.axes[i]);
-        i += 1;
     }
 }
 
@@ -139,12 +137,10 @@ pub fn put_arrays(
 {
     let mut from: usize = 0;
     let mut at = OPENING_BYTES;
-    let mut i = 0;
-    while i < count {
+    for i in 0..count {
         let ends = put_array(v, forms[i], cells, from, d, at);
         from = ends.from;
         at = ends.at;
-        i += 1;
     }
 }
 

@@ -1,11 +1,11 @@
 -- Paper 02, request [2], "JSON for the agencies": an array of a bundle written as the report's MDENCODE does it. The report's functions
 -- are F, the nested brackets, and G, the object around them.
-use Rattle.std.specs.Prelude.{ℕ, zero, suc, true, false, not, List, [], ◌∷◌, ◌++◌, map, eqb, leb, take, drop, length}
+use Rattle.std.specs.Prelude.{ℕ, zero, suc, true, false, not, List, [], ◌∷◌, ◌++◌, map, eqb, leb, take, drop, length, Ok}
 use Rattle.paper.specs.declared.Axis.{Axis}
 use Rattle.paper.specs.declared.Cell.{Cell}
 use Rattle.paper.specs.declared.Cell.TheVariants.{Empty, Int, Float, Truth}
 use Rattle.paper.specs.Limits.{FLOAT}
-use Rattle.paper.specs.Refusals.{Res, got, ◌>>=◌, ◌>>◌, ensure, unfit7, small_output14}
+use Rattle.paper.specs.Refusals.{Res, ◌>>=◌, ◌>>◌, ensure, unfit7, small_output14}
 use Rattle.paper.specs.Numbers.{text}
 use Rattle.paper.specs.Axes.{width, cells}
 use Rattle.paper.specs.Bundle.{After, put_into}
@@ -52,7 +52,7 @@ written bundle k room = do
   let json = json_text A.shape.axes A.cells
   ensure (not (eqb A.shape.type FLOAT)) unfit7 k
   ensure (leb (length json) room) small_output14 0
-  got json
+  Ok json
 
 -- the text's length; as in packing, the buffer after the text is untouched, and all of it with a refusal
 abbrev pub write_json : List ℕ → ℕ → List ℕ → After

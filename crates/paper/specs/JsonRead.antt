@@ -1,8 +1,8 @@
 -- Paper 02, request [5], "Read what agencies send back": a text into the cells of an array whose type and extent the caller names.
 -- The place of every refusal is 0.
-use Rattle.std.specs.Prelude.{ℕ, ◌+◌, ◌-◌, ◌*◌, ◌/◌, ◌%◌, Bool, true, false, ◌&&◌, ◌||◌, not, List, [], ◌∷◌, ◌++◌, eqb, leb, take, drop, length, get_or, replicate, ℤ, pos, neg_ℤ, if◌then◌else◌}
+use Rattle.std.specs.Prelude.{ℕ, ◌+◌, ◌-◌, ◌*◌, ◌/◌, ◌%◌, Bool, true, false, ◌&&◌, ◌||◌, not, List, [], ◌∷◌, ◌++◌, eqb, leb, take, drop, length, get_or, replicate, ℤ, pos, neg_ℤ, if◌then◌else◌, Option, None, Some, Ok, Err}
 use Prim.Native.Char.{code}
-use Rattle.std.proofs.Math.Option.{Option, none, some, map}
+use Rattle.std.specs.Option.{option_map}
 use Rattle.std.specs.Int.Signed.{le_z}
 use Rattle.paper.specs.declared.Axis.{Axis}
 use Rattle.paper.specs.declared.Cell.{Cell}
@@ -10,7 +10,7 @@ use Rattle.paper.specs.declared.Cell.TheVariants.{Empty, Int, Truth}
 use Rattle.paper.specs.declared.Name.{Name}
 use Rattle.paper.specs.declared.Sizes.{Sizes}
 use Rattle.paper.specs.Limits.{INT, FLOAT, cell_bytes, smallest_int, largest_int}
-use Rattle.paper.specs.Refusals.{Res, got, refused, ◌>>=◌, ◌>>◌, refusal, ensure, present, between}
+use Rattle.paper.specs.Refusals.{Res, ◌>>=◌, ◌>>◌, refusal, ensure, present, between}
 use Rattle.paper.specs.Refusals.{bad_bytes1, bad_extent2, unfit7, small_output14, not_json15, misfit16}
 use Rattle.paper.specs.Numbers.{text, same, none?, concat, over}
 use Rattle.paper.specs.Axes.{width, cells, good_extent}
@@ -76,16 +76,16 @@ is_data k = k.outermost && (begins (text "\"") k.text && spells (text "data") (d
 
 -- the first `data`, and the tokens after it
 unfoldable pub data_in : List Token → Option (Token × List Token)
-data_in [] = none
-data_in (k ∷ ks) = if is_data k then some (k, ks) else data_in ks
+data_in [] = None
+data_in (k ∷ ks) = if is_data k then Some (k, ks) else data_in ks
 
 -- the place of the second
 abbrev pub second_in : List Token → Option ℕ
-second_in ks = given (data_in ks) none (λ d. given (data_in d.1) none (λ e. some e.0.place))
+second_in ks = given (data_in ks) None (λ d. given (data_in d.1) None (λ e. Some e.0.place))
 
 -- 15 at that place, if there is one
 abbrev pub unless15 : Option ℕ → Res (Unit {0})
-unless15 wrong = given wrong (got tt) (λ i. refused (refusal not_json15 0 i))
+unless15 wrong = given wrong (Ok tt) (λ i. Err (refusal not_json15 0 i))
 
 -- the tokens after `data`: 15 at the second `data` (it stands before any fault: there the tokens end), at the fault, or one past the end
 unfoldable pub data_of : List ℕ → Res (List Token)
@@ -94,7 +94,7 @@ data_of bs = do
   unless15 (second_in ks)
   unless15 (fault bs)
   d ← present (data_in ks) (refusal not_json15 0 (length bs + 1))
-  got d.1
+  Ok d.1
 
 -- ---- the cells
 
@@ -111,17 +111,17 @@ number_of n (b ∷ bs) = number_of (n * 10 + (b - code "0")) bs
 unfoldable pub natural : List ℕ → Option ℕ
 natural bs =
     let ds : List ℕ = digits_of bs in
-    if none? ds || among (these ".eE") (get_or bs (length ds) 0) then none else some (number_of 0 ds)
+    if none? ds || among (these ".eE") (get_or bs (length ds) 0) then None else Some (number_of 0 ds)
 
 abbrev pub integer : List ℕ → Option ℤ
-integer bs = if begins (text "-") bs then map (λ n. neg_ℤ (pos n)) (natural (drop 1 bs)) else map pos (natural bs)
+integer bs = if begins (text "-") bs then option_map (λ n. neg_ℤ (pos n)) (natural (drop 1 bs)) else option_map pos (natural bs)
 
 -- a value as a cell of the type: null; a whole number in INT range; true or false
 unfoldable pub cell_in : ℕ → List ℕ → Option Cell
 cell_in t bs =
-    if begins (text "null") bs then some Empty else
-    (if eqb t INT then given (integer bs) none (λ z. if le_z smallest_int z && le_z z largest_int then some (Int z) else none) else
-    (if begins (text "true") bs then some (Truth true) else (if begins (text "false") bs then some (Truth false) else none)))
+    if begins (text "null") bs then Some Empty else
+    (if eqb t INT then given (integer bs) None (λ z. if le_z smallest_int z && le_z z largest_int then Some (Int z) else None) else
+    (if begins (text "true") bs then Some (Truth true) else (if begins (text "false") bs then Some (Truth false) else None)))
 
 -- what is due, one token after the other
 pub data Due : Type 0 where
@@ -136,18 +136,18 @@ due (a ∷ E) = opening ∷ (concat (replicate (width a) (due E)) ++ (closing �
 
 -- the cells that a token gives where that is due; none if it doesn't fit
 unfoldable pub fits : ℕ → Due → List ℕ → Option (List Cell)
-fits t opening bs = if begins (text "[") bs then some [] else none
-fits t closing bs = if begins (text "]") bs then some [] else none
-fits t cell bs = map (λ c. c ∷ []) (cell_in t bs)
+fits t opening bs = if begins (text "[") bs then Some [] else None
+fits t closing bs = if begins (text "]") bs then Some [] else None
+fits t cell bs = option_map (λ c. c ∷ []) (cell_in t bs)
 
 -- the cells: 16 at the first token that is not what is due (the tokens of a whole object do not run out: json_trip, Enough)
 unfoldable pub fitted : ℕ → List Due → List Token → Res (List Cell)
-fitted t [] ks = got []
-fitted t (d ∷ ds) [] = refused (refusal misfit16 0 0)
+fitted t [] ks = Ok []
+fitted t (d ∷ ds) [] = Err (refusal misfit16 0 0)
 fitted t (d ∷ ds) (k ∷ ks) = do
   cs ← present (fits t d k.text) (refusal misfit16 0 k.place)
   more ← fitted t ds ks
-  got (cs ++ more)
+  Ok (cs ++ more)
 
 -- ---- reading
 
@@ -160,7 +160,7 @@ cells_as z t N E bs room = do
   ks ← data_of bs
   cs ← fitted t (due E) ks
   ensure (leb (cells E * cell_bytes) room) small_output14 0
-  got cs
+  Ok cs
 
 -- in the version told
 unfoldable pub cells_in : ℕ → ℕ → List Name → List Axis → List ℕ → ℕ → Res (List Cell)
@@ -170,8 +170,8 @@ cells_in v t N E bs room = do
 
 -- the number of cells is answered; bytes after the cells stay, a refusal leaves the cell buffer untouched
 unfoldable pub fill_with : List ℕ → Res (List Cell) → After
-fill_with buffer (got cs) = record { answer = got (length cs); buffer = over (cells_bytes cs) buffer }
-fill_with buffer (refused r) = record { answer = refused r; buffer = buffer }
+fill_with buffer (Ok cs) = record { answer = Ok (length cs); buffer = over (cells_bytes cs) buffer }
+fill_with buffer (Err r) = record { answer = Err r; buffer = buffer }
 
 abbrev pub read_json : ℕ → ℕ → List Name → List Axis → List ℕ → List ℕ → After
 read_json v t N E bs buffer = fill_with buffer (cells_in v t N E bs (length buffer))

@@ -1,11 +1,11 @@
 -- Paper 02, request [6], "Longer names, six axes": both sides of each line that it draws, computed from the definitions as one table
 -- under one claim.
-use Rattle.std.specs.Prelude.{ℕ, ◌≡◌, refl, Bool, true, List, [], ◌∷◌, ◌++◌, map, length, take, drop, replicate, ℤ, pos}
+use Rattle.std.specs.Prelude.{ℕ, ◌≡◌, refl, Bool, true, List, [], ◌∷◌, ◌++◌, map, length, take, drop, replicate, ℤ, pos, Ok}
 use Rattle.paper.specs.declared.Sizes.{Sizes}
 use Rattle.paper.specs.declared.Cell.{Cell}
 use Rattle.paper.specs.declared.Cell.TheVariants.{Int}
 use Rattle.paper.specs.Limits.{INT, version1, version2}
-use Rattle.paper.specs.Refusals.{got, ◌>>=◌}
+use Rattle.paper.specs.Refusals.{◌>>=◌}
 use Rattle.paper.specs.Numbers.{le_bytes, text, distance, position_bytes, same, concat}
 use Rattle.paper.specs.Axes.{letters_of, Array}
 use Rattle.paper.specs.Cells.{encode, cells_bytes}
@@ -51,7 +51,7 @@ sixes = bundle_bytes version2 (array INT six (counted 1 4) ∷ [])
 
 -- how many arrays are read
 abbrev reads : List ℕ → List ℕ
-reads bs = said one (read_bundle bs >>= (λ As. got (length As)))
+reads bs = said one (read_bundle bs >>= (λ As. Ok (length As)))
 
 -- a bundle with other version bytes
 abbrev versioned : ℕ → ℕ → List ℕ → List ℕ

@@ -1,6 +1,7 @@
 -- How the computed tables write their cases: axes, arrays, bundles and steps from the paper's own numbers, and answers as lists of
 -- numbers, 0 and the values, or the refusal's number, place and ordinality.
-use Rattle.std.specs.Prelude.{ℕ, Bool, true, ◌&&◌, List, [], ◌∷◌, ◌++◌, map, take, replicate, ℤ, pos, negsuc}
+use Rattle.std.specs.Prelude.{ℕ, Bool, true, ◌&&◌, List, [], ◌∷◌, ◌++◌, map, take, replicate, ℤ, pos, negsuc, Ok, Err}
+use Rattle.paper.specs.Operators.{Answer}
 use Prim.Native.String.{String}
 use Rattle.std.specs.Int.{w32}
 use Rattle.std.proofs.Common.{of_z}
@@ -9,12 +10,10 @@ use Rattle.paper.specs.declared.Name.{Name}
 use Rattle.paper.specs.declared.Axis.{Axis}
 use Rattle.paper.specs.declared.Cell.{Cell}
 use Rattle.paper.specs.declared.Cell.TheVariants.{Int}
-use Rattle.paper.specs.declared.Answer.{Answer}
-use Rattle.paper.specs.declared.Answer.TheVariants.{Is, Refused}
 use Rattle.paper.specs.declared.Totalled.{Totalled}
 use Rattle.paper.specs.declared.Listed.{Listed}
 use Rattle.paper.specs.Limits.{limit_bytes, version1}
-use Rattle.paper.specs.Refusals.{Res, got, refused}
+use Rattle.paper.specs.Refusals.{Res, fault_no}
 use Rattle.paper.specs.Numbers.{le_bytes, text, distance, from}
 use Rattle.paper.specs.Axes.{limited, Array, shaped, result}
 use Rattle.paper.specs.Bundle.{name_from, bundle_bytes}
@@ -82,8 +81,8 @@ numbers (z ∷ zs) = le_bytes limit_bytes (of_z w32 z) ++ numbers zs
 -- ---- answers
 
 abbrev pub said : {A : Type 0} → (A → List ℕ) → Res A → List ℕ
-said f (got a) = 0 ∷ f a
-said f (refused r) = r.number ∷ r.place ∷ r.ordinality ∷ []
+said f (Ok a) = 0 ∷ f a
+said f (Err r) = r.number ∷ r.place ∷ r.ordinality ∷ []
 
 -- a number; a cell; what an operator gives; a total; a page
 abbrev pub one : ℕ → List ℕ
@@ -93,8 +92,8 @@ abbrev pub is : Cell → List ℕ
 is c = 0 ∷ encode c
 
 abbrev pub operated : Answer → List ℕ
-operated (Is c) = is c
-operated (Refused n) = n ∷ []
+operated (Ok c) = is c
+operated (Err f) = fault_no f ∷ []
 
 abbrev pub totalled : Totalled → List ℕ
 totalled (Totalled.Count n) = n ∷ []

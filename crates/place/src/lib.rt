@@ -39,14 +39,10 @@ pub fn is_inside(e: Extent, p: Coordinate) -> bool
     ensures { result ≡ inside (axes_of e) (positions_of (axes_of e) p) }
 {
     let rank = extent::rank_of(e);
-    let mut i = 0;
-    while i < rank {
-        if !extent::on_axis(e.axes[i], p.at[i]) {
-            return false;
-        }
-        i += 1;
-    }
-    true
+    e.axes[..rank]
+        .iter()
+        .zip(&p.at[..rank])
+        .all(|(a, x)| extent::on_axis(*a, *x))
 }
 
 // The ordinality of a coordinate: 1 plus the sum over the axes, from the last to the first, with the product of the later widths.
@@ -57,12 +53,10 @@ pub fn ordinality_of(e: Extent, p: Coordinate) -> Ordinality
 {
     let mut sum: u64 = 0;
     let mut later: u64 = 1;
-    let mut i = extent::rank_of(e);
-    while 0 < i {
-        i -= 1;
+    for i in (0..extent::rank_of(e)).rev() {
         let a = e.axes[i];
         sum = above(a, p.at[i]) * later + sum;
-        later = extent::width_of(a) * later;
+        later *= extent::width_of(a);
     }
     Ordinality((sum + 1) as u32)
 }
@@ -75,13 +69,11 @@ pub fn coordinate_of(e: Extent, o: Ordinality) -> Coordinate
 {
     let mut at = [0u32; paper::AXES];
     let mut left = o.0 as u64 - 1;
-    let mut i = extent::rank_of(e);
-    while 0 < i {
-        i -= 1;
+    for i in (0..extent::rank_of(e)).rev() {
         let a = e.axes[i];
         let w = extent::width_of(a);
         at[i] = risen(a, left % w);
-        left = left / w;
+        left /= w;
     }
     Coordinate { at }
 }

@@ -1,12 +1,11 @@
 -- The cells that the quick loop works out: what it asks of its operands, and what is there after k cells. A turn's laws.
 use Prim.Native.Nat.{ℕ, zero, suc, ◌+◌, ◌*◌, ◌/◌, ◌≤◌, ◌<◌}
-use Rattle.std.specs.Prelude.{◌≡◌}
+use Rattle.std.specs.Prelude.{◌≡◌, Ok}
+use Rattle.paper.specs.Operators.{Answer}
 use Rattle.std.proofs.Math.Path.{refl, sym, ap, subst}
 use Rattle.std.proofs.Common.{◌∙◌, add-one, arith, length-append, length-drop, length-take-le, take-take, take_at}
 use mathlib.Core.List.{List, ◌++◌, append_assoc}
 use Rattle.std.proofs.Math.ListN.{length, take, drop}
-use Rattle.paper.specs.declared.Answer.{Answer}
-use Rattle.paper.specs.declared.Answer.TheVariants.{Is}
 use Rattle.paper.specs.declared.Cell.{Cell}
 use Rattle.paper.specs.Limits.{FLOAT, cell_bytes}
 use Rattle.paper.specs.Numbers.{le_bytes}
@@ -35,7 +34,7 @@ length-encode c = refl
 -- cell k is stored: it doesn't refuse, its nine bytes stand at their place, and all others stay
 pub record Stored (B : List ℕ) (base : ℕ) (q : Pairing) (k : ℕ) (work after : List ℕ) : Type 0 where
   pub cell : Cell
-  pub is : answer_at B (take base work) q k ≡ Is cell
+  pub is : answer_at B (take base work) q k ≡ Ok cell
   pub bytes : after ≡ take (base + k * cell_bytes) work ++ encode cell ++ drop (base + k * cell_bytes + cell_bytes) work
 
 -- a work area between: P holds of it, and the last cell leads from it on
@@ -125,7 +124,7 @@ module _ {B W : List ℕ} {base : ℕ} {q : Pairing} {n off : ℕ} {work : List 
         let w = t.asked.words k less (ap kind_of (sym e) ∙ z) in
         (read-so q.first x a.1 w.0, read-so q.second y b.1 w.1)
 
-    pub one_more : {r : Answer} → r ≡ answered code i x j y → {c : Cell} → r ≡ Is c → {after : List ℕ}
+    pub one_more : {r : Answer} → r ≡ answered code i x j y → {c : Cell} → r ≡ Ok c → {after : List ℕ}
         → after ≡ take (base + off) work ++ encode c ++ drop (base + off + cell_bytes) work → Upto B W base q n (off + cell_bytes) after
     unfolding WorkedOut
     one_more {r} s {c} v {after} d = record {

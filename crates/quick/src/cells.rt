@@ -7,11 +7,11 @@ ghost use Rattle.quick.specs.Cells.{Workable, Ahead};
 use crate::operands::{Pairing, Raw, raw_told};
 use cell::bytes::write_cell;
 use coded::{FLOAT_CODES, SINGLE_CODES, TRUTH_CODES, floats, ints, singles, truths};
-use paper::{Answer, CELL_BYTES};
+use paper::{CELL_BYTES, Cell, Fault};
 
 // What a code gives at two cells as they lie. The four are called here as well as by `computed`: a function with one caller becomes a part
 // of it, and a part that large is never put in line in a loop.
-fn worked(code: u8, a: Raw, b: Raw) -> Answer
+fn worked(code: u8, a: Raw, b: Raw) -> Result<Cell, Fault>
     requires { Judged code a.bits b.bits }
     ensures { result ≡ answered code a.mark a.bits b.mark b.bits }
 {
@@ -52,8 +52,8 @@ pub fn quick_cells(
         let b = raw_told(bundle, done, q.second, q.scalar, right, off);
         let got = worked(code, a, b);
         match got {
-            Answer::Is(c) => write_cell(work, base + off, c),
-            Answer::Refused(_) => return off / CELL_BYTES,
+            Ok(c) => write_cell(work, base + off, c),
+            Err(_) => return off / CELL_BYTES,
         }
         off += CELL_BYTES;
     }

@@ -1,11 +1,11 @@
 -- What stands under an operand's number, in the paper's terms: one of the bundle's arrays, the result of a step, or nothing.
 use Prim.Native.Nat.{ℕ, zero, suc, ◌+◌, ◌-◌, ◌≤◌, ◌<◌}
-use Rattle.std.specs.Prelude.{◌≡◌, Bool, List, [], ◌∷◌, ◌++◌, map, eqb, length, get_or, set, replicate, if◌then◌else◌}
+use Rattle.std.specs.Prelude.{◌≡◌, Bool, List, [], ◌∷◌, ◌++◌, map, eqb, length, get_or, set, replicate, if◌then◌else◌, Option, None, Some}
+use Rattle.std.specs.Option.{option_map}
 use Rattle.std.proofs.Math.Path.{refl, ap}
 use Rattle.std.proofs.Common.{sym, subst, ◌∙◌, length-set, get_or-set_same, get_or-set_other}
 use Rattle.std.proofs.Math.Bool.{true, false}
 use Rattle.std.proofs.Math.Option
-use Rattle.std.proofs.Math.Option.{Option, none, some}
 use native.Mathlib.Omega.{arith}
 use borrow.Author.Tests.{le-leb, lt-leb, leb-true, leb-false, eqb-true, eqb-false}
 use Rattle.std.proofs.Math.Dec.{leb}
@@ -38,19 +38,19 @@ side_of n = if leb n steps_from then bundle_side else work_side
 
 -- what is found under number n
 abbrev pub under : ℕ → Option Head → Operand
-under n none = no_operand false
-under n (some h) = placed (side_of n) h
+under n None = no_operand false
+under n (Some h) = placed (side_of n) h
 
 abbrev pub shape_in : Head → Shape
 shape_in h = shape_of h.form
 
 -- its shape
 abbrev pub found_shape : Operand → Option Shape
-found_shape o = if o.found then some (shape_in o.head) else none
+found_shape o = if o.found then Some (shape_in o.head) else None
 
-under-shape : (n : ℕ) (o : Option Head) → found_shape (under n o) ≡ Option.map shape_in o
-under-shape n none = refl
-under-shape n (some h) = refl
+under-shape : (n : ℕ) (o : Option Head) → found_shape (under n o) ≡ option_map shape_in o
+under-shape n None = refl
+under-shape n (Some h) = refl
 
 pub no-shape : shape_in no_head ≡ no_shape
 no-shape = form-shape no_shape refl (omega arith) (omega arith)
@@ -61,18 +61,18 @@ small-none = subst Small (sym (extent-axes [] (omega arith))) (record { sound = 
 
 -- ---- operands over lists
 
-operand-map : {A C : Type 0} (f : A → C) (xs ys : List A) (n : ℕ) → operand (map f xs) (map f ys) n ≡ Option.map f (operand xs ys n)
+operand-map : {A C : Type 0} (f : A → C) (xs ys : List A) (n : ℕ) → operand (map f xs) (map f ys) n ≡ option_map f (operand xs ys n)
 unfolding operand
 operand-map f xs ys n = by (leb n steps_from)
   where
     by : (b : Bool) → (if b then nth (map f xs) n else nth (map f ys) (n - steps_from))
-        ≡ Option.map f (if b then nth xs n else nth ys (n - steps_from))
+        ≡ option_map f (if b then nth xs n else nth ys (n - steps_from))
     by true = nth-mapped f xs n
     by false = nth-mapped f ys (n - steps_from)
 
 -- one array more
 module _ {A : Type 0} (xs ys : List A) (x : A) where
-  array-last : length xs < steps_from → operand (xs ++ (x ∷ [])) ys (suc (length xs)) ≡ some x
+  array-last : length xs < steps_from → operand (xs ++ (x ∷ [])) ys (suc (length xs)) ≡ Some x
   unfolding operand
   array-last h = rw (le-leb (suc (length xs)) steps_from (omega arith)) (nth_last xs x)
 
@@ -82,7 +82,7 @@ module _ {A : Type 0} (xs ys : List A) (x : A) where
 
 -- one result more
 module _ {A : Type 0} (xs ys : List A) (y : A) where
-  result-last : operand xs (ys ++ (y ∷ [])) (steps_from + suc (length ys)) ≡ some y
+  result-last : operand xs (ys ++ (y ∷ [])) (steps_from + suc (length ys)) ≡ Some y
   unfolding operand
   result-last =
       let e : steps_from + suc (length ys) - steps_from ≡ suc (length ys) = omega arith in
@@ -157,7 +157,7 @@ get_or-same zero n d = refl
 get_or-same (suc m) zero d = refl
 get_or-same (suc m) (suc n) d = get_or-same m n d
 
-nth-none : {A : Type 0} (n : ℕ) → nth {A = A} [] n ≡ none
+nth-none : {A : Type 0} (n : ℕ) → nth {A = A} [] n ≡ None
 nth-none zero = refl
 nth-none (suc n) = refl
 
@@ -169,7 +169,7 @@ none_named = record {
   at = λ n. get_or-same (suc (most_arrays + most_steps)) (slot_of n) (no_operand false) ∙ ap (under n) (by n (leb n steps_from));
 }
   where
-    by : (n : ℕ) (b : Bool) → none ≡ (if b then nth {A = Head} [] n else nth {A = Head} [] (n - steps_from))
+    by : (n : ℕ) (b : Bool) → None ≡ (if b then nth {A = Head} [] n else nth {A = Head} [] (n - steps_from))
     by n true = sym (nth-none n)
     by n false = sym (nth-none (n - steps_from))
 
@@ -178,7 +178,7 @@ module _ (arrays results : List Head) (l : List Operand) (v : Named arrays resul
   named-shape n = operand-map shape_in arrays results n ∙ sym (under-shape n (operand arrays results n)) ∙ sym (ap found_shape (v.at n))
 
   -- one number changed
-  set-named : (As Rs : List Head) (k : ℕ) (h : Head) → (slot_of k ≡ 0 → ⊥) → operand As Rs k ≡ some h
+  set-named : (As Rs : List Head) (k : ℕ) (h : Head) → (slot_of k ≡ 0 → ⊥) → operand As Rs k ≡ Some h
       → ((n : ℕ) → (n ≡ k → ⊥) → operand As Rs n ≡ operand arrays results n) → Named As Rs (set l (slot_of k) (placed (side_of k) h))
   set-named As Rs k h b e q =
       record { long = length-set l (slot_of k) (placed (side_of k) h) ∙ v.long; at = λ n. by n (eqb n k) refl }

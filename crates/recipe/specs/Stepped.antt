@@ -1,8 +1,7 @@
 -- One step's answer in the paper's terms: the step planned or the refusal, and what is kept of its result.
-use Rattle.std.specs.Prelude.{ℕ, ◌+◌, ◌-◌, ◌≤◌, ◌<◌, ◌≡◌, refl, Bool, true, false, not, List, [], ◌∷◌, take, drop, get_or, if◌then◌else◌}
+use Rattle.std.specs.Prelude.{ℕ, ◌+◌, ◌-◌, ◌≤◌, ◌<◌, ◌≡◌, refl, Bool, true, false, not, List, [], ◌∷◌, take, drop, get_or, if◌then◌else◌, Some, Ok, Err, None, Option}
 use Rattle.std.proofs.Math.Path.{sym, ap, subst}
 use Rattle.std.proofs.Common.{ap₂, ◌∙◌, le_refl, le_of_eq, arith, ne_eqb, length-append, length-take, length-drop, get_or-take, get_or-drop, take_all, length-take-le}
-use Rattle.std.proofs.Math.Option.{some}
 use Rattle.std.proofs.Math.Nat.{le_trans}
 use Rattle.std.proofs.Math.ListN.{length}
 use Rattle.paper.specs.declared.Version.{Version}
@@ -18,7 +17,7 @@ use Rattle.paper.specs.declared.Operation.{Operation}
 use Rattle.paper.specs.declared.Operation.TheVariants.{Moves, Works}
 use Rattle.paper.specs.declared.Move.TheVariants.{Trim, Slice, Reshape, Shift, Rename, Update, Put, Glue}
 use Rattle.paper.specs.Limits.{head_bytes, limit_bytes, pair_bytes, scalar_at, word_bytes, sizes_of}
-use Rattle.paper.specs.Refusals.{Res, got, refused, refusal, unknown4, bad_result9}
+use Rattle.paper.specs.Refusals.{Res, refusal, unknown4, bad_result9}
 use Rattle.paper.specs.Numbers.{part, none?, signed_at, position_at, moved}
 use Rattle.paper.specs.Axes.{width, cells, limited, axis_at, Shape}
 use Rattle.paper.specs.Recipe.{Step, Planned, operation, step_of, operand, no_shape, uses, axis_in, glued, result_names, result_axes, result_of, good_result, step_tests, step_result, step_over, plan_step}
@@ -32,9 +31,6 @@ use Rattle.extent.specs.Judged.{Small, good_cells, good-zero, good-some, good-sm
 use Rattle.shape.specs.Built.{few-without}
 use Rattle.shape.specs.Renewed.{length-anew}
 use Rattle.step.specs.declared.StepHead.{StepHead}
-use Rattle.step.specs.declared.operation.OperationGot.{OperationGot}
-use Rattle.step.specs.declared.operation.OperationGot.TheVariants.{Is, Unknown}
-use Rattle.step.specs.Told.{told_operation}
 use Rattle.step.specs.Steps.{detail_of, step_in, Detailed}
 use Rattle.step.specs.Named.{NamesTold, names-many}
 use Rattle.recipe.specs.declared.Operand.{Operand}
@@ -81,7 +77,7 @@ pub record Answered (v : Version) (bs : List ℕ) (at : ℕ) (r : Stepped) (m : 
 -- a refusal is one
 pub answer-refused : (v : Version) (bs : List ℕ) (at : ℕ) (r : Stepped) (m : Res Planned) (x : Refusal) → r ≡ stopped x
     → (x.number ≡ 0 → ⊥)
-    → refused x ≡ m → Answered v bs at r m
+    → Err x ≡ m → Answered v bs at r m
 answer-refused v bs at r m x e h q =
     subst (λ (r : Stepped). Answered v bs at r m) (sym e)
     (record { said = unless-refused x (planned_of bs no_step no_head) h ∙ q; kept = λ z. absurd (h z) })
@@ -163,7 +159,7 @@ module _ (bs : List ℕ) (step : StepHead) (a b : Form) (at k : ℕ) (r : Steppe
       (record {
         said =
             unless-got x (planned_of bs step h) (ap (λ (x : Refusal). x.number) z)
-            ∙ rw (ne_eqb (length axes) 0 w, g.0) (ap (λ (s : Shape). got (record { step = step_in bs step; shape = s })) q);
+            ∙ rw (ne_eqb (length axes) 0 w, g.0) (ap (λ (s : Shape). Ok (record { step = step_in bs step; shape = s })) q);
         kept = λ o. record {
           version = refl;
           small = subst Small (sym f) (good-small names axes g.0);
@@ -219,12 +215,12 @@ pub finishing : (bs : List ℕ) (step : StepHead) (a b : Operand) (k : ℕ) (x :
 finishing bs step a b k x t h p q d =
     let A = shape_in a.head in
     let B = shape_in (second_of step b).head in
-    let e : step_tests (sizes_of step.version) k (step_in bs step) A B ≡ got tt = sym t ∙ unless-got {A = Unit {0}} x tt h in
+    let e : step_tests (sizes_of step.version) k (step_in bs step) A B ≡ Ok tt = sym t ∙ unless-got {A = Unit {0}} x tt h in
     record {
       first = p.small;
       second = second-small step b q;
       detail = record { holds = d; few = p.few };
-      axis = (tests-passed {C = Unit {0}} (sizes_of step.version) k (step_in bs step) A B (got tt) tt (rw e)).0.axis;
+      axis = (tests-passed {C = Unit {0}} (sizes_of step.version) k (step_in bs step) A B (Ok tt) tt (rw e)).0.axis;
     }
 
 module _ (bs : List ℕ) (step : StepHead) (a b : Operand) (at k : ℕ) (r : Stepped) where
@@ -235,9 +231,9 @@ module _ (bs : List ℕ) (step : StepHead) (a b : Operand) (at k : ℕ) (r : Ste
       → operand_b arrays earlier st ≡ found_shape (second_of step b)
   second-found arrays earlier e = by (uses step.operation).b
     where
-      by : (t : Bool) → (if t then operand arrays earlier step.b else some no_shape) ≡ found_shape (if t then b else no_operand true)
+      by : (t : Bool) → (if t then operand arrays earlier step.b else Some no_shape) ≡ found_shape (if t then b else no_operand true)
       by true = e
-      by false = sym (ap some no-shape)
+      by false = sym (ap Some no-shape)
 
   pub no-a : r ≡ stopped (refusal unknown4 k 0) → a.found ≡ false → Judged bs step a b at k r
   unfolding step_over
@@ -322,18 +318,18 @@ module _ (s : List ℕ) (base : ℕ) (v : Version) where
         → operand arrays earlier (get_or s (base + 2) 0) ≡ found_shape b
         → Answered v s at r (plan_step z k arrays earlier (part base z.step s))
 
-  module _ (a b : Operand) (at k : ℕ) (r : Stepped) (g : OperationGot)
-      (e : told_operation g ≡ operation (get_or s base 0) (get_or s (base + head_bytes) 0)) where
-    pub step-unknown : g ≡ Unknown → r ≡ stopped (refusal unknown4 k 0) → PlannedAs a b at k r
+  module _ (a b : Operand) (at k : ℕ) (r : Stepped) (g : Option Operation)
+      (e : g ≡ operation (get_or s base 0) (get_or s (base + head_bytes) 0)) where
+    pub step-unknown : g ≡ None → r ≡ stopped (refusal unknown4 k 0) → PlannedAs a b at k r
     unfolding plan_step
     step-unknown q w =
-        let o = sym (sym op-there ∙ sym e ∙ ap told_operation q) in
+        let o = sym (sym op-there ∙ sym e ∙ q) in
         record { over = λ arrays earlier x y. answer-refused v s at r _ (refusal unknown4 k 0) w (λ z. omega arith) (rw (← o)) }
 
-    pub step-known : (op : Operation) → g ≡ Is op → Judged s (head_at op) a b at k r → PlannedAs a b at k r
+    pub step-known : (op : Operation) → g ≡ Some op → Judged s (head_at op) a b at k r → PlannedAs a b at k r
     unfolding plan_step
     step-known op q w =
-        let o = sym (sym op-there ∙ sym e ∙ ap told_operation q) in
+        let o = sym (sym op-there ∙ sym e ∙ q) in
         record {
           over = λ arrays earlier x y.
               let f : step_over z k arrays earlier (step_in s (head_at op)) ≡ plan_step z k arrays earlier (part base z.step s)

@@ -1,5 +1,5 @@
 -- The whole recipe: what a plan holds in the paper's terms, and the two loops that make it, each as a record with a law for each event.
-use Rattle.std.specs.Prelude.{ℕ, zero, suc, ◌+◌, ◌-◌, ◌*◌, ◌/◌, ◌%◌, ◌≤◌, ◌<◌, ◌≡◌, refl, Bool, true, false, ◌&&◌, List, [], ◌∷◌, ◌++◌, map, eqb, get_or, take, drop, set, replicate}
+use Rattle.std.specs.Prelude.{ℕ, zero, suc, ◌+◌, ◌-◌, ◌*◌, ◌/◌, ◌%◌, ◌≤◌, ◌<◌, ◌≡◌, refl, Bool, true, false, ◌&&◌, List, [], ◌∷◌, ◌++◌, map, eqb, get_or, take, drop, set, replicate, Ok, Err}
 use Rattle.std.proofs.Math.Path.{sym, ap}
 use Rattle.std.proofs.Common.{ap₂, ◌∙◌, append-nil, add-one, arith, eqb-true, length-set, length-drop, get_or-take, get_or-drop, get_or-set_same, get_or-set_other, drop-drop, take-suc, take-suc-set, length-take-le}
 use Rattle.std.proofs.lemmas.List.{map-append, length-map, length-replicate, drop-set-add, take-set-le}
@@ -12,7 +12,7 @@ use Rattle.paper.specs.declared.Head.{Head}
 use Rattle.paper.specs.declared.Reading.{Reading}
 use Rattle.paper.specs.declared.Refusal.{Refusal}
 use Rattle.paper.specs.Limits.{most_arrays, most_steps, most_cells, cell_bytes, sizes_of}
-use Rattle.paper.specs.Refusals.{Res, got, refused, refusal, unknown4, between}
+use Rattle.paper.specs.Refusals.{Res, refusal, unknown4, between}
 use Rattle.paper.specs.Numbers.{part, total}
 use Rattle.paper.specs.Recipe.{Planned, plan_step, plan_steps, plan_recipe, cells_of_all}
 use Rattle.paper.specs.Answers.{axes_of, unless}
@@ -267,7 +267,7 @@ module _ (u : Version) (s : List ℕ) (n : ℕ) (p : Plan) (v : Loop u s n p) (h
   left = omega arith
 
   -- a refusal of the step is the recipe's
-  pub steps-refused : (o.refusal.number ≡ 0 → ⊥) → refused o.refusal ≡ plan_steps z 1 n (map shape_in (arrays_of p)) [] s
+  pub steps-refused : (o.refusal.number ≡ 0 → ⊥) → Err o.refusal ≡ plan_steps z 1 n (map shape_in (arrays_of p)) [] s
   unfolding plan_steps in_front_of
   steps-refused y = sym (rw (left, ← w.said, unless-refused o.refusal planned y) refl) ∙ v.steps
 
@@ -429,7 +429,7 @@ module _ (R : Reading) (s : List ℕ) (p : Plan) where
   abbrev its : Sizes
   its = sizes_of R.version
 
-  all-refused : (x : Refusal) → p ≡ no_plan x → (x.number ≡ 0 → ⊥) → refused x ≡ plan_recipe its (map shape_in (arrays_in R)) s
+  all-refused : (x : Refusal) → p ≡ no_plan x → (x.number ≡ 0 → ⊥) → Err x ≡ plan_recipe its (map shape_in (arrays_in R)) s
       → PlannedAll R s p
   all-refused x e h q = rw e (record { said = unless-refused x (steps_of s (no_plan x)) h ∙ q; laid = λ z. absurd (h z) })
 
@@ -443,7 +443,7 @@ module _ (R : Reading) (s : List ℕ) (p : Plan) where
     length-good = rw g
 
     pub step-refused : (x : Refusal) → p ≡ no_plan x → (x.number ≡ 0 → ⊥)
-        → refused x ≡ plan_steps its 1 (length s / its.step) (map shape_in (arrays_in R)) [] s → PlannedAll R s p
+        → Err x ≡ plan_steps its 1 (length s / its.step) (map shape_in (arrays_in R)) [] s → PlannedAll R s p
     step-refused x e h q = all-refused x e h (q ∙ length-good)
 
     pub all-planned : Loop R.version s (length s / its.step) p → length s / its.step ≤ p.count → arrays_of p ≡ arrays_in R
@@ -453,7 +453,7 @@ module _ (R : Reading) (s : List ℕ) (p : Plan) where
         let e : length s / its.step - p.count ≡ 0 = omega (arith, v.turns) in
         record {
           said = unless-got p.refusal (steps_of s p) (ap (λ (r : Refusal). r.number) v.none)
-              ∙ ap got (sym (append-nil (steps_of s p))) ∙ sym (rw e refl) ∙ v.steps ∙ rw a length-good;
+              ∙ ap Ok (sym (append-nil (steps_of s p))) ∙ sym (rw e refl) ∙ v.steps ∙ rw a length-good;
           laid = λ z. (
             record {
               few = omega (arith, v.turns, v.few);

@@ -18,7 +18,7 @@ use refusals::{none, refuse, refuse_at};
 use shape::starred;
 use step::StepHead;
 use step::agreeing::difference;
-use step::operation::{OperationGot, operation_of};
+use step::operation::operation_of;
 use step::tests::{fits_in, result_extent, result_kind, result_names, types_fit};
 use step::unused::{Used, axis_in, unused_zero, used_by};
 
@@ -158,7 +158,7 @@ pub fn plan_step(
 {
     let got = operation_of(s[base], s[base + HEAD_BYTES]);
     match got {
-        OperationGot::Is(operation) => {
+        Some(operation) => {
             let step = StepHead {
                 operation,
                 a: s[base + 1],
@@ -169,6 +169,6 @@ pub fn plan_step(
             };
             return judge(step, a, b, at, k, s);
         }
-        OperationGot::Unknown => return refused_step(refuse(4, k.0)),
+        None => return refused_step(refuse(4, k.0)),
     }
 }

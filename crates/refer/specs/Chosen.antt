@@ -1,15 +1,14 @@
 -- An array of a bundle, chosen by its number, as the paper chooses it; and its cells by index.
-use Rattle.std.specs.Prelude.{ℕ, ◌+◌, ◌-◌, ◌*◌, ◌≤◌, ◌<◌, ◌≡◌, refl, List, [], map, take, drop, get_or}
+use Rattle.std.specs.Prelude.{ℕ, ◌+◌, ◌-◌, ◌*◌, ◌≤◌, ◌<◌, ◌≡◌, refl, List, [], map, take, drop, get_or, None, Ok, Err}
 use Rattle.std.proofs.Math.Path.{sym, ap, subst}
 use Rattle.std.proofs.Common.{◌∙◌, arith, drop-drop, length-take-le}
-use Rattle.std.proofs.Math.Option.{none}
 use Rattle.paper.specs.declared.Cell.TheVariants.{Empty}
 use Rattle.paper.specs.declared.Extent.{Extent}
 use Rattle.paper.specs.declared.Head.{Head}
 use Rattle.paper.specs.declared.Reading.{Reading}
 use Rattle.paper.specs.declared.Refusal.{Refusal}
 use Rattle.paper.specs.Limits.{cell_bytes}
-use Rattle.paper.specs.Refusals.{Res, got, refused, ◌>>=◌, refusal, present, unknown4}
+use Rattle.paper.specs.Refusals.{Res, ◌>>=◌, refusal, present, unknown4}
 use Rattle.paper.specs.Numbers.{part, nth}
 use Rattle.paper.specs.Axes.{Shape, Array}
 use Rattle.paper.specs.Cells.{cell_of}
@@ -50,8 +49,8 @@ pub record ChosenHead (bs : List ℕ) (k : ℕ) (r : Chosen) : Type 0 where
 
 -- ---- the ways out
 
-none-chosen : {bs : List ℕ} {k : ℕ} {r : Chosen} {x : Refusal} → r ≡ none_chosen x → (x.number ≡ 0 → ⊥) → refused x ≡ chosen bs k
-    → refused x ≡ array_told bs k → ChosenHead bs k r
+none-chosen : {bs : List ℕ} {k : ℕ} {r : Chosen} {x : Refusal} → r ≡ none_chosen x → (x.number ≡ 0 → ⊥) → Err x ≡ chosen bs k
+    → Err x ≡ array_told bs k → ChosenHead bs k r
 none-chosen {bs} {k} {r} {x} e h q t =
     record {
       said = ap (chosen_of bs) e ∙ unless-refused x _ h ∙ q;
@@ -70,7 +69,7 @@ module _ {bs : List ℕ} {o : Reading} (v : ReadAll bs o) {k : ℕ} {r : Chosen}
   pub bundle-refuses : (o.refusal.number ≡ 0 → ⊥) → r ≡ none_chosen o.refusal → ChosenHead bs k r
   unfolding chosen array_told reading
   bundle-refuses h e =
-      let q : refused o.refusal ≡ read_bundle bs = sym (unless-refused o.refusal _ h) ∙ v.arrays in
+      let q : Err o.refusal ≡ read_bundle bs = sym (unless-refused o.refusal _ h) ∙ v.arrays in
       none-chosen e h (rw (← q) refl) (rw (← q) refl)
 
 -- it was read
@@ -78,15 +77,15 @@ module _ {bs : List ℕ} {o : Reading} (v : ReadAll bs o) (y : o.refusal.number 
   abbrev heads : List Head
   heads = take o.count o.heads
 
-  its-arrays : got (map (array_at bs) heads) ≡ read_bundle bs
+  its-arrays : Ok (map (array_at bs) heads) ≡ read_bundle bs
   its-arrays = sym (unless-got o.refusal _ y) ∙ v.arrays
 
-  its-reading : got (map told_of heads) ≡ reading bs
+  its-reading : Ok (map told_of heads) ≡ reading bs
   its-reading = sym (unless-got o.refusal _ y) ∙ v.said
 
   module _ {k : ℕ} {r : Chosen} where
     -- no such array
-    unknown : nth heads k ≡ none → r ≡ none_chosen (refusal unknown4 k 0) → ChosenHead bs k r
+    unknown : nth heads k ≡ None → r ≡ none_chosen (refusal unknown4 k 0) → ChosenHead bs k r
     unfolding chosen array_told
     unknown n e =
         none-chosen e (λ f. omega arith) (rw (← its-arrays, nth-mapped (array_at bs) heads k, n) refl)
@@ -115,10 +114,10 @@ module _ {bs : List ℕ} {o : Reading} (v : ReadAll bs o) (y : o.refusal.number 
 -- ---- the array that was chosen, or its refusal
 
 module _ {bs : List ℕ} {k : ℕ} {c : Chosen} (v : ChosenHead bs k c) where
-  pub its-refusal : (c.refusal.number ≡ 0 → ⊥) → refused c.refusal ≡ chosen bs k
+  pub its-refusal : (c.refusal.number ≡ 0 → ⊥) → Err c.refusal ≡ chosen bs k
   its-refusal n = sym (unless-refused c.refusal _ n) ∙ v.said
 
-  pub its-array : c.refusal.number ≡ 0 → got (array_at bs c.head) ≡ chosen bs k
+  pub its-array : c.refusal.number ≡ 0 → Ok (array_at bs c.head) ≡ chosen bs k
   its-array y = sym (unless-got c.refusal _ y) ∙ v.said
 
 -- ---- its cells

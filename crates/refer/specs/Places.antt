@@ -1,5 +1,5 @@
 -- A reference by the place found, and a walk by its walking place: each way out of the code from the tests that lead to it.
-use Rattle.std.specs.Prelude.{ℕ, ◌+◌, ◌-◌, ◌*◌, ◌≤◌, ◌<◌, ◌≡◌, refl, Bool, true, List, map, length, take, get_or, set, ℤ, pos, if◌then◌else◌}
+use Rattle.std.specs.Prelude.{ℕ, ◌+◌, ◌-◌, ◌*◌, ◌≤◌, ◌<◌, ◌≡◌, refl, Bool, true, List, map, length, take, get_or, set, ℤ, pos, if◌then◌else◌, Ok, Err, Some, None}
 use Rattle.std.proofs.Common.{◌∙◌, add-one, arith, take-suc-set, take-suc, take_all}
 use Rattle.std.proofs.Math.Bool.{false}
 use borrow.Author.Tests.{eq-eqb, ne_eqb, le-leb, lt-leb}
@@ -12,9 +12,8 @@ use Rattle.paper.specs.declared.Head.{Head}
 use Rattle.paper.specs.declared.Place.{Place}
 use Rattle.paper.specs.declared.Place.TheVariants.{At, InMaximum, Beyond}
 use Rattle.paper.specs.declared.Ordinality.{Ordinality}
-use Rattle.paper.specs.declared.Seen.TheVariants.{Held, End}
 use Rattle.paper.specs.Limits.{cell_bytes}
-use Rattle.paper.specs.Refusals.{Res, got, refused, refusal, between, bad_axis5, outside6}
+use Rattle.paper.specs.Refusals.{Res, refusal, between, bad_axis5, outside6}
 use Rattle.paper.specs.Numbers.{part, distance}
 use Rattle.paper.specs.Axes.{cells, inside, ordinality, place_of, Shape, Array}
 use Rattle.paper.specs.Cells.{cell_of}
@@ -44,9 +43,9 @@ coordinate-end zs at i h k v =
 
 -- not inside the extent: empty inside the maximum, 6 beyond it
 abbrev pub elsewhere_of : ℕ → Place → Res Cell
-elsewhere_of k (At o) = got Empty
-elsewhere_of k InMaximum = got Empty
-elsewhere_of k Beyond = refused (refusal outside6 k 0)
+elsewhere_of k (At o) = Ok Empty
+elsewhere_of k InMaximum = Ok Empty
+elsewhere_of k Beyond = Err (refusal outside6 k 0)
 
 module _ {bs : List ℕ} {k : ℕ} (zs : List ℤ) {c : Chosen} (v : ChosenHead bs k c) where
   abbrev h : Head
@@ -56,13 +55,13 @@ module _ {bs : List ℕ} {k : ℕ} (zs : List ℤ) {c : Chosen} (v : ChosenHead 
   A = array_at bs c.head
 
   -- the array's own refusal
-  pub refer-refused : (c.refusal.number ≡ 0 → ⊥) → refused c.refusal ≡ reference bs k zs
+  pub refer-refused : (c.refusal.number ≡ 0 → ⊥) → Err c.refusal ≡ reference bs k zs
   unfolding reference
   refer-refused n = rw (← its-refusal v n)
 
   module _ (y : c.refusal.number ≡ 0) where
     -- another number of coordinates than axes
-    pub refer-count : (length zs ≡ length (shape_of h.form).axes → ⊥) → refused (refusal bad_axis5 k 0) ≡ reference bs k zs
+    pub refer-count : (length zs ≡ length (shape_of h.form).axes → ⊥) → Err (refusal bad_axis5 k 0) ≡ reference bs k zs
     unfolding reference array_at
     refer-count n = rw (← its-array v y, ne_eqb (length zs) (length (shape_of h.form).axes) n)
 
@@ -73,7 +72,7 @@ module _ {bs : List ℕ} {k : ℕ} (zs : List ℤ) {c : Chosen} (v : ChosenHead 
 
       -- inside the extent: the cell
       pub refer-inside : (o : ℕ) → p ≡ At (record { 0 = o }) → o - 1 < cells_in h.form
-          → got (or_empty (cell_of h.form.kind (part (h.at + (o - 1) * cell_bytes) cell_bytes bs))) ≡ reference bs k zs
+          → Ok (or_empty (cell_of h.form.kind (part (h.at + (o - 1) * cell_bytes) cell_bytes bs))) ≡ reference bs k zs
       unfolding referred
       refer-inside o f b = rw (← cell_at bs h (o - 1) b) (rw f at by_place)
 
@@ -94,7 +93,7 @@ place-bounds s p o e =
 
 -- refusal 6, and the place is kept
 abbrev pub outside_of : ℕ → ℕ → Walked
-outside_of k o = record { answer = refused (refusal outside6 k 0); place = o }
+outside_of k o = record { answer = Err (refusal outside6 k 0); place = o }
 
 pub none_before : (m o : ℕ) → o ≡ 0 → between 1 m o ≡ false
 none_before m o e = rw e
@@ -103,7 +102,7 @@ pub none-past : (m o : ℕ) → m < o → between 1 m o ≡ false
 none-past m o h = rw (le-leb 1 o (omega arith), lt-leb o m h)
 
 module _ {bs : List ℕ} {k : ℕ} (o : ℕ) {c : Chosen} (v : ChosenHead bs k c) where
-  pub walk_refused : (c.refusal.number ≡ 0 → ⊥) → ◌≡◌ {A = Walked} (record { answer = refused c.refusal; place = o }) (walk bs k o)
+  pub walk_refused : (c.refusal.number ≡ 0 → ⊥) → ◌≡◌ {A = Walked} (record { answer = Err c.refusal; place = o }) (walk bs k o)
   unfolding seen walked_on
   walk_refused n = rw (← its-refusal v n)
 
@@ -118,7 +117,7 @@ module _ {bs : List ℕ} {k : ℕ} (o : ℕ) {c : Chosen} (v : ChosenHead bs k c
     unfolding seen walked_on array_at
     walk-outside b = rw (← its-array v y, ← counted, b)
 
-    pub walk_end : o ≡ many + 1 → ◌≡◌ {A = Walked} (record { answer = got End; place = o }) (walk bs k o)
+    pub walk_end : o ≡ many + 1 → ◌≡◌ {A = Walked} (record { answer = Ok None; place = o }) (walk bs k o)
     unfolding seen walked_on array_at
     walk_end f =
         rw (← its-array v y, ← counted, le-leb 1 o (omega arith), le-leb o (many + 1) (omega arith), eq-eqb o (many + 1) f)
@@ -126,7 +125,7 @@ module _ {bs : List ℕ} {k : ℕ} (o : ℕ) {c : Chosen} (v : ChosenHead bs k c
     abbrev its : Cell
     its = or_empty (cell_of c.head.form.kind (part (c.head.at + (o - 1) * cell_bytes) cell_bytes bs))
 
-    pub walk-cell : 1 ≤ o → o ≤ many → ◌≡◌ {A = Walked} (record { answer = got (Held its); place = o + 1 }) (walk bs k o)
+    pub walk-cell : 1 ≤ o → o ≤ many → ◌≡◌ {A = Walked} (record { answer = Ok (Some its); place = o + 1 }) (walk bs k o)
     unfolding seen walked_on array_at
     walk-cell h g =
         let z : eqb o (many + 1) ≡ false = ne_eqb o (many + 1) (λ x. omega arith) in

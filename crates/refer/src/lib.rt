@@ -2,23 +2,19 @@
 #![tactic(auto)]
 
 ghost use Rattle.std.specs.Prelude.{◌≡◌, ◌+◌, ◌*◌, ◌≤◌, length, take, map};
-ghost use Rattle.std.specs.Int.{w32};
-ghost use Rattle.std.proofs.Common.{of_z};
 ghost use Rattle.paper.specs.Limits.{most_axes, cell_bytes};
 ghost use Rattle.paper.specs.Numbers.{part, distance};
 ghost use Rattle.paper.specs.Cells.{cell_of};
 ghost use Rattle.paper.specs.Reference.{reference, walk};
-ghost use Rattle.paper.specs.Answers.{reference_said, walk_said};
+ghost use Rattle.paper.specs.Answers.{walk_said};
 ghost use Rattle.laws.specs.Judged.{or_empty};
 ghost use Rattle.refer.specs.Chosen.{none_chosen, ChosenHead};
 ghost use Rattle.refer.specs.Places.{elsewhere_of, outside_of};
 
 use bundle::{no_head, read};
-use cell::bytes::{Got, read_cell};
+use cell::bytes::read_cell;
 use extent::rank_of;
-use paper::{
-    CELL_BYTES, Cell, Head, Ordinality, Place, ReferenceAnswer, Refusal, Seen, Walk, WalkAnswer,
-};
+use paper::{CELL_BYTES, Cell, Head, Ordinality, Place, Refusal, Walk};
 use place::{Coordinate, found};
 use positions::distance_of;
 use refusals::refuse;
@@ -65,25 +61,14 @@ pub fn held_cell(s: &[u8], at: usize, kind: u8, i: usize) -> Cell
     requires { at + i * cell_bytes + cell_bytes ≤ length s.now }
     ensures { result ≡ or_empty (cell_of kind (part (at + i * cell_bytes) cell_bytes s.now)) }
 {
-    let got = read_cell(s, at + i * CELL_BYTES, kind);
-    match got {
-        Got::Is(c) => c,
-        Got::Bad => Cell::Empty,
-    }
-}
-
-// The bits of a signed number: below 0 those of its complement, turned over.
-fn bits_of(z: i32) -> u32
-    ensures { result ≡ of_z w32 z }
-{
-    if z < 0 { !(!z as u32) } else { z as u32 }
+    read_cell(s, at + i * CELL_BYTES, kind).unwrap_or(Cell::Empty)
 }
 
 // The distance above -1,000,000 of a signed number.
 fn distance_to(z: i32) -> u32
     ensures { result ≡ distance z }
 {
-    distance_of(bits_of(z))
+    distance_of(z.cast_unsigned())
 }
 
 // A coordinate from its signed numbers.
@@ -92,36 +77,34 @@ fn coordinate_at(zs: &[i32]) -> Coordinate
     ensures { take (length zs.now) result.at ≡ map distance zs.now }
 {
     let mut at = [0u32; paper::AXES];
-    let mut i = 0;
-    while i < zs.len() {
-        at[i] = distance_to(zs[i]);
-        i += 1;
+    for (i, z) in zs.iter().enumerate() {
+        at[i] = distance_to(*z);
     }
     Coordinate { at }
 }
 
 // Not inside the extent: empty inside the maximum, 6 beyond it.
-fn elsewhere(place: Place, k: u32) -> ReferenceAnswer
-    ensures { reference_said result ≡ elsewhere_of k place }
+fn elsewhere(place: Place, k: u32) -> Result<Cell, Refusal>
+    ensures { result ≡ elsewhere_of k place }
 {
     match place {
-        Place::At(_) => ReferenceAnswer::Got(Cell::Empty),
-        Place::InMaximum => ReferenceAnswer::Got(Cell::Empty),
-        Place::Beyond => ReferenceAnswer::Refused(refuse(6, k)),
+        Place::At(_) => Ok(Cell::Empty),
+        Place::InMaximum => Ok(Cell::Empty),
+        Place::Beyond => Err(refuse(6, k)),
     }
 }
 
 // The cell of array k at a coordinate.
-pub fn refer(s: &[u8], k: u32, coordinates: &[i32]) -> ReferenceAnswer
-    ensures { reference_said result ≡ reference s.now k coordinates.now }
+pub fn refer(s: &[u8], k: u32, coordinates: &[i32]) -> Result<Cell, Refusal>
+    ensures { result ≡ reference s.now k coordinates.now }
 {
     let array = choose(s, k);
     let refusal = array.refusal;
     if refusal.number != 0 {
-        return ReferenceAnswer::Refused(refusal);
+        return Err(refusal);
     }
     if coordinates.len() != rank_of(array.head.form.extent) {
-        return ReferenceAnswer::Refused(refuse(5, k));
+        return Err(refuse(5, k));
     }
     let p = coordinate_at(coordinates);
     let place = found(array.head.form.extent, array.head.form.maximum, p);
@@ -129,7 +112,7 @@ pub fn refer(s: &[u8], k: u32, coordinates: &[i32]) -> ReferenceAnswer
         return elsewhere(place, k);
     };
     let i = o.0 as usize - 1;
-    ReferenceAnswer::Got(held_cell(s, array.head.at, array.head.form.kind, i))
+    Ok(held_cell(s, array.head.at, array.head.form.kind, i))
 }
 
 // A walking place outside: refusal 6, and the place is kept.
@@ -137,7 +120,7 @@ fn outside(k: u32, place: Ordinality) -> Walk
     ensures { walk_said result ≡ outside_of k place.0 }
 {
     Walk {
-        answer: WalkAnswer::Refused(refuse(6, k)),
+        answer: Err(refuse(6, k)),
         place,
     }
 }
@@ -150,7 +133,7 @@ pub fn walk_step(s: &[u8], k: u32, place: Ordinality) -> Walk
     let refusal = array.refusal;
     if refusal.number != 0 {
         return Walk {
-            answer: WalkAnswer::Refused(refusal),
+            answer: Err(refusal),
             place,
         };
     }
@@ -164,13 +147,13 @@ pub fn walk_step(s: &[u8], k: u32, place: Ordinality) -> Walk
     }
     if o == end {
         return Walk {
-            answer: WalkAnswer::Got(Seen::End),
+            answer: Ok(None),
             place,
         };
     }
     let cell = held_cell(s, array.head.at, array.head.form.kind, o - 1);
     Walk {
-        answer: WalkAnswer::Got(Seen::Held(cell)),
+        answer: Ok(Some(cell)),
         place: Ordinality(place.0 + 1),
     }
 }

@@ -3,9 +3,9 @@
 #![tactic(auto)]
 
 ghost use Rattle.std.specs.Prelude.{◌≡◌};
-ghost use Rattle.paper.specs.Refusals.{refusal, between};
+ghost use Rattle.paper.specs.Refusals.{refusal, between, fault_no};
 
-use paper::Refusal;
+use paper::{Fault, Refusal};
 
 // Refusal `number` at a place, with an ordinality.
 pub fn refuse_at(number: u8, place: u32, ordinality: u32) -> Refusal
@@ -30,6 +30,16 @@ pub fn none() -> Refusal
     ensures { result ≡ refusal 0 0 0 }
 {
     refuse_at(0, 0, 0)
+}
+
+// The refusal that a fault of an operator is.
+pub fn refuse_fault(fault: Fault, place: u32, ordinality: u32) -> Refusal
+    ensures { result ≡ refusal (fault_no fault) place ordinality }
+{
+    match fault {
+        Fault::NoFit => refuse_at(12, place, ordinality),
+        Fault::ByZero => refuse_at(13, place, ordinality),
+    }
 }
 
 // x is 1 to `most`.

@@ -1,6 +1,6 @@
 -- The text is the paper's. A page's tests look at the lengths of the work area and the row buffer alone; a row buffer for every cell
 -- holds the rows of all TRUE cells from the first on; and the lines of these rows are the paper's.
-use Rattle.std.specs.Prelude.{ℕ, suc, ◌+◌, ◌*◌, ◌/◌, ◌≤◌, ◌<◌, ◌≡◌, Bool, true, false, ◌||◌, leb, ltb, length, take, drop, replicate, if◌then◌else◌}
+use Rattle.std.specs.Prelude.{ℕ, suc, ◌+◌, ◌*◌, ◌/◌, ◌≤◌, ◌<◌, ◌≡◌, Bool, true, false, ◌||◌, leb, ltb, length, take, drop, replicate, if◌then◌else◌, Ok, Err}
 use Rattle.std.proofs.Math.Path.{refl, sym, ap, ap₂}
 use Rattle.std.proofs.Common.{subst, ◌∙◌, arith, div-lt_iff_lt-mul, length-append, take_all, take_at}
 use mathlib.Core.List.{List, [], ◌∷◌, ◌++◌}
@@ -9,10 +9,8 @@ use Rattle.std.proofs.lemmas.List.{length-replicate}
 use Rattle.paper.specs.declared.Cell.{Cell}
 use Rattle.paper.specs.declared.Listed.{Listed}
 use Rattle.paper.specs.declared.Refusal.{Refusal}
-use Rattle.paper.specs.declared.PageAnswer.{PageAnswer}
-use Rattle.paper.specs.declared.PageAnswer.TheVariants as Page
 use Rattle.paper.specs.Limits.{most_axes, most_cells}
-use Rattle.paper.specs.Refusals.{Res, got, refused, ◌>>=◌}
+use Rattle.paper.specs.Refusals.{Res, ◌>>=◌}
 use Rattle.paper.specs.Numbers.{text, over, last_of}
 use Rattle.paper.specs.Axes.{cells, Shape, Array}
 use Rattle.paper.specs.Cells.{is_true, trues}
@@ -20,7 +18,6 @@ use Rattle.paper.specs.Recipe.{Planned}
 use Rattle.paper.specs.Values.{values, no_array}
 use Rattle.paper.specs.Listing.{planned, last_shape, row_bytes, list_tests, page_tests, listed, Paged, page_of, page_values, page_after, page}
 use Rattle.paper.specs.Rests.{most_bytes, all_rows, refused_text, printed, rests}
-use Rattle.paper.specs.Answers.{page_said}
 use Rattle.laws.specs.Tests.{no-refusal, none-refused, got-one, bind-got}
 use Rattle.laws.specs.Limits.{limits-true}
 use Rattle.laws.specs.Pages.{trues-no, trues-yes}
@@ -84,47 +81,47 @@ tests_same B R W₀ L₀ W L start e f = rw (e, f) refl
 abbrev values_of : Res (List Array × List Planned) → Res (List Array)
 values_of t = t >>= (λ x. values x.0 x.1)
 
-tests-planned : (B R W L : List ℕ) (start : ℕ) (As : List Array) (ps : List Planned) → page_tests B R W start L ≡ got (As, ps)
-    → planned B R ≡ got (As, ps)
+tests-planned : (B R W L : List ℕ) (start : ℕ) (As : List Array) (ps : List Planned) → page_tests B R W start L ≡ Ok (As, ps)
+    → planned B R ≡ Ok (As, ps)
 unfolding page_tests
 tests-planned B R W L start As ps e =
     let a = bind-got (planned B R) _ (As, ps) e in
     let b = bind-got (list_tests a.0.1 (length W) start (length L)) _ (As, ps) a.2 in
-    a.1 ∙ ap got (got-one a.0 (As, ps) b.2)
+    a.1 ∙ ap Ok (got-one a.0 (As, ps) b.2)
 
 -- ---- what a page says
 
-same-refusal : {A : Type 0} (x y : Refusal) → ◌≡◌ {A = Res A} (refused x) (refused y) → x ≡ y
+same-refusal : {A : Type 0} (x y : Refusal) → ◌≡◌ {A = Res A} (Err x) (Err y) → x ≡ y
 same-refusal x y e = cc
 
 -- a refusal
-values-refused : (v : Res (List Array)) (ps : List Planned) (W L : List ℕ) (r : Refusal) → refused r ≡ (page_values ps W 1 L v).answer
+values-refused : (v : Res (List Array)) (ps : List Planned) (W L : List ℕ) (r : Refusal) → Err r ≡ (page_values ps W 1 L v).answer
     → refused_text r ≡ printed v
 unfolding page_values page_of printed
-values-refused (got Rs) ps W L r e = absurd (no-refusal r _ e)
-values-refused (refused x) ps W L r e = ap refused_text (same-refusal r x e)
+values-refused (Ok Rs) ps W L r e = absurd (no-refusal r _ e)
+values-refused (Err x) ps W L r e = ap refused_text (same-refusal r x e)
 
-page-refused : (t : Res (List Array × List Planned)) (W L : List ℕ) (r : Refusal) → refused r ≡ (page_after W 1 L t).answer
+page-refused : (t : Res (List Array × List Planned)) (W L : List ℕ) (r : Refusal) → Err r ≡ (page_after W 1 L t).answer
     → refused_text r ≡ printed (values_of t)
 unfolding page_after printed
-page-refused (got x) W L r e = values-refused (values x.0 x.1) x.1 W L r e
-page-refused (refused x) W L r e = ap refused_text (same-refusal r x e)
+page-refused (Ok x) W L r e = values-refused (values x.0 x.1) x.1 W L r e
+page-refused (Err x) W L r e = ap refused_text (same-refusal r x e)
 
 -- a listing of n rows
 record Told (t : Res (List Array × List Planned)) (L : List ℕ) (n : ℕ) (rows : List ℕ) : Type 0 where
   As : List Array
   ps : List Planned
   Rs : List Array
-  tests : t ≡ got (As, ps)
-  valued : values As ps ≡ got Rs
+  tests : t ≡ Ok (As, ps)
+  valued : values As ps ≡ Ok Rs
   count : n ≡ length (listed (last_of no_array Rs) 1 (length L / row_bytes (last_of no_array Rs).shape))
   bytes : rows ≡ over (rows_of (last_of no_array Rs).shape (listed (last_of no_array Rs) 1 (length L / row_bytes (last_of no_array Rs).shape))) L
 
 module _ (W L : List ℕ) (l : Listed) (w rows : List ℕ) where
   values-told : (As : List Array) (ps : List Planned) (v : Res (List Array)) → values As ps ≡ v
-      → record { answer = got l; work = w; rows = rows } ≡ page_values ps W 1 L v → Told (got (As, ps)) L l.written rows
+      → record { answer = Ok l; work = w; rows = rows } ≡ page_values ps W 1 L v → Told (Ok (As, ps)) L l.written rows
   unfolding page_values page_of
-  values-told As ps (got Rs) q e = record {
+  values-told As ps (Ok Rs) q e = record {
     As = As;
     ps = ps;
     Rs = Rs;
@@ -133,13 +130,13 @@ module _ (W L : List ℕ) (l : Listed) (w rows : List ℕ) where
     count = ap (λ (x : Listed). x.written) (got-one l _ (ap (λ (p : Paged). p.answer) e));
     bytes = ap (λ (p : Paged). p.rows) e;
   }
-  values-told As ps (refused x) q e = absurd (none-refused l x (ap (λ (p : Paged). p.answer) e))
+  values-told As ps (Err x) q e = absurd (none-refused l x (ap (λ (p : Paged). p.answer) e))
 
-  page-told : (t : Res (List Array × List Planned)) → record { answer = got l; work = w; rows = rows } ≡ page_after W 1 L t
+  page-told : (t : Res (List Array × List Planned)) → record { answer = Ok l; work = w; rows = rows } ≡ page_after W 1 L t
       → Told t L l.written rows
   unfolding page_after
-  page-told (got x) e = values-told x.0 x.1 (values x.0 x.1) refl e
-  page-told (refused x) e = absurd (none-refused l x (ap (λ (p : Paged). p.answer) e))
+  page-told (Ok x) e = values-told x.0 x.1 (values x.0 x.1) refl e
+  page-told (Err x) e = absurd (none-refused l x (ap (λ (p : Paged). p.answer) e))
 
 -- ---- all TRUE cells
 
@@ -180,8 +177,8 @@ pub record Written (B R rows : List ℕ) (k n : ℕ) : Type 0 where
   pub room : n * size_of k ≤ length rows
   pub is : listing_at rows k n ≡ rests B R
 
-module _ (B R L rows : List ℕ) (n k : ℕ) (As : List Array) (ps : List Planned) (Rs : List Array) (e : planned B R ≡ got (As, ps))
-    (v : values As ps ≡ got Rs)
+module _ (B R L rows : List ℕ) (n k : ℕ) (As : List Array) (ps : List Planned) (Rs : List Array) (e : planned B R ≡ Ok (As, ps))
+    (v : values As ps ≡ Ok Rs)
     (h_l : length L ≡ all_rows) (f : k ≤ most_axes) (u : k ≡ length (last_shape ps).axes) where
   abbrev A : Array
   A = last_of no_array Rs
@@ -218,7 +215,7 @@ module _ (B R L rows : List ℕ) (n k : ℕ) (As : List Array) (ps : List Planne
         let m : n * size_of k ≡ length os * row_bytes s = ap₂ (λ (i j : ℕ). i * j) c z in
         omega (arith, m, ap length b, length-append (rows_of s os) (drop (length (rows_of s os)) L), length-rows s os)
 
-    listing-is : listing_at rows k n ≡ printed (got Rs)
+    listing-is : listing_at rows k n ≡ printed (Ok Rs)
     unfolding printed
     listing-is =
         let i = trues-between A.cells 1 (cells s.axes) (omega arith) (omega (arith, whole)) in
@@ -235,13 +232,13 @@ module _ (B R W L : List ℕ) (h_b : length B ≤ most_bytes) (h_r : length R �
       let e = tests_same B R (replicate most_bytes 0) (replicate all_rows 0) W L 1 (length-replicate {A = ℕ} most_bytes 0 ∙ sym h_w) (length-replicate {A = ℕ} all_rows 0 ∙ sym h_l) in
       rw (le-ltb most_bytes (length B) h_b, le-ltb most_bytes (length R) h_r) (ap (λ (t : Res (List Array × List Planned)). printed (values_of t)) e)
 
-  module _ (r : PageRows) (w rows : List ℕ) (e : record { answer = page_said r.answer; work = w; rows = rows } ≡ page B R W 1 L) where
-    pub refused-text : (x : Refusal) → r.answer ≡ Page.Refused x → refused_text x ≡ rests B R
-    refused-text x q = page-refused (page_tests B R W 1 L) W L x (ap page_said (sym q) ∙ ap (λ (p : Paged). p.answer) e) ∙ sym rests-is
+  module _ (r : PageRows) (w rows : List ℕ) (e : record { answer = r.answer; work = w; rows = rows } ≡ page B R W 1 L) where
+    pub refused-text : (x : Refusal) → r.answer ≡ Err x → refused_text x ≡ rests B R
+    refused-text x q = page-refused (page_tests B R W 1 L) W L x (sym q ∙ ap (λ (p : Paged). p.answer) e) ∙ sym rests-is
 
-    pub listing-text : RowAxes B R r → (x : Listed) → r.answer ≡ Page.Got x → Written B R rows r.axes x.written
+    pub listing-text : RowAxes B R r → (x : Listed) → r.answer ≡ Ok x → Written B R rows r.axes x.written
     listing-text n x q =
-        let f : PageAnswer → Paged = λ y. record { answer = page_said y; work = w; rows = rows } in
+        let f : Res Listed → Paged = λ y. record { answer = y; work = w; rows = rows } in
         let t = page-told W L x w rows (page_tests B R W 1 L) (ap f (sym q) ∙ e) in
         let p = tests-planned B R W L 1 t.As t.ps t.tests in
         let k = r.axes in
@@ -250,7 +247,7 @@ module _ (B R W L : List ℕ) (h_b : length B ≤ most_bytes) (h_r : length R �
         let o = all_listed B R L rows x.written k t.As t.ps t.Rs p t.valued h_l n.few u in
         let c : x.written ≡ length (trues 1 A.cells) = t.count ∙ ap length o in
         let b : rows ≡ over (rows_of A.shape (trues 1 A.cells)) L = t.bytes ∙ ap (λ (os : List ℕ). over (rows_of A.shape os) L) o in
-        let y : printed (got t.Rs) ≡ rests B R = sym (rests-is ∙ ap (λ (r : Res (List Array × List Planned)). printed (values_of r)) t.tests ∙ ap printed t.valued) in
+        let y : printed (Ok t.Rs) ≡ rests B R = sym (rests-is ∙ ap (λ (r : Res (List Array × List Planned)). printed (values_of r)) t.tests ∙ ap printed t.valued) in
         record {
           few = few-rows B R L rows x.written k t.As t.ps t.Rs p t.valued h_l n.few u c b;
           room = room-rows B R L rows x.written k t.As t.ps t.Rs p t.valued h_l n.few u c b;

@@ -13,7 +13,7 @@ ghost use Rattle.report.specs.Texts.{most_text, Left};
 
 use cell::bytes::copy_bytes;
 use decimal::{put_found, put_refusal, put_row};
-use paper::{FILE_BYTES, LIMIT_BYTES, Ordinality, PageAnswer};
+use paper::{FILE_BYTES, LIMIT_BYTES, Ordinality};
 use run::page_rows;
 
 // ---- parts of the text
@@ -76,7 +76,7 @@ pub fn report(
     let paged = page_rows(bundle, recipe, work, Ordinality(1), rows);
     let answer = paged.answer;
     match answer {
-        PageAnswer::Refused(refusal) => put_refusal(out, 0, refusal),
-        PageAnswer::Got(listed) => put_listing(rows, listed.written as usize, paged.axes, out),
+        Err(refusal) => put_refusal(out, 0, refusal),
+        Ok(listed) => put_listing(rows, listed.written as usize, paged.axes, out),
     }
 }

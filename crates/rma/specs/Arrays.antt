@@ -1,6 +1,6 @@
 -- The arrays of a bundle, as the face tells of them: how many, and of one its shape and where its cells begin, a number small enough for
 -- four bytes.
-use Rattle.std.specs.Prelude.{ℕ, ◌+◌, ◌*◌, ◌^◌, ◌≤◌, ◌<◌, ◌≡◌, List, [], ◌∷◌, map}
+use Rattle.std.specs.Prelude.{ℕ, ◌+◌, ◌*◌, ◌^◌, ◌≤◌, ◌<◌, ◌≡◌, List, [], ◌∷◌, map, Ok, Err}
 use Rattle.std.proofs.Math.Path.{refl, sym, ap}
 use Rattle.std.proofs.Common.{◌∙◌, mul-le-mul, le_trans, length-append}
 use native.Mathlib.Omega.{arith}
@@ -9,7 +9,6 @@ use Rattle.std.proofs.Math.Seq.{length-take-le}
 use Rattle.paper.specs.declared.Version.{Version}
 use Rattle.paper.specs.declared.Reading.{Reading}
 use Rattle.paper.specs.Limits.{most_arrays, most_axes, half_name, limits_bytes, sizes_of}
-use Rattle.paper.specs.Refusals.{got, refused}
 use Rattle.paper.specs.Numbers.{le_bytes, concat}
 use Rattle.paper.specs.Axes.{Array}
 use Rattle.paper.specs.Cells.{cells_bytes}
@@ -37,16 +36,16 @@ use Rattle.c_told.specs.Replies.{Tells, most, four, four-told}
 -- ---- how many there are
 
 module _ {bs : List ℕ} {o : Reading} (v : ReadAll bs o) where
-  pub count-refused : (o.refusal.number ≡ 0 → ⊥) → count_of bs ≡ refused o.refusal
+  pub count-refused : (o.refusal.number ≡ 0 → ⊥) → count_of bs ≡ Err o.refusal
   unfolding count_of
   count-refused h =
-      let q : refused o.refusal ≡ read_bundle bs = sym (unless-refused o.refusal _ h) ∙ v.arrays in rw (← q) refl
+      let q : Err o.refusal ≡ read_bundle bs = sym (unless-refused o.refusal _ h) ∙ v.arrays in rw (← q) refl
 
-  pub count-got : o.refusal.number ≡ 0 → count_of bs ≡ got o.count
+  pub count-got : o.refusal.number ≡ 0 → count_of bs ≡ Ok o.count
   unfolding count_of
   count-got y =
       let hs = take o.count o.heads in
-      let q : got (map (array_at bs) hs) ≡ read_bundle bs = sym (unless-got o.refusal _ y) ∙ v.arrays in
+      let q : Ok (map (array_at bs) hs) ≡ read_bundle bs = sym (unless-got o.refusal _ y) ∙ v.arrays in
       rw (← q, length-map hs (array_at bs), length-take-le o.count o.heads v.room) refl
 
 -- ---- one of them
@@ -75,11 +74,11 @@ arrays-short u (A ∷ As) v =
     )
 
 module _ {bs : List ℕ} {k : ℕ} {c : Chosen} (v : ChosenHead bs k c) where
-  pub array-refused : (c.refusal.number ≡ 0 → ⊥) → array_told bs k ≡ refused c.refusal
+  pub array-refused : (c.refusal.number ≡ 0 → ⊥) → array_told bs k ≡ Err c.refusal
   array-refused n = sym v.told ∙ unless-refused c.refusal _ n
 
   module _ (y : c.refusal.number ≡ 0) where
-    pub array-got : array_told bs k ≡ got (told_of c.head)
+    pub array-got : array_told bs k ≡ Ok (told_of c.head)
     array-got = sym v.told ∙ unless-got c.refusal _ y
 
     -- where its cells begin fits into four bytes: it lies in a bundle's, which are few
@@ -99,5 +98,5 @@ module _ {bs : List ℕ} {k : ℕ} {c : Chosen} (v : ChosenHead bs k c) where
     -- the four numbers that are told of it
     pub array-said : {rank : ℕ} {r : Reply} → rank ≡ length (axes_of c.head.form.extent)
         → r ≡ four 0 most c.head.form.kind rank c.head.cells c.head.at
-        → Tells (answered array_bytes (got (told_of c.head))) r
+        → Tells (answered array_bytes (Ok (told_of c.head))) r
     array-said p e = four-told 0 _ _ _ _ _ (rw (p, (v.fit y).counted) at e)

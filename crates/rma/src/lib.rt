@@ -25,12 +25,12 @@ use extent::rank_of;
 use json_read::read_as;
 use json_write::write;
 use pack::pack_as;
-use paper::{AxisIndex, JsonAnswer, NumberAnswer, Ordinality, StretchAnswer};
+use paper::{AxisIndex, JsonRefusal, Ordinality, Part, Refusal};
 use refer::choose;
 use refusals::refuse;
 use run::{page, plan, run};
 use stretch::plan_as;
-use versions::{Told, version_told};
+use versions::version_told;
 
 // ---- a bundle
 
@@ -78,17 +78,13 @@ pub fn rma_array(bundle: &[u8], array: u32, said: &mut [u8]) -> u32
 }
 
 // The bundle of the arrays that `heads` describes, in the version told; another than 1 and 2 is refused before all else.
-fn pack_heads(version: u32, heads: &[u8], cells: &[u8], out: &mut [u8]) -> NumberAnswer
+fn pack_heads(version: u32, heads: &[u8], cells: &[u8], out: &mut [u8]) -> Result<u32, Refusal>
     ensures { HeadsPacked version heads.now cells.now out.old result out.new }
 {
-    match version_told(version) {
-        Told::Is(v) => {
-            let asked = forms_in(v, heads);
-            let forms = asked.forms;
-            return pack_as(v, asked.count, forms, cells, out);
-        }
-        Told::Unknown => return NumberAnswer::Refused(refuse(1, 0)),
-    }
+    let v = version_told(version)?;
+    let asked = forms_in(v, heads);
+    let forms = asked.forms;
+    pack_as(v, asked.count, forms, cells, out)
 }
 
 // The bundle of the arrays that `heads` describes, with their cells, in `out`: its length.
@@ -138,17 +134,18 @@ pub fn rma_write_json(bundle: &[u8], array: u32, out: &mut [u8], said: &mut [u8]
 }
 
 // A text read into the cells of the array that `head` describes, in the version told; another than 1 and 2 is refused before all else.
-fn json_by_head(version: u32, head: &[u8], text: &[u8], cells: &mut [u8]) -> JsonAnswer
+fn json_by_head(
+    version: u32,
+    head: &[u8],
+    text: &[u8],
+    cells: &mut [u8],
+) -> Result<u32, JsonRefusal>
     ensures { HeadRead version head.now text.now cells.old result cells.new }
 {
-    match version_told(version) {
-        Told::Is(v) => {
-            let form = side_form(v, head);
-            let names = form.names;
-            return read_as(v, form.kind, names, form.extent, text, cells);
-        }
-        Told::Unknown => return JsonAnswer::Refused(refuse(1, 0)),
-    }
+    let v = version_told(version)?;
+    let form = side_form(v, head);
+    let names = form.names;
+    read_as(v, form.kind, names, form.extent, text, cells)
 }
 
 // JSON read into `cells`, of the type and extent that `head` names: the number of cells. A byte place that is refused never wraps.
@@ -226,31 +223,27 @@ fn stretch_heads(
     right: usize,
     axis: AxisIndex,
     o: Ordinality,
-) -> StretchAnswer
+) -> Result<Part, Refusal>
     ensures { HeadsStretched version left_head.now left right_head.now right axis.0 o.0 result }
 {
-    match version_told(version) {
-        Told::Is(v) => {
-            let l = side_form(v, left_head);
-            let r = side_form(v, right_head);
-            let left_names = l.names;
-            let right_names = r.names;
-            return plan_as(
-                v,
-                l.kind,
-                left_names,
-                l.extent,
-                left,
-                r.kind,
-                right_names,
-                r.extent,
-                right,
-                axis,
-                o,
-            );
-        }
-        Told::Unknown => return StretchAnswer::Refused(refuse(1, 0)),
-    }
+    let v = version_told(version)?;
+    let l = side_form(v, left_head);
+    let r = side_form(v, right_head);
+    let left_names = l.names;
+    let right_names = r.names;
+    plan_as(
+        v,
+        l.kind,
+        left_names,
+        l.extent,
+        left,
+        r.kind,
+        right_names,
+        r.extent,
+        right,
+        axis,
+        o,
+    )
 }
 
 // The stretch from an ordinality on: its side, 1 for the left and 2 for the right, and the bytes of that side's cells from and up to

@@ -1,10 +1,9 @@
 -- Where reading says that an array's cells lie, there they lie: for code that keeps a bundle's bytes and reads cells from them.
 -- An array's head is as long as its axis count says and its cells' bytes as its extent says, so that the next array begins after both.
-use Rattle.std.specs.Prelude.{◌≡◌, refl, List, [], ◌∷◌, ◌++◌, map, ℕ, ◌+◌, ◌*◌, ◌≤◌, length, take, drop}
+use Rattle.std.specs.Prelude.{◌≡◌, refl, List, [], ◌∷◌, ◌++◌, map, ℕ, ◌+◌, ◌*◌, ◌≤◌, length, take, drop, Ok}
 use Rattle.std.proofs.Common.{sym, ap, subst, ◌∙◌, arith, length-append, length-drop, take_at, drop_at, drop-drop}
 use Rattle.paper.specs.declared.Sizes.{Sizes}
 use Rattle.paper.specs.Limits.{type_bytes, cell_bytes}
-use Rattle.paper.specs.Refusals.{got}
 use Rattle.paper.specs.Numbers.{le_bytes, concat, part}
 use Rattle.paper.specs.Axes.{cells, Shape, Array}
 use Rattle.paper.specs.Cells.{cells_bytes}
@@ -48,7 +47,7 @@ arrays-lie z f bs (A ∷ As) i l v e =
     )
 
 -- of a bundle that reading accepts
-pub cells-lie : (bs : List ℕ) (As : List Array) → Bytes bs → read_bundle bs ≡ got As
+pub cells-lie : (bs : List ℕ) (As : List Array) → Bytes bs → read_bundle bs ≡ Ok As
     → Lying bs (lying_from (sizes_in bs) (mark_bytes + 1) As) As
 unfolding bundle_bytes le_bytes
 cells-lie bs As h e =
@@ -57,8 +56,8 @@ cells-lie bs As h e =
     (ap (drop (mark_bytes + 1)) (sym r.bytes))
 
 -- so of what `reading` answers
-pub reading-lies : (bs : List ℕ) (ps : List (Shape × ℕ)) → Bytes bs → reading bs ≡ got ps
-    → (As : List Array) × (read_bundle bs ≡ got As) × Lying bs ps As
+pub reading-lies : (bs : List ℕ) (ps : List (Shape × ℕ)) → Bytes bs → reading bs ≡ Ok ps
+    → (As : List Array) × (read_bundle bs ≡ Ok As) × Lying bs ps As
 unfolding reading
 reading-lies bs ps h e =
     let a = bind-got (read_bundle bs) _ ps e in (

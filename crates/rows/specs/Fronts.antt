@@ -1,6 +1,6 @@
 -- The first axes of an extent and those after, as the code takes them: of its array, by an index from 0. What is known of axes put
 -- together is so known of two extents beside each other.
-use Rattle.std.specs.Prelude.{ℕ, suc, ◌+◌, ◌-◌, ◌*◌, ◌/◌, ◌%◌, ◌≤◌, ◌<◌, ◌≡◌, true, List, ◌∷◌, ◌++◌, eqb, length, take, drop}
+use Rattle.std.specs.Prelude.{ℕ, suc, ◌+◌, ◌-◌, ◌*◌, ◌/◌, ◌%◌, ◌≤◌, ◌<◌, ◌≡◌, true, List, ◌∷◌, ◌++◌, eqb, length, take, drop, None}
 use Rattle.std.proofs.Common.{sym, ap, ◌∙◌, mul-le-mul_right, div-lt_iff_lt-mul, mod-lt, one-mul, mul_comm, add-mul, add-one, arith, eqb-true, le-leb, length-take, take-append-drop, length-take-le, drop-cons, get_or-take, take-take}
 use Rattle.paper.specs.declared.Axis.{Axis}
 use Rattle.paper.specs.declared.Extent.{Extent}
@@ -15,7 +15,6 @@ use Rattle.laws.specs.Joins.{cells-append}
 use Rattle.extent.specs.Rank.{axis_no}
 use Rattle.extent.specs.Judged.{Small}
 use Rattle.origin.specs.Asks.{Beside}
-use Rattle.origin.specs.declared.Found.TheVariants.{Outside}
 use Rattle.origin.specs.Origins.{found_in}
 use Rattle.rows.specs.Sides.{SideBySide, SideLeft, Lined, uneven-side, outside-side, lined_on}
 
@@ -85,7 +84,7 @@ module _ {G E : List Axis} {k : ℕ} (b : Beside G E k) where
           let one : 1 * m ≤ n * m = mul-le-mul_right m run.some in
           (omega (arith, add-mul (k / m) n m, cells-parted G c), omega (arith, mod-lt k some_after, one-mul m))
 
-      pub around-side : found_in (take c E) (at_offset (take c G) (k / cells (drop c G))) ≡ Outside
+      pub around-side : found_in (take c E) (at_offset (take c G) (k / cells (drop c G))) ≡ None
           → SideBySide G E k (n * cells (drop c G) - k % cells (drop c G))
       around-side out =
           rw (take-append-drop c G, take-append-drop c E) at

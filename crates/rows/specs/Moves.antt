@@ -1,6 +1,6 @@
 -- The runs and lines of each move, read off where its cells come from: found in an extent, the same cell, a layer of each block, or two
 -- arrays' blocks in turn.
-use Rattle.std.specs.Prelude.{ℕ, ◌+◌, ◌-◌, ◌*◌, ◌/◌, ◌%◌, ◌≤◌, ◌<◌, ◌≡◌, refl, Bool, true, false, List, ltb, if◌then◌else◌}
+use Rattle.std.specs.Prelude.{ℕ, ◌+◌, ◌-◌, ◌*◌, ◌/◌, ◌%◌, ◌≤◌, ◌<◌, ◌≡◌, refl, Bool, true, false, List, ltb, if◌then◌else◌, Some, None, Option}
 use Rattle.std.proofs.Common.{sym, ap, ap₂, ◌∙◌, mod-lt, one-mul, le-div_iff_mul-le, add-mul, div-add-mod', arith, ltb-true, ltb-false, lt-ltb, le-ltb}
 use Rattle.std.proofs.Math.Nat.{add-mul-div_right, add-mul-mod_self_right}
 use Rattle.std.proofs.Math.Arith.{digits_div, digits_mod}
@@ -9,8 +9,6 @@ use Rattle.paper.specs.Axes.{cells, at_offset}
 use Rattle.laws.specs.Glue.{turn, in_turn}
 use Rattle.origin.specs.declared.Origin.{Origin}
 use Rattle.origin.specs.declared.Origin.TheVariants.{Nowhere, FromA, FromB}
-use Rattle.origin.specs.declared.Found.{Found}
-use Rattle.origin.specs.declared.Found.TheVariants.{After, Outside}
 use Rattle.origin.specs.Origins.{found_in, in_a, over_a, turn_origin}
 use Rattle.rows.specs.declared.sides.Lines.{Lines}
 use Rattle.rows.specs.declared.Pattern.{Pattern}
@@ -19,13 +17,13 @@ use Rattle.rows.specs.Sides.{later, SideBySide, Lined}
 
 -- ---- found in an extent
 
-in-later : (i b : ℕ) (f : Found) → in_a (later i f) ≡ onward i b (in_a f)
-in-later i b (After j) = refl
-in-later i b Outside = refl
+in-later : (i b : ℕ) (f : Option ℕ) → in_a (later i f) ≡ onward i b (in_a f)
+in-later i b (Some j) = refl
+in-later i b None = refl
 
-over-later : (k a i : ℕ) (f : Found) → over_a (k + a) (later i f) ≡ onward a i (over_a k f)
-over-later k a i (After j) = refl
-over-later k a i Outside = refl
+over-later : (k a i : ℕ) (f : Option ℕ) → over_a (k + a) (later i f) ≡ onward a i (over_a k f)
+over-later k a i (Some j) = refl
+over-later k a i None = refl
 
 module _ {O : ℕ → Origin} {G E : List Axis} where
   -- A's cell there, or none

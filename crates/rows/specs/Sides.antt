@@ -1,6 +1,6 @@
 -- Two extents of as many axes. From a cell of one on, cells are found in the other side by side, or all lie outside it, for as long as the
 -- position on the last axis where the two differ stays on one side. And whole lines are found as many cells later, line after line.
-use Rattle.std.specs.Prelude.{ℕ, ◌+◌, ◌-◌, ◌*◌, ◌/◌, ◌%◌, ◌≤◌, ◌<◌, ◌≡◌, Bool, true, false, ◌&&◌, List, [], ◌∷◌, ◌++◌, length, if◌then◌else◌}
+use Rattle.std.specs.Prelude.{ℕ, ◌+◌, ◌-◌, ◌*◌, ◌/◌, ◌%◌, ◌≤◌, ◌<◌, ◌≡◌, Bool, true, false, ◌&&◌, List, [], ◌∷◌, ◌++◌, length, if◌then◌else◌, Some, None, Option}
 use Rattle.std.proofs.Math.Path.{refl, ap₂}
 use Rattle.std.proofs.Common.{sym, ap, ◌∙◌, mod-lt, div-add-mod', add-mul, mul-le-mul_right, div-lt_iff_lt-mul, one-mul, arith}
 use Rattle.std.proofs.Math.Arith.{digits_lt, digits_div, digits_mod, mod-mul}
@@ -10,16 +10,14 @@ use Rattle.paper.specs.Axes.{width, cells, on_axis, offset, at_offset}
 use Rattle.laws.specs.Places.{left-pos, right-pos, on_axis-true, true-on_axis, true-inside, at_offset-inside, offset-at_offset, inside-length}
 use Rattle.laws.specs.Alike.{SameLimits, alike-inside, cells-alike, offset-alike}
 use Rattle.laws.specs.Joins.{cells-append, at_offset-append}
-use Rattle.origin.specs.declared.Found.{Found}
-use Rattle.origin.specs.declared.Found.TheVariants.{After, Outside}
 use Rattle.origin.specs.Origins.{found_in}
 use Rattle.origin.specs.Found.{joined, found-both}
 use Rattle.rows.specs.declared.sides.Lines.{Lines}
 
 -- found i cells later
-abbrev pub later : ℕ → Found → Found
-later i (After j) = After (j + i)
-later i Outside = Outside
+abbrev pub later : ℕ → Option ℕ → Option ℕ
+later i (Some j) = Some (j + i)
+later i None = None
 
 -- from cell k of G on, n cells are found in E side by side, or lie outside it
 pub record SideBySide (G E : List Axis) (k n : ℕ) : Type 0 where
@@ -90,22 +88,22 @@ side-blocks a e m k n pos one =
 
 -- ---- found later, in two extents put together
 
-joined-right : (n i : ℕ) (f g : Found) → joined n f (later i g) ≡ later i (joined n f g)
-joined-right n i (After a) (After b) = let e : a * n + (b + i) ≡ a * n + b + i = omega arith in ap After e
-joined-right n i (After a) Outside = refl
-joined-right n i Outside g = refl
+joined-right : (n i : ℕ) (f g : Option ℕ) → joined n f (later i g) ≡ later i (joined n f g)
+joined-right n i (Some a) (Some b) = let e : a * n + (b + i) ≡ a * n + b + i = omega arith in ap Some e
+joined-right n i (Some a) None = refl
+joined-right n i None g = refl
 
-joined-left : (n r : ℕ) (f g : Found) → joined n (later r f) g ≡ later (r * n) (joined n f g)
-joined-left n r (After a) (After b) =
-    let e : (a + r) * n + b ≡ a * n + b + r * n = omega (arith, add-mul a r n) in ap After e
-joined-left n r (After a) Outside = refl
-joined-left n r Outside g = refl
+joined-left : (n r : ℕ) (f g : Option ℕ) → joined n (later r f) g ≡ later (r * n) (joined n f g)
+joined-left n r (Some a) (Some b) =
+    let e : (a + r) * n + b ≡ a * n + b + r * n = omega (arith, add-mul a r n) in ap Some e
+joined-left n r (Some a) None = refl
+joined-left n r None g = refl
 
 -- d lines later at cell s, counted from cell r of the first
-joined-on : (n d r s i : ℕ) (f : Found) → d * n + s ≡ r + i → joined n (later d f) (After s) ≡ later i (joined n f (After r))
-joined-on n d r s i (After a) h =
-    let e : (a + d) * n + s ≡ a * n + r + i = omega (arith, add-mul a d n) in ap After e
-joined-on n d r s i Outside h = refl
+joined-on : (n d r s i : ℕ) (f : Option ℕ) → d * n + s ≡ r + i → joined n (later d f) (Some s) ≡ later i (joined n f (Some r))
+joined-on n d r s i (Some a) h =
+    let e : (a + d) * n + s ≡ a * n + r + i = omega (arith, add-mul a d n) in ap Some e
+joined-on n d r s i None h = refl
 
 -- cell k of axes before and axes after
 found-parts : (G X E Y : List Axis) (k : ℕ) → length E ≡ length G → k < cells (G ++ X)
@@ -128,7 +126,7 @@ found-digits G X E Y q y s l h =
 
 -- ---- axes with the same limits
 
-alike-found : (X Y : List Axis) (j : ℕ) → SameLimits X Y → j < cells X → found_in Y (at_offset X j) ≡ After j
+alike-found : (X Y : List Axis) (j : ℕ) → SameLimits X Y → j < cells X → found_in Y (at_offset X j) ≡ Some j
 unfolding found_in
 alike-found X Y j s h =
     let p = at_offset X j in
@@ -151,23 +149,23 @@ unfolding found_in alike offset cells
 found-on b x d h = rw h (by (on_axis b x) refl)
   where
     by : (c : Bool) → on_axis b x ≡ c
-        → (if c && true then After ((x + d - b.lo) * 1 + 0) else Outside)
-        ≡ later d (if c && true then After ((x - b.lo) * 1 + 0) else Outside)
+        → (if c && true then Some ((x + d - b.lo) * 1 + 0) else None)
+        ≡ later d (if c && true then Some ((x - b.lo) * 1 + 0) else None)
     by true q =
         let l = on_axis-true b x q in
         let e : (x + d - b.lo) * 1 + 0 ≡ (x - b.lo) * 1 + 0 + d = omega (arith, l.0) in
-        ap After e
+        ap Some e
     by false q = refl
 
 module _ (a b : Axis) (X Y : List Axis) (s : SameLimits X Y) where
   -- block q of the axis, cell j of the block
   found-block : (q j : ℕ) → j < cells X
-      → found_in (b ∷ Y) (at_offset (a ∷ X) (q * cells X + j)) ≡ joined (cells X) (found_in (b ∷ []) ((a.lo + q) ∷ [])) (After j)
+      → found_in (b ∷ Y) (at_offset (a ∷ X) (q * cells X + j)) ≡ joined (cells X) (found_in (b ∷ []) ((a.lo + q) ∷ [])) (Some j)
   unfolding at_offset
   found-block q j h =
       ap₂ (λ (x y : ℕ). found_in (b ∷ Y) ((a.lo + x) ∷ at_offset X y)) (digits_div q h) (digits_mod q h)
       ∙ found-both (b ∷ []) Y ((a.lo + q) ∷ []) (at_offset X j) refl
-      ∙ ap₂ (λ (n : ℕ) (f : Found). joined n (found_in (b ∷ []) ((a.lo + q) ∷ [])) f) (sym (cells-alike X Y s)) (alike-found X Y j s h)
+      ∙ ap₂ (λ (n : ℕ) (f : Option ℕ). joined n (found_in (b ∷ []) ((a.lo + q) ∷ [])) f) (sym (cells-alike X Y s)) (alike-found X Y j s h)
 
   -- i cells later, d blocks later
   block-later : (q r d t i : ℕ) → r < cells X → t < cells X → d * cells X + t ≡ r + i → on_axis b (a.lo + q + d) ≡ on_axis b (a.lo + q)
@@ -177,7 +175,7 @@ module _ (a b : Axis) (X Y : List Axis) (s : SameLimits X Y) where
       let p : a.lo + (q + d) ≡ a.lo + q + d = omega arith in
       ap (λ (y : ℕ). found_in (b ∷ Y) (at_offset (a ∷ X) y)) n
       ∙ found-block (q + d) t m
-      ∙ ap (λ (f : Found). joined (cells X) f (After t)) (ap (λ (x : ℕ). found_in (b ∷ []) (x ∷ [])) p ∙ found-on b (a.lo + q) d h)
+      ∙ ap (λ (f : Option ℕ). joined (cells X) f (Some t)) (ap (λ (x : ℕ). found_in (b ∷ []) (x ∷ [])) p ∙ found-on b (a.lo + q) d h)
       ∙ joined-on (cells X) d r t i (found_in (b ∷ []) ((a.lo + q) ∷ [])) e
       ∙ sym (ap (later i) (found-block q r l))
 
@@ -230,7 +228,7 @@ module _ (P Q X Y : List Axis) (a b : Axis) (same : length Q ≡ length P) (s : 
 
 -- outside by the axes before: the cells left of all lines that are so
 pub outside-side : (G X E Y : List Axis) (k n : ℕ) → length E ≡ length G → 0 < cells X → k < cells (G ++ X)
-    → SideBySide G E (k / cells X) n → found_in E (at_offset G (k / cells X)) ≡ Outside
+    → SideBySide G E (k / cells X) n → found_in E (at_offset G (k / cells X)) ≡ None
     → SideBySide (G ++ X) (E ++ Y) k (n * cells X - k % cells X)
 outside-side G X E Y k n same pos lt run out =
     let m = cells X in
@@ -240,7 +238,7 @@ outside-side G X E Y k n same pos lt run out =
     let one : 1 * m ≤ n * m = mul-le-mul_right m run.some in
     let top : (q + n) * m ≤ cells G * m = mul-le-mul_right m run.room in
     let room : k + (n * m - k % m) ≤ cells (G ++ X) = omega (arith, add-mul q n m, one-mul m, cells-append G X) in
-    let outside : (i : ℕ) → i < n * m - k % m → found_in (E ++ Y) (at_offset (G ++ X) (k + i)) ≡ Outside = λ i h.
+    let outside : (i : ℕ) → i < n * m - k % m → found_in (E ++ Y) (at_offset (G ++ X) (k + i)) ≡ None = λ i h.
     let d = (k % m + i) / m in
     let r = (k % m + i) % m in
     let w = mod-lt (k % m + i) pos in
@@ -248,7 +246,7 @@ outside-side G X E Y k n same pos lt run out =
     let e : k + i ≡ (q + d) * m + r = omega (arith, add-mul q d m, div-add-mod' (k % m + i) m) in
     ap (λ (x : ℕ). found_in (E ++ Y) (at_offset (G ++ X) x)) e
     ∙ found-digits G X E Y (q + d) r same w (omega arith)
-    ∙ ap (λ (f : Found). joined (cells Y) f (found_in Y (at_offset X r))) (run.each d D ∙ ap (later d) out) in
+    ∙ ap (λ (f : Option ℕ). joined (cells Y) f (found_in Y (at_offset X r))) (run.each d D ∙ ap (later d) out) in
     let z : k + 0 ≡ k = omega arith in
     record {
       some = omega (arith, one-mul m);
@@ -258,9 +256,9 @@ outside-side G X E Y k n same pos lt run out =
 
 -- ---- lines
 
-later-none : (i : ℕ) (f : Found) → i ≡ 0 → later i f ≡ f
-later-none i (After j) h = let e : j + i ≡ j = omega arith in ap After e
-later-none i Outside h = refl
+later-none : (i : ℕ) (f : Option ℕ) → i ≡ 0 → later i f ≡ f
+later-none i (Some j) h = let e : j + i ≡ j = omega arith in ap Some e
+later-none i None h = refl
 
 one_line-lined : (G E : List Axis) (k : ℕ) → k < cells G → Lined G E k (one_line G k)
 one_line-lined G E k h = record {
@@ -298,7 +296,7 @@ lined_on G X E Y k n same pos z run =
           let behind = found_in Y (at_offset X y) in
           ap (λ (x : ℕ). found_in (E ++ Y) (at_offset (G ++ X) x)) e
           ∙ found-digits G X E Y (q + r) y same l (omega arith)
-          ∙ ap (λ (g : Found). joined (cells Y) g behind) (run.each r p)
+          ∙ ap (λ (g : Option ℕ). joined (cells Y) g behind) (run.each r p)
           ∙ joined-left (cells Y) r first behind
           ∙ sym (ap (later (r * cells Y))
           (ap (λ (x : ℕ). found_in (E ++ Y) (at_offset (G ++ X) x)) f ∙ found-digits G X E Y q y same l (omega arith)));

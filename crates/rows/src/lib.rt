@@ -18,7 +18,7 @@ ghost use Rattle.rows.specs.Moves.{lines_left, turn_left};
 use origin::{Origin, block_of, cells_after, layer_of, origin_of, patch_of};
 use paper::{AxisIndex, Extent, Move};
 use positions::position_at;
-use sides::{Lines, least, lines_of, side_around, side_by_side};
+use sides::{Lines, lines_of, side_around, side_by_side};
 use step::StepHead;
 
 // Cells that come from the cells from an origin on, side by side; or blanks.
@@ -105,7 +105,7 @@ fn run_at(
     let length = run_length(m, step, a, b, t, k, s);
     Run {
         from,
-        length: least(length, most),
+        length: length.min(most),
     }
 }
 

@@ -3,7 +3,6 @@
 ghost use Rattle.std.specs.Prelude.{◌≡◌, ◌*◌, ◌≤◌, ◌<◌, length, take};
 ghost use Rattle.paper.specs.Limits.{most_cells};
 ghost use Rattle.paper.specs.Axes.{width, cells};
-ghost use Rattle.laws.specs.Alike.{same_limits};
 ghost use Rattle.paper.specs.Answers.{axes_of};
 ghost use Rattle.extent.specs.Judged.{Small};
 ghost use Rattle.extent.specs.Tests.{Ranged};
@@ -11,7 +10,7 @@ ghost use Rattle.origin.specs.Asks.{Beside};
 ghost use Rattle.rows.specs.Sides.{SideBySide, Lined, one_line, OneSide, SideLeft};
 
 use extent::{on_axis, rank_of, width_of};
-use origin::{Found, cells_after, found_at};
+use origin::{cells_after, found_at};
 use paper::{Axis, Extent};
 
 // Lines of so many cells; each is found `stride` cells later than the line before.
@@ -20,16 +19,6 @@ pub struct Lines {
     pub line: usize,
     pub lines: usize,
     pub stride: usize,
-}
-
-// The lesser of two numbers.
-pub fn least(x: usize, y: usize) -> usize
-    ensures { (result ≤ x) × (result ≤ y) × (1 ≤ x → 1 ≤ y → 1 ≤ result) }
-{
-    if x < y {
-        return x;
-    }
-    y
 }
 
 // From position x of axis a on: how many positions up to its end stand on the same side of axis e, or on it.
@@ -41,22 +30,12 @@ fn same_side(a: Axis, e: Axis, x: u32) -> usize
 {
     let rest = (a.hi - x) as usize + 1;
     if x < e.lo {
-        return least(rest, (e.lo - x) as usize);
+        return rest.min((e.lo - x) as usize);
     }
     if e.hi < x {
         return rest;
     }
-    least(rest, (e.hi - x) as usize + 1)
-}
-
-// Two axes have the same limits.
-fn same_limits(a: Axis, b: Axis) -> bool
-    ensures { result ≡ same_limits a b }
-{
-    if a.lo != b.lo {
-        return false;
-    }
-    a.hi == b.hi
+    rest.min((e.hi - x) as usize + 1)
 }
 
 // Cell k of axis a and the axes behind it, blocks of so many cells: the cells left of its positions on one side of axis e.
@@ -78,15 +57,13 @@ pub fn side_by_side(t: Extent, k: usize, e: Extent) -> usize
     ensures { SideBySide (axes_of t) (axes_of e) k result }
 {
     let mut block: usize = 1;
-    let mut i = rank_of(t);
-    while 0 < i {
-        i -= 1;
+    for i in (0..rank_of(t)).rev() {
         let a = t.axes[i];
         let b = e.axes[i];
-        if !same_limits(a, b) {
+        if a != b {
             return side_left(a, b, block, k);
         }
-        block = width_of(a) as usize * block;
+        block *= width_of(a) as usize;
     }
     block - k
 }
@@ -96,14 +73,8 @@ fn uneven(t: Extent, e: Extent) -> usize
     ensures { result ≤ length (axes_of t) }
 {
     let rank = rank_of(t);
-    let mut i = rank;
-    while 0 < i {
-        i -= 1;
-        if !same_limits(t.axes[i], e.axes[i]) {
-            return i;
-        }
-    }
-    rank
+    let mut pairs = t.axes[..rank].iter().zip(&e.axes[..rank]);
+    pairs.rposition(|(a, b)| a != b).unwrap_or(rank)
 }
 
 // How many axes are left of t's first c without the last of them that have one position.
@@ -111,15 +82,10 @@ fn past_single(t: Extent, c: usize) -> usize
     requires { c ≤ length (axes_of t) }
     ensures { result ≤ length (axes_of t) }
 {
-    let mut i = c;
-    while 0 < i {
-        let a = t.axes[i - 1];
-        if a.lo != a.hi {
-            return i;
-        }
-        i -= 1;
-    }
-    i
+    t.axes[..c]
+        .iter()
+        .rposition(|a| a.lo != a.hi)
+        .map_or(0, |i| i + 1)
 }
 
 // Where lines are cut: at the last uneven axis, or before axes of one position in front of it. Where its positions lie all inside e's, so
@@ -167,8 +133,8 @@ pub fn side_around(t: Extent, k: usize, e: Extent) -> usize
     let other = first_axes(e, c);
     let found = found_at(first, k / line, other);
     match found {
-        Found::After(_) => return side_by_side(t, k, e),
-        Found::Outside => return side_by_side(first, k / line, other) * line - k % line,
+        Some(_) => return side_by_side(t, k, e),
+        None => return side_by_side(first, k / line, other) * line - k % line,
     }
 }
 

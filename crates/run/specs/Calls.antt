@@ -1,6 +1,6 @@
 -- The calls, outcome by outcome: what they answer and leave is what the paper says of a run and of a page.
 use Prim.Native.Nat.{ℕ, ◌+◌, ◌-◌, ◌*◌, ◌≤◌, ◌<◌}
-use Rattle.std.specs.Prelude.{◌≡◌, ◌&&◌, eqb, leb, length, get_or, take}
+use Rattle.std.specs.Prelude.{◌≡◌, ◌&&◌, eqb, leb, length, get_or, take, Ok, Err}
 use Rattle.std.proofs.Math.Path.{refl, sym, ap}
 use Rattle.std.proofs.Common.{subst, ◌∙◌, arith}
 use mathlib.Core.List.{List, [], ◌++◌}
@@ -9,16 +9,15 @@ use Rattle.std.proofs.Math.ListN.{drop, replicate}
 use Rattle.std.proofs.lemmas.List.{length-replicate}
 use Rattle.paper.specs.declared.Head.{Head}
 use Rattle.paper.specs.declared.Listed.{Listed}
-use Rattle.paper.specs.declared.PageAnswer.TheVariants.{Got, Refused as PageRefused}
 use Rattle.paper.specs.declared.Refusal.{Refusal}
 use Rattle.paper.specs.Limits.{cell_bytes, most_axes, BOOLEAN}
-use Rattle.paper.specs.Refusals.{Res, got, refused, refusal, between, unfit7, small_work10, bad_page11}
+use Rattle.paper.specs.Refusals.{Res, refusal, between, unfit7, small_work10, bad_page11}
 use Rattle.paper.specs.Numbers.{over, last_of}
 use Rattle.paper.specs.Axes.{cells, Shape, Array}
 use Rattle.paper.specs.Recipe.{Planned}
 use Rattle.paper.specs.Values.{values, no_array}
 use Rattle.paper.specs.Listing.{planned, result_bytes, bytes_of_all, work_after, last_shape, row_bytes, run_tests, run_after, run, list_tests, page_tests, Paged, page_values, page_after, page}
-use Rattle.paper.specs.Answers.{unless, page_said}
+use Rattle.paper.specs.Answers.{unless}
 use Rattle.laws.specs.Judged.{cells_from}
 use Rattle.laws.specs.Tests.{ensure-got, ensured, and_left, and_right, between-true}
 use Rattle.laws.specs.Answers.{axes-few, unless-refused, unless-got}
@@ -40,7 +39,7 @@ use Rattle.run.specs.Tests as Tests
 -- the results, or zeros in their place
 pub record Settled (B bs : List ℕ) (P : Plan) (W : List ℕ) (r : Refusal) (after : List ℕ) : Type 0 where
   pub work : after ≡ work_after (steps_of bs P) W (values (arrays_at B P) (steps_of bs P))
-  pub no : (r.number ≡ 0 → ⊥) → values (arrays_at B P) (steps_of bs P) ≡ refused r
+  pub no : (r.number ≡ 0 → ⊥) → values (arrays_at B P) (steps_of bs P) ≡ Err r
   pub yes : r.number ≡ 0 → Results B bs P W after
 
 module _ {B bs : List ℕ} {P : Plan} {W : List ℕ} (g : Running B bs P W) where
@@ -71,7 +70,7 @@ module _ {B bs : List ℕ} {P : Plan} {W : List ℕ} (g : Running B bs P W) wher
 -- ---- a run
 
 module _ {B bs : List ℕ} {P : Plan} (p : PlannedFor B bs P) (W : List ℕ) where
-  pub run-refused : (P.refusal.number ≡ 0 → ⊥) → record { answer = refused P.refusal; buffer = W } ≡ run B bs W
+  pub run-refused : (P.refusal.number ≡ 0 → ⊥) → record { answer = Err P.refusal; buffer = W } ≡ run B bs W
   unfolding run_tests run_after
   run-refused h = rw (planned-no p h) refl
 
@@ -80,7 +79,7 @@ module _ {B bs : List ℕ} {P : Plan} (p : PlannedFor B bs P) (W : List ℕ) whe
     sized = omega (arith, cells-sum (p.setting z).0.laid)
 
     pub run_small : length W < P.cells * cell_bytes → (r : Refusal) → r ≡ refusal small_work10 0 0
-        → record { answer = refused r; buffer = W } ≡ run B bs W
+        → record { answer = Err r; buffer = W } ≡ run B bs W
     unfolding run_tests run_after
     run_small h r e = rw (planned-yes p z, sized, lt-leb (P.cells * cell_bytes) (length W) h, e) refl
 
@@ -89,11 +88,11 @@ module _ {B bs : List ℕ} {P : Plan} (p : PlannedFor B bs P) (W : List ℕ) whe
       may-run = record { setting = (p.setting z).0; room = omega (arith, sized) }
 
       module _ {r : Refusal} {after : List ℕ} (s : Settled B bs P W r after) where
-        pub run-stopped : (r.number ≡ 0 → ⊥) → record { answer = refused r; buffer = after } ≡ run B bs W
+        pub run-stopped : (r.number ≡ 0 → ⊥) → record { answer = Err r; buffer = after } ≡ run B bs W
         unfolding run_tests run_after
         run-stopped n = rw (planned-yes p z, sized, le-leb (P.cells * cell_bytes) (length W) h, s.work, s.no n) refl
 
-        pub run-done : r.number ≡ 0 → record { answer = got P.cells; buffer = after } ≡ run B bs W
+        pub run-done : r.number ≡ 0 → record { answer = Ok P.cells; buffer = after } ≡ run B bs W
         unfolding run_tests run_after
         run-done y =
             let d = s.yes y in
@@ -104,16 +103,16 @@ module _ {B bs : List ℕ} {P : Plan} (p : PlannedFor B bs P) (W : List ℕ) whe
 
 -- how many positions a row has: as many as what is listed has axes; a refusal has no rows
 abbrev pub row_axes : Res Listed → Res (List Array × List Planned) → ℕ
-row_axes (refused x) t = 0
-row_axes (got l) (refused x) = 0
-row_axes (got l) (got t) = length (last_shape t.1).axes
+row_axes (Err x) t = 0
+row_axes (Ok l) (Err x) = 0
+row_axes (Ok l) (Ok t) = length (last_shape t.1).axes
 
 pub record RowAxes (B bs : List ℕ) (r : PageRows) : Type 0 where
   pub few : r.axes ≤ most_axes
-  pub same : r.axes ≡ row_axes (page_said r.answer) (planned B bs)
+  pub same : r.axes ≡ row_axes r.answer (planned B bs)
 
-pub no_rows : (B bs : List ℕ) {r : PageRows} {x : Refusal} → r ≡ record { answer = PageRefused x; axes = 0 } → {W L : List ℕ} {p : Paged}
-    → record { answer = refused x; work = W; rows = L } ≡ p → (record { answer = page_said r.answer; work = W; rows = L } ≡ p) × RowAxes B bs r
+pub no_rows : (B bs : List ℕ) {r : PageRows} {x : Refusal} → r ≡ record { answer = Err x; axes = 0 } → {W L : List ℕ} {p : Paged}
+    → record { answer = Err x; work = W; rows = L } ≡ p → (record { answer = r.answer; work = W; rows = L } ≡ p) × RowAxes B bs r
 no_rows B bs e h = rw e (h, record { few = omega arith; same = refl })
 
 -- the tests of an accepted page, one by one
@@ -124,7 +123,7 @@ record Fits (ps : List Planned) (w o l : ℕ) : Type 0 where
   from : 1 ≤ o
   upto : o ≤ cells (last_shape ps).axes + 1
 
-fits : (ps : List Planned) (w o l : ℕ) → list_tests ps w o l ≡ got tt → Fits ps w o l
+fits : (ps : List Planned) (w o l : ℕ) → list_tests ps w o l ≡ Ok tt → Fits ps w o l
 unfolding list_tests
 fits ps w o l e =
     let s = last_shape ps in
@@ -147,7 +146,7 @@ module _ {B bs : List ℕ} {P : Plan} (p : PlannedFor B bs P) (W : List ℕ) (o 
   abbrev ps : List Planned
   ps = steps_of bs P
 
-  pub page-refused : (P.refusal.number ≡ 0 → ⊥) → record { answer = refused P.refusal; work = W; rows = L } ≡ page B bs W o L
+  pub page-refused : (P.refusal.number ≡ 0 → ⊥) → record { answer = Err P.refusal; work = W; rows = L } ≡ page B bs W o L
   unfolding page_tests page_after
   page-refused h = rw (planned-no p h) refl
 
@@ -159,18 +158,18 @@ module _ {B bs : List ℕ} {P : Plan} (p : PlannedFor B bs P) (W : List ℕ) (o 
     own-tests : list_tests ps (length W) o (length L) ≡ unless u tt
     own-tests = sym (j.said ps (steps-count laid) (Tests.last-shape laid (p.setting z).1) (sized p W z))
 
-    pub page-unfit : (u.number ≡ 0 → ⊥) → record { answer = refused u; work = W; rows = L } ≡ page B bs W o L
+    pub page-unfit : (u.number ≡ 0 → ⊥) → record { answer = Err u; work = W; rows = L } ≡ page B bs W o L
     unfolding page_tests page_after
     page-unfit h = rw (planned-yes p z, own-tests, unless-refused {A = Unit {0}} u tt h) refl
 
     module _ (y : u.number ≡ 0) where
-      own-got : list_tests ps (length W) o (length L) ≡ got tt
+      own-got : list_tests ps (length W) o (length L) ≡ Ok tt
       own-got = own-tests ∙ unless-got {A = Unit {0}} u tt y
 
       own : Fits ps (length W) o (length L)
       own = fits ps (length W) o (length L) own-got
 
-      tests-got : page_tests B bs W o L ≡ got (As, ps)
+      tests-got : page_tests B bs W o L ≡ Ok (As, ps)
       unfolding page_tests
       tests-got = rw (planned-yes p z, own-got) refl
 
@@ -178,7 +177,7 @@ module _ {B bs : List ℕ} {P : Plan} (p : PlannedFor B bs P) (W : List ℕ) (o 
       page-runs = record { setting = (p.setting z).0; room = own.work }
 
       module _ {r : Refusal} {after : List ℕ} (s : Settled B bs P W r after) where
-        pub page-stopped : (r.number ≡ 0 → ⊥) → record { answer = refused r; work = after; rows = L } ≡ page B bs W o L
+        pub page-stopped : (r.number ≡ 0 → ⊥) → record { answer = Err r; work = after; rows = L } ≡ page B bs W o L
         unfolding page_after page_values
         page-stopped h = rw (tests-got, s.work, s.no h) refl
 
@@ -189,7 +188,7 @@ module _ {B bs : List ℕ} {P : Plan} (p : PlannedFor B bs P) (W : List ℕ) (o 
           abbrev Rs : List Array
           Rs = res.steps.done.results
 
-          values-are : values As ps ≡ got Rs
+          values-are : values As ps ≡ Ok Rs
           values-are = sym (run_ends res.steps res.all)
 
           shape_is : (last_of no_array Rs).shape ≡ shape_in (last_in P)
@@ -236,16 +235,16 @@ module _ {B bs : List ℕ} {P : Plan} (p : PlannedFor B bs P) (W : List ℕ) (o 
               }
 
           pub page-listed : (l : Listed) (rows : List ℕ) → ListedAs after (last_in P).at (axes_in (last_in P)) o L l rows
-              → record { answer = got l; work = after; rows = rows } ≡ page B bs W o L
+              → record { answer = Ok l; work = after; rows = rows } ≡ page B bs W o L
           unfolding page_after page_values
           page-listed l rows t =
               let A = last_of no_array Rs in
               let k : A.shape.type ≡ BOOLEAN = ap (λ (q : Shape). q.type) (last-shape ps Rs (values-full ps 1 As [] Rs values-are)) ∙ own.type in
               let c : A.cells ≡ cells_from BOOLEAN (cells (axes_in (last_in P))) (drop (last_in P).at after) = rw (k, full) at (lies-cells after (last_in P).at A lies-last) in
-              let q : after ≡ work_after ps W (got Rs) = s.work ∙ ap (work_after ps W) values-are in
+              let q : after ≡ work_after ps W (Ok Rs) = s.work ∙ ap (work_after ps W) values-are in
               rw (tests-got, values-are, ← q) (sym (t.page A after (ap (λ (x : Shape). x.axes) shape_is) c))
 
-  pub row-axes : P.refusal.number ≡ 0 → (r : PageRows) (l : Listed) → r.answer ≡ Got l → r.axes ≡ length (axes_in (last_in P))
+  pub row-axes : P.refusal.number ≡ 0 → (r : PageRows) (l : Listed) → r.answer ≡ Ok l → r.axes ≡ length (axes_in (last_in P))
       → RowAxes B bs r
   row-axes z r l q e = record {
     few = omega (arith, e, axes-few (last_in P).form.extent);

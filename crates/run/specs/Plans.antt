@@ -1,5 +1,5 @@
 -- What is told before anything is run: the figures of a plan, and the head of the last result, which the plan's last operand has.
-use Rattle.std.specs.Prelude.{ℕ, ◌-◌, ◌≤◌, ◌<◌, ◌≡◌, List, leb, length, drop, replicate}
+use Rattle.std.specs.Prelude.{ℕ, ◌-◌, ◌≤◌, ◌<◌, ◌≡◌, List, leb, length, drop, replicate, Ok, Err}
 use Rattle.std.proofs.Math.Path.{refl, sym}
 use Rattle.std.proofs.Common.{ap, ◌∙◌, mul-le-mul_right, arith, length-append, length-drop}
 use borrow.Author.Tests.{le-leb, lt-leb}
@@ -9,7 +9,7 @@ use Rattle.paper.specs.declared.Name.{Name}
 use Rattle.paper.specs.declared.Axis.{Axis}
 use Rattle.paper.specs.declared.Refusal.{Refusal}
 use Rattle.paper.specs.Limits.{most_cells, sizes_of}
-use Rattle.paper.specs.Refusals.{Res, got, refused, ◌>>=◌, ◌>>◌, refusal, ensure, small_output14}
+use Rattle.paper.specs.Refusals.{Res, ◌>>=◌, ◌>>◌, refusal, ensure, small_output14}
 use Rattle.paper.specs.Numbers.{over}
 use Rattle.paper.specs.Axes.{Shape, star, result}
 use Rattle.paper.specs.Bundle.{sizes_in, After, put_into}
@@ -28,7 +28,7 @@ last_head bundle recipe room = do
   (As, ps) ← planned bundle recipe
   let z = sizes_in bundle
   ensure (leb (head_length z) room) small_output14 0
-  got (whole_head z (last_shape ps))
+  Ok (whole_head z (last_shape ps))
 
 -- an extent call: bundle, recipe, and the buffer that the head is put into; its length is answered
 abbrev pub extent : List ℕ → List ℕ → List ℕ → After
@@ -39,12 +39,12 @@ result-alike : (s : Shape) (t : ℕ) (N : List Name) (E : List Axis) → s ≡ r
 result-alike s t N E e = rw e (length-map E star)
 
 module _ {B bs : List ℕ} {P : Plan} (p : PlannedFor B bs P) where
-  pub plan-refused : (P.refusal.number ≡ 0 → ⊥) → refused P.refusal ≡ plan B bs
+  pub plan-refused : (P.refusal.number ≡ 0 → ⊥) → Err P.refusal ≡ plan B bs
   unfolding plan
   plan-refused h = rw (planned-no p h) refl
 
   pub extent-refused : (P.refusal.number ≡ 0 → ⊥) → (out : List ℕ)
-      → record { answer = refused P.refusal; buffer = out } ≡ extent B bs out
+      → record { answer = Err P.refusal; buffer = out } ≡ extent B bs out
   unfolding last_head put_into
   extent-refused h out = rw (planned-no p h) refl
 
@@ -56,7 +56,7 @@ module _ {B bs : List ℕ} {P : Plan} (p : PlannedFor B bs P) where
     shape_is = last-shape laid (p.setting z).1
 
     pub plan-told : (axes : ℕ) → axes ≡ length (axes_in (last_in P))
-        → got (record { total = P.cells; kind = (last_in P).form.kind; axes = axes; cells = (last_in P).cells }) ≡ plan B bs
+        → Ok (record { total = P.cells; kind = (last_in P).form.kind; axes = axes; cells = (last_in P).cells }) ≡ plan B bs
     unfolding plan
     plan-told axes e = rw (planned-yes p z, shape_is, ← cells-sum laid, ← (last-laid laid (p.setting z).1).count, e) refl
 
@@ -75,7 +75,7 @@ module _ {B bs : List ℕ} {P : Plan} (p : PlannedFor B bs P) where
 
     module _ (out : List ℕ) where
       pub extent-short : length out < head_length z' → (r : Refusal) → r ≡ refusal small_output14 0 0
-          → record { answer = refused r; buffer = out } ≡ extent B bs out
+          → record { answer = Err r; buffer = out } ≡ extent B bs out
       unfolding last_head put_into
       extent-short h r e = rw (planned-yes p z, sized, lt-leb (head_length z') (length out) h, e) refl
 
@@ -97,14 +97,14 @@ module _ {B bs : List ℕ} {P : Plan} (p : PlannedFor B bs P) where
               room = omega (arith, l, h, mul-le-mul_right z'.axis last-ranked);
             }
 
-        head-got : last_head B bs (length out) ≡ got (whole_head z' (shape_in (last_in P)))
+        head-got : last_head B bs (length out) ≡ Ok (whole_head z' (shape_in (last_in P)))
         unfolding last_head
-        head-got = rw (planned-yes p z, sized, le-leb (head_length z') (length out) h) (ap (λ (s : Shape). got (whole_head z' s)) shape_is)
+        head-got = rw (planned-yes p z, sized, le-leb (head_length z') (length out) h) (ap (λ (s : Shape). Ok (whole_head z' s)) shape_is)
 
         pub extent-told : (end : ℕ) (w : List ℕ) → HeadPut z' (last_in P).form 0 y end w → (n : ℕ) → n ≡ head_length z'
-            → record { answer = got n; buffer = w } ≡ extent B bs out
+            → record { answer = Ok n; buffer = w } ≡ extent B bs out
         unfolding put_into
         extent-told end w q n e =
             let l = whole_long (fits P.version) (last_in P).form last-room q.named last-ranked in
             let b = whole-put (fits P.version) (last_in P).form out last-room last-ranked c q in
-            rw head-got (λ i. record { answer = got ((e ∙ sym l) i); buffer = b i })
+            rw head-got (λ i. record { answer = Ok ((e ∙ sym l) i); buffer = b i })

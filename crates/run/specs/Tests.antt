@@ -1,5 +1,5 @@
 -- What the calls test before the values: the bundle and the recipe, and what a page asks.
-use Rattle.std.specs.Prelude.{ℕ, zero, suc, ◌+◌, ◌-◌, ◌*◌, ◌≤◌, ◌<◌, ◌≡◌, Bool, true, false, ◌&&◌, List, [], ◌∷◌, map, eqb, leb, get_or, take}
+use Rattle.std.specs.Prelude.{ℕ, zero, suc, ◌+◌, ◌-◌, ◌*◌, ◌≤◌, ◌<◌, ◌≡◌, Bool, true, false, ◌&&◌, List, [], ◌∷◌, map, eqb, leb, get_or, take, Ok, Err}
 use Rattle.std.proofs.Math.Path.{refl, sym, ap}
 use Rattle.std.proofs.Common.{◌∙◌, arith}
 use borrow.Author.Tests.{eqb-true, eqb-false, eq-eqb, ne_eqb, le-leb, lt-leb}
@@ -14,7 +14,7 @@ use Rattle.paper.specs.declared.Head.{Head}
 use Rattle.paper.specs.declared.Reading.{Reading}
 use Rattle.paper.specs.declared.Refusal.{Refusal}
 use Rattle.paper.specs.Limits.{most_arrays, cell_bytes, limit_bytes, BOOLEAN}
-use Rattle.paper.specs.Refusals.{got, refused, refusal, between, unfit7, small_work10, bad_page11}
+use Rattle.paper.specs.Refusals.{refusal, between, unfit7, small_work10, bad_page11}
 use Rattle.paper.specs.Numbers.{last_of}
 use Rattle.paper.specs.Axes.{cells, Array}
 use Rattle.paper.specs.Bundle.{version_in, sizes_in, read_bundle}
@@ -49,10 +49,10 @@ pub record PlannedFor (B bs : List ℕ) (P : Plan) : Type 0 where
   pub version : P.refusal.number ≡ 0 → P.version ≡ version_in B
 
 module _ {B bs : List ℕ} {P : Plan} (p : PlannedFor B bs P) where
-  pub planned-no : (P.refusal.number ≡ 0 → ⊥) → planned B bs ≡ refused P.refusal
+  pub planned-no : (P.refusal.number ≡ 0 → ⊥) → planned B bs ≡ Err P.refusal
   planned-no h = sym p.said ∙ unless-refused P.refusal _ h
 
-  pub planned-yes : P.refusal.number ≡ 0 → planned B bs ≡ got (arrays_at B P, steps_of bs P)
+  pub planned-yes : P.refusal.number ≡ 0 → planned B bs ≡ Ok (arrays_at B P, steps_of bs P)
   planned-yes z = sym p.said ∙ unless-got P.refusal _ z
 
 -- every cell of a list is of the type, one by one
@@ -74,11 +74,11 @@ module _ (B bs : List ℕ) (R : Reading) (P : Plan) (r : ReadAll B R) where
   pub read-refused : (R.refusal.number ≡ 0 → ⊥) → P ≡ no_plan R.refusal → PlannedFor B bs P
   unfolding planned
   read-refused h e =
-      let q : read_bundle B ≡ refused R.refusal = sym r.arrays ∙ unless-refused R.refusal _ h in
+      let q : read_bundle B ≡ Err R.refusal = sym r.arrays ∙ unless-refused R.refusal _ h in
       rw e (record { said = unless-refused R.refusal _ h ∙ rw q; setting = λ z. absurd (h z); version = λ z. absurd (h z) })
 
   module _ (z : R.refusal.number ≡ 0) (p : PlannedAll R bs P) where
-    read-got : read_bundle B ≡ got (map (array_at B) (arrays_in R))
+    read-got : read_bundle B ≡ Ok (map (array_at B) (arrays_in R))
     read-got = sym r.arrays ∙ unless-got R.refusal _ z
 
     plan-is : plan_recipe (sizes_in B) (shapes_in (map (array_at B) (arrays_in R))) bs ≡ plan_of bs P

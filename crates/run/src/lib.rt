@@ -2,11 +2,10 @@
 // then the rows. No row is written before every value is known.
 #![tactic(auto)]
 
-ghost use Rattle.std.specs.Prelude.{◌≡◌, ◌≤◌, length, replicate};
-ghost use Rattle.paper.specs.declared.PageAnswer.TheVariants.{Refused};
+ghost use Rattle.std.specs.Prelude.{◌≡◌, ◌≤◌, length, replicate, Err};
 ghost use Rattle.paper.specs.Limits.{most_steps, most_cells};
 ghost use Rattle.paper.specs.Axes.{cells as cells_in};
-ghost use Rattle.paper.specs.Answers.{axes_of, number_said, plan_said, page_said};
+ghost use Rattle.paper.specs.Answers.{axes_of};
 ghost use Rattle.paper.specs.Listing.{plan as paper_plan, run as paper_run, page as paper_page};
 ghost use Rattle.paper.specs.Numbers.{over};
 ghost use Rattle.values.specs.Runs.{Running};
@@ -19,8 +18,7 @@ use extent::rank_of;
 use listing::list;
 use pack::put::{put_head, whole_head};
 use paper::{
-    ARRAYS, BOOLEAN, CELL_BYTES, Foreseen, Head, LIMIT_BYTES, NumberAnswer, Ordinality, PageAnswer,
-    PlanAnswer, Refusal,
+    ARRAYS, BOOLEAN, CELL_BYTES, Foreseen, Head, LIMIT_BYTES, Listed, Ordinality, Refusal,
 };
 use recipe::{Plan, no_plan, plan_recipe};
 use refusals::{none, refuse};
@@ -29,7 +27,7 @@ use values::run_steps;
 // A page, and how many positions each of its rows has.
 #[derive(Clone, Copy)]
 pub struct PageRows {
-    pub answer: PageAnswer,
+    pub answer: Result<Listed, Refusal>,
     pub axes: usize,
 }
 
@@ -110,15 +108,15 @@ fn settle(bundle: &[u8], recipe: &[u8], plan: Plan, work: &mut [u8]) -> Refusal
 // ---- the calls
 
 // A plan, before anything is lent: T, and the last result's type, axis count and number of cells.
-pub fn plan(bundle: &[u8], recipe: &[u8]) -> PlanAnswer
-    ensures { plan_said result ≡ paper_plan bundle.now recipe.now }
+pub fn plan(bundle: &[u8], recipe: &[u8]) -> Result<Foreseen, Refusal>
+    ensures { result ≡ paper_plan bundle.now recipe.now }
 {
     let plan = planned(bundle, recipe);
     if plan.refusal.number != 0 {
-        return PlanAnswer::Refused(plan.refusal);
+        return Err(plan.refusal);
     }
     let operand = plan.operands[ARRAYS + plan.count];
-    PlanAnswer::Got(Foreseen {
+    Ok(Foreseen {
         total: plan.cells as u32,
         kind: operand.head.form.kind,
         axes: rank_of(operand.head.form.extent) as u32,
@@ -127,50 +125,50 @@ pub fn plan(bundle: &[u8], recipe: &[u8]) -> PlanAnswer
 }
 
 // The head of the last result, whole, in the bundle's version, at the beginning of `head`: its length.
-pub fn extent(bundle: &[u8], recipe: &[u8], head: &mut [u8]) -> NumberAnswer
-    ensures { record { answer = number_said result; buffer = head.new }
+pub fn extent(bundle: &[u8], recipe: &[u8], head: &mut [u8]) -> Result<u32, Refusal>
+    ensures { record { answer = result; buffer = head.new }
         ≡ last_extent bundle.now recipe.now head.old }
 {
     let plan = planned(bundle, recipe);
     if plan.refusal.number != 0 {
-        return NumberAnswer::Refused(plan.refusal);
+        return Err(plan.refusal);
     }
     let v = plan.version;
     let long = whole_head(v);
     if head.len() < long {
-        return NumberAnswer::Refused(refuse(14, 0));
+        return Err(refuse(14, 0));
     }
     let operand = plan.operands[ARRAYS + plan.count];
     clear(head, long);
     put_head(v, operand.head.form, head, 0);
-    NumberAnswer::Got(long as u32)
+    Ok(long as u32)
 }
 
 // A run: the results of all steps in the work area, and how many cells they have.
-pub fn run(bundle: &[u8], recipe: &[u8], work: &mut [u8]) -> NumberAnswer
-    ensures { record { answer = number_said result; buffer = work.new }
+pub fn run(bundle: &[u8], recipe: &[u8], work: &mut [u8]) -> Result<u32, Refusal>
+    ensures { record { answer = result; buffer = work.new }
         ≡ paper_run bundle.now recipe.now work.old }
 {
     let plan = planned(bundle, recipe);
     let refusal = plan.refusal;
     if refusal.number != 0 {
-        return NumberAnswer::Refused(refusal);
+        return Err(refusal);
     }
     if work.len() < plan.cells * CELL_BYTES {
-        return NumberAnswer::Refused(refuse(10, 0));
+        return Err(refuse(10, 0));
     }
     let ended = settle(bundle, recipe, plan, work);
     if ended.number != 0 {
-        return NumberAnswer::Refused(ended);
+        return Err(ended);
     }
-    NumberAnswer::Got(plan.cells as u32)
+    Ok(plan.cells as u32)
 }
 
 // No page, and no rows.
 fn no_page(refusal: Refusal) -> PageRows
-    ensures { result ≡ record { answer = Refused refusal; axes = 0 } }
+    ensures { result ≡ record { answer = Err refusal; axes = 0 } }
 {
-    let answer = PageAnswer::Refused(refusal);
+    let answer = Err(refusal);
     PageRows { answer, axes: 0 }
 }
 
@@ -182,7 +180,7 @@ pub fn page_rows(
     start: Ordinality,
     rows: &mut [u8],
 ) -> PageRows
-    ensures { (record { answer = page_said result.answer; work = work.new; rows = rows.new }
+    ensures { (record { answer = result.answer; work = work.new; rows = rows.new }
         ≡ paper_page bundle.now recipe.now work.old start.0 rows.old)
         × RowAxes bundle.now recipe.now result }
 {
@@ -200,7 +198,7 @@ pub fn page_rows(
     if stopped.number != 0 {
         return no_page(stopped);
     }
-    let answer = PageAnswer::Got(list(
+    let answer = Ok(list(
         work,
         last.head.at,
         last.head.form.extent,
@@ -219,8 +217,8 @@ pub fn page(
     work: &mut [u8],
     start: Ordinality,
     rows: &mut [u8],
-) -> PageAnswer
-    ensures { record { answer = page_said result; work = work.new; rows = rows.new }
+) -> Result<Listed, Refusal>
+    ensures { record { answer = result; work = work.new; rows = rows.new }
         ≡ paper_page bundle.now recipe.now work.old start.0 rows.old }
 {
     let found = page_rows(bundle, recipe, work, start, rows);

@@ -6,10 +6,7 @@ use crate::say::{
     LIMITS, MAXIMUM, axes_bytes, say, say_axes, say_byte, say_cell, say_cells, say_count,
     say_number, say_refusal, say_some,
 };
-use paper::{
-    AxisIndex, CELL_BYTES, HALF_NAME, Head, NumberAnswer, Ordinality, ReferenceAnswer, Seen,
-    TotalAnswer, Totalled, Version, WalkAnswer,
-};
+use paper::{AxisIndex, CELL_BYTES, Cell, HALF_NAME, Head, Ordinality, Refusal, Totalled, Version};
 use refer::choose;
 use std::io;
 
@@ -21,10 +18,10 @@ const COORDINATE: usize = 28;
 // ---- numbers
 
 // The number that was asked for; or 0, and the refusal is printed.
-pub fn number_of(rt: &impl Print, answer: NumberAnswer) -> io::Result<u32> {
+pub fn number_of(rt: &impl Print, answer: Result<u32, Refusal>) -> io::Result<u32> {
     match answer {
-        NumberAnswer::Got(n) => Ok(n),
-        NumberAnswer::Refused(r) => {
+        Ok(n) => Ok(n),
+        Err(r) => {
             say_refusal(rt, r)?;
             Ok(0)
         }
@@ -97,11 +94,11 @@ fn show_limits(rt: &impl Print, bundle: &[u8], k: u32, limits: usize) -> io::Res
 fn show_reference(rt: &impl Print, bundle: &[u8], k: u32, coordinate: &[u8]) -> io::Result<()> {
     let answer = c_asked::refer_bytes(bundle, k, coordinate);
     match answer {
-        ReferenceAnswer::Got(c) => {
+        Ok(c) => {
             say_cell(rt, c)?;
             say_byte(rt, b'\n')
         }
-        ReferenceAnswer::Refused(r) => say_refusal(rt, r),
+        Err(r) => say_refusal(rt, r),
     }
 }
 
@@ -116,15 +113,15 @@ fn show_totalled(rt: &impl Print, t: Totalled) -> io::Result<()> {
 fn show_total(rt: &impl Print, bundle: &[u8], k: u32, which: u32) -> io::Result<()> {
     let answer = c_asked::total_asked(bundle, k, which);
     match answer {
-        TotalAnswer::Got(t) => show_totalled(rt, t),
-        TotalAnswer::Refused(r) => say_refusal(rt, r),
+        Ok(t) => show_totalled(rt, t),
+        Err(r) => say_refusal(rt, r),
     }
 }
 
-fn show_seen(rt: &impl Print, seen: Seen) -> io::Result<()> {
+fn show_seen(rt: &impl Print, seen: Option<Cell>) -> io::Result<()> {
     match seen {
-        Seen::Held(c) => say_cell(rt, c)?,
-        Seen::End => say_byte(rt, b'.')?,
+        Some(c) => say_cell(rt, c)?,
+        None => say_byte(rt, b'.')?,
     }
     say_byte(rt, b' ')
 }
@@ -134,8 +131,8 @@ fn show_walk_step(rt: &impl Print, bundle: &[u8], k: u32, place: u32) -> io::Res
     let step = refer::walk_step(bundle, k, Ordinality(place));
     let answer = step.answer;
     match answer {
-        WalkAnswer::Got(seen) => show_seen(rt, seen)?,
-        WalkAnswer::Refused(r) => say_refusal(rt, r)?,
+        Ok(seen) => show_seen(rt, seen)?,
+        Err(r) => say_refusal(rt, r)?,
     }
     let next = step.place;
     Ok(next.0)

@@ -5,9 +5,9 @@ ghost use Rattle.std.specs.Prelude.{◌≤◌};
 use crate::line::{
     ARGS, EMPTY, NAME, NUMBER, WIDE, arg, arg_kind, arg_last, arg_length, arg8, arg32,
 };
-use cell::bytes::{clear_bytes, join4, put4, put9};
+use cell::bytes::{clear_bytes, put4, put9};
 use paper::{CELL_BYTES, HALF_NAME, HEAD_BYTES, LIMIT_BYTES, LIMITS_BYTES, Sizes, Version};
-use versions::{Told, sizes, version_told};
+use versions::{sizes, version_told};
 
 // A name, a head (its type, its axis count and six axes) and a step of version 2.
 const WHOLE_NAME: usize = 2 * HALF_NAME;
@@ -108,11 +108,7 @@ pub fn put_numbers(
 
 // The sizes of the version told; of version 1 where it is none.
 fn sizes_told(version: u32) -> Sizes {
-    let told = version_told(version);
-    match told {
-        Told::Is(v) => return sizes(v),
-        Told::Unknown => return sizes(Version::One),
-    }
+    sizes(version_told(version).unwrap_or(Version::One))
 }
 
 // declare VERSION
@@ -152,7 +148,7 @@ pub fn add_array(
     put_half(
         heads,
         at,
-        join4(type_of(arg8(args, 1)), (n / 5 % 256) as u8, 0, 0),
+        u32::from_le_bytes([type_of(arg8(args, 1)), (n / 5 % 256) as u8, 0, 0]),
     );
     put_numbers(args, kinds, 2, n, WHOLE_NAME, heads, at + 2);
     Desk {
@@ -241,7 +237,7 @@ pub fn add_step(
     put_half(
         steps,
         at,
-        join4(arg8(args, 1), arg8(args, 2), arg8(args, 3), arg8(args, 4)),
+        u32::from_le_bytes([arg8(args, 1), arg8(args, 2), arg8(args, 3), arg8(args, 4)]),
     );
     put_numbers(args, kinds, 5, n, z.name, steps, at + HEAD_BYTES);
     Desk {

@@ -2,7 +2,7 @@
 ghost use Rattle.std.specs.Prelude.{◌≤◌};
 
 use crate::line::at_most;
-use cell::bytes::{Got, half, read_cell, word_of};
+use cell::bytes::{half, read_cell, word_of};
 use paper::{CELL_BYTES, Cell, HALF_NAME, LIMIT_BYTES, PAIR_BYTES, Refusal, Version};
 use std::io;
 use versions::sizes;
@@ -93,11 +93,11 @@ pub fn say_cell(rt: &impl Print, c: Cell) -> io::Result<()> {
 fn say_one(rt: &impl Print, kind: u8, cells: &[u8], k: usize) -> io::Result<()> {
     if k < cells.len() / CELL_BYTES {
         match read_cell(cells, k * CELL_BYTES, kind) {
-            Got::Is(c) => {
+            Some(c) => {
                 say_byte(rt, b' ')?;
                 say_cell(rt, c)?;
             }
-            Got::Bad => say(rt, b" bad")?,
+            None => say(rt, b" bad")?,
         }
     }
     Ok(())

@@ -7,7 +7,7 @@ use crate::line::{ARGS, arg_length, arg32};
 use crate::parts::{first, first_lent};
 use crate::say::{say_byte, say_cells, say_count, say_refusal};
 use c_asked::side_form;
-use paper::{CELL_BYTES, Form, JsonAnswer, Version};
+use paper::{CELL_BYTES, Form, JsonRefusal, Version};
 use refer::choose;
 use std::io;
 
@@ -27,12 +27,17 @@ fn say_at(rt: &impl Print, number: u64, place: usize) -> io::Result<()> {
 }
 
 // What a cell buffer has after a text was read, or the refusal.
-fn show_answer(rt: &impl Print, answer: JsonAnswer, kind: u8, cells: &[u8]) -> io::Result<()> {
+fn show_answer(
+    rt: &impl Print,
+    answer: Result<u32, JsonRefusal>,
+    kind: u8,
+    cells: &[u8],
+) -> io::Result<()> {
     match answer {
-        JsonAnswer::Got(_) => say_cells(rt, kind, cells, 0, cells.len() / CELL_BYTES),
-        JsonAnswer::NotJson(place) => say_at(rt, 15, place),
-        JsonAnswer::Misfit(place) => say_at(rt, 16, place),
-        JsonAnswer::Refused(r) => {
+        Ok(_) => say_cells(rt, kind, cells, 0, cells.len() / CELL_BYTES),
+        Err(JsonRefusal::NotJson(place)) => say_at(rt, 15, place),
+        Err(JsonRefusal::Misfit(place)) => say_at(rt, 16, place),
+        Err(JsonRefusal::Refused(r)) => {
             say_byte(rt, b' ')?;
             say_refusal(rt, r)
         }

@@ -1,8 +1,7 @@
 -- An extent built axis by axis: with each axis it has one more, and nothing past the last. With an axis left out it is the paper's
 -- `without`.
-use Rattle.std.specs.Prelude.{ℕ, suc, ◌+◌, ◌-◌, ◌≤◌, ◌<◌, ◌≡◌, refl, Bool, true, false, List, [], ◌∷◌, ◌++◌, eqb, leb, length, get_or, take, drop, set, replicate, if◌then◌else◌}
-use Rattle.std.proofs.Common.{sym, ap, ap₂, ◌∙◌, append_assoc, append-nil, add-one, arith, leb-true, leb-false, eqb-true, length-append, length-take, length-drop, drop_of_length-le, take-suc, take_all}
-use Rattle.std.proofs.lemmas.Bool.{eqb-false}
+use Rattle.std.specs.Prelude.{ℕ, suc, ◌+◌, ◌-◌, ◌≤◌, ◌<◌, ◌≡◌, refl, Bool, true, false, List, [], ◌∷◌, ◌++◌, leb, length, get_or, take, drop, set, replicate}
+use Rattle.std.proofs.Common.{sym, ap, ap₂, ◌∙◌, append_assoc, append-nil, add-one, arith, leb-true, leb-false, length-append, length-take, length-drop, drop_of_length-le, take-suc, take_all}
 use Rattle.std.proofs.Math.Seq.{take-nil, drop-nil}
 use Rattle.std.proofs.lemmas.List.{set_at, take-append-le, drop-append-le}
 use Rattle.paper.specs.declared.Axis.{Axis}
@@ -17,10 +16,6 @@ pub record Room (e : Extent) : Type 0 where
 
 abbrev pub with_axis : Extent → Axis → Extent
 with_axis e a = record { rank = e.rank + 1; axes = set e.axes e.rank a }
-
--- one axis more, unless it is left out
-abbrev pub kept_of : Bool → Extent → Axis → Extent
-kept_of out e a = if out then e else with_axis e a
 
 padded : (n k : ℕ) → n < k → replicate (k - n) no_axis ≡ no_axis ∷ replicate (k - (n + 1)) no_axis
 padded n k h = let e : k - n ≡ suc (k - (n + 1)) = omega arith in rw e
@@ -95,17 +90,16 @@ module _ (k : ℕ) (E : List Axis) (i : ℕ) (here : i < length E) (few : length
   pub room-without : (e : Extent) → e ≡ extent_of (without k (take i E)) → Room e
   room-without e q = record { more = omega (arith, ap (λ (x : Extent). x.rank) q, without-few) }
 
-  -- and with it
-  pub without_more : (e : Extent) (a : Axis) → e ≡ extent_of (without k (take i E)) → a ≡ get_or E i no_axis
-      → kept_of (eqb (i + 1) k) e a ≡ extent_of (without k (take (i + 1) E))
-  without_more e a q f = ap₂ (kept_of (eqb (i + 1) k)) q f ∙ by (eqb (i + 1) k) refl
-    where
-      n : length (take i E) ≡ i
-      n = simp length-take (omega arith)
+  n : length (take i E) ≡ i
+  n = simp length-take (omega arith)
 
-      by : (b : Bool) → eqb (i + 1) k ≡ b → kept_of b (extent_of (without k (take i E))) (get_or E i no_axis)
-          ≡ extent_of (without k (take (i + 1) E))
-      by true e = ap extent_of (sym (ap (without k) (take_more E i no_axis here) ∙ without-it k (take i E) (get_or E i no_axis) (omega (arith, n, eqb-true (i + 1) k e))))
-      by false e =
-          with-axis (without k (take i E)) (get_or E i no_axis) without-few
-          ∙ ap extent_of (sym (ap (without k) (take_more E i no_axis here) ∙ without_other k (take i E) (get_or E i no_axis) (λ h. eqb-false (i + 1) k e (omega (arith, n, h)))))
+  -- and with it, where it is left out, and where another is
+  pub without-same : (e : Extent) → e ≡ extent_of (without k (take i E)) → i + 1 ≡ k → e ≡ extent_of (without k (take (i + 1) E))
+  without-same e q h =
+      q ∙ ap extent_of (sym (ap (without k) (take_more E i no_axis here) ∙ without-it k (take i E) (get_or E i no_axis) (omega (arith, n, h))))
+
+  pub without_more : (e : Extent) (a : Axis) → e ≡ extent_of (without k (take i E)) → a ≡ get_or E i no_axis → (i + 1 ≡ k → ⊥)
+      → with_axis e a ≡ extent_of (without k (take (i + 1) E))
+  without_more e a q f h =
+      ap₂ with_axis q f ∙ with-axis (without k (take i E)) (get_or E i no_axis) without-few
+      ∙ ap extent_of (sym (ap (without k) (take_more E i no_axis here) ∙ without_other k (take i E) (get_or E i no_axis) (λ e. h (omega (arith, n, e)))))

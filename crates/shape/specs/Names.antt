@@ -1,8 +1,7 @@
 -- Names in an array with room for the most: the first of them without the one of an index, and those of a detail, each by a loop that has
 -- come so far.
-use Rattle.std.specs.Prelude.{ℕ, suc, ◌+◌, ◌*◌, ◌≤◌, ◌<◌, ◌≡◌, refl, Bool, true, false, List, [], ◌∷◌, ◌++◌, eqb, length, get_or, take, drop, set, if◌then◌else◌}
-use Rattle.std.proofs.Common.{sym, ap, ap₂, ◌∙◌, append_assoc, mul-le-mul_right, arith, eqb-true, length-append, length-take, length-set, drop_of_length-le, take_at, take_all, length-take-le, drop-drop}
-use Rattle.std.proofs.lemmas.Bool.{eqb-false}
+use Rattle.std.specs.Prelude.{ℕ, suc, ◌+◌, ◌*◌, ◌≤◌, ◌<◌, ◌≡◌, refl, List, [], ◌∷◌, ◌++◌, length, get_or, take, drop, set}
+use Rattle.std.proofs.Common.{sym, ap, ap₂, ◌∙◌, append_assoc, mul-le-mul_right, arith, length-append, length-take, length-set, drop_of_length-le, take_at, take_all, length-take-le, drop-drop}
 use Rattle.std.proofs.lemmas.List.{set_split}
 use Rattle.paper.specs.declared.Name.{Name}
 use Rattle.paper.specs.Limits.{most_axes, half_name}
@@ -47,32 +46,27 @@ module _ (k : ℕ) (N : List Name) (i j : ℕ) (new : List Name) (v : Kept k N i
   first : length (take i N) ≡ i
   first = length-take-le i N (omega arith)
 
-  pub kept_more : Kept k N (i + 1) (if eqb (i + 1) k then j else j + 1) (set new j (get_or N i no_name))
-  kept_more = by (eqb (i + 1) k) refl
-    where
-      x : Name
-      x = get_or N i no_name
+  abbrev x : Name
+  x = get_or N i no_name
 
-      room : j < length new
-      room = omega (arith, v.few, v.room)
+  room : j < length new
+  room = omega (arith, v.few, v.room)
 
-      by : (b : Bool) → eqb (i + 1) k ≡ b → Kept k N (i + 1) (if b then j else j + 1) (set new j (get_or N i no_name))
-      by true e = record {
-        few = omega (arith, v.few);
-        room = length-set new j (get_or N i no_name) ∙ v.room;
-        same =
-            take-before new j (get_or N i no_name) room ∙ v.same
-            ∙ sym (ap (without k) (take_more N i no_name here)
-            ∙ without-it k (take i N) (get_or N i no_name) (omega (arith, first, eqb-true (i + 1) k e)));
-      }
-      by false e = record {
-        few = omega (arith, v.few);
-        room = length-set new j (get_or N i no_name) ∙ v.room;
-        same =
-            take-with new j (get_or N i no_name) room ∙ ap (λ (l : List Name). l ++ (get_or N i no_name ∷ [])) v.same
-            ∙ sym (ap (without k) (take_more N i no_name here)
-            ∙ without_other k (take i N) (get_or N i no_name) (λ h. eqb-false (i + 1) k e (omega (arith, first, h))));
-      }
+  pub kept-same : i + 1 ≡ k → Kept k N (i + 1) j (set new j (get_or N i no_name))
+  kept-same e = record {
+    few = omega (arith, v.few);
+    room = length-set new j x ∙ v.room;
+    same = take-before new j x room ∙ v.same ∙ sym (ap (without k) (take_more N i no_name here) ∙ without-it k (take i N) x (omega (arith, first, e)));
+  }
+
+  pub kept_more : (i + 1 ≡ k → ⊥) → Kept k N (i + 1) (j + 1) (set new j (get_or N i no_name))
+  kept_more e = record {
+    few = omega (arith, v.few);
+    room = length-set new j x ∙ v.room;
+    same =
+        take-with new j x room ∙ ap (λ (l : List Name). l ++ (x ∷ [])) v.same
+        ∙ sym (ap (without k) (take_more N i no_name here) ∙ without_other k (take i N) x (λ h. e (omega (arith, first, h))));
+  }
 
 pub kept-all : (k : ℕ) (N : List Name) (i j : ℕ) (new : List Name) → Kept k N i j new → length N ≤ i → length N ≤ most_axes → i ≤ most_axes
     → take (length (without k N)) new ≡ without k N

@@ -10,7 +10,7 @@ ghost use Rattle.paper.specs.Answers.{axes_of, extent_of};
 ghost use Rattle.positions.specs.Runs.{Holds};
 ghost use Rattle.extent.specs.Tests.{Ranged};
 ghost use Rattle.extent.specs.Judged.{Small};
-ghost use Rattle.shape.specs.Built.{Room, with_axis, kept_of};
+ghost use Rattle.shape.specs.Built.{Room, with_axis};
 ghost use Rattle.shape.specs.Renewed.{pair_of, fresh, bytes_for};
 ghost use Rattle.shape.specs.declared.Change.TheVariants.{Limits, Moved};
 ghost use Rattle.shape.specs.Joined.{Gluing};
@@ -52,17 +52,6 @@ pub fn with_axis(e: Extent, a: Axis) -> Extent
     new
 }
 
-// The same, unless the axis is left out.
-fn kept(e: Extent, a: Axis, out: bool) -> Extent
-    requires { Room e }
-    ensures { result ≡ kept_of out e a }
-{
-    if out {
-        return e;
-    }
-    with_axis(e, a)
-}
-
 // The extent without the axis of that index.
 pub fn removed(e: Extent, k: AxisIndex) -> Extent
     ensures { axes_of result ≡ without k.0 (axes_of e) }
@@ -70,10 +59,10 @@ pub fn removed(e: Extent, k: AxisIndex) -> Extent
     let out = k.0 as usize;
     let rank = extent::rank_of(e);
     let mut new = empty();
-    let mut i: usize = 0;
-    while i < rank {
-        new = kept(new, e.axes[i], i + 1 == out);
-        i += 1;
+    for i in 0..rank {
+        if i + 1 != out {
+            new = with_axis(new, e.axes[i]);
+        }
     }
     new
 }
@@ -143,10 +132,8 @@ fn anew(how: Change, e: Extent, s: &[u8], at: usize) -> Extent
     let width = bytes_for(how);
     let rank = extent::rank_of(e);
     let mut new = empty();
-    let mut i: usize = 0;
-    while i < rank {
+    for i in 0..rank {
         new = with_axis(new, axis_anew(how, e.axes[i], s, at + i * width));
-        i += 1;
     }
     new
 }

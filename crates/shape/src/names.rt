@@ -50,17 +50,6 @@ pub fn name_at(v: Version, s: &[u8], at: usize) -> Name
     }
 }
 
-// The next place, unless what was put there is left out.
-fn past(j: usize, out: bool) -> usize
-    requires { j ≤ most_axes }
-    ensures { result ≡ (if out then j else j + 1) }
-{
-    if out {
-        return j;
-    }
-    j + 1
-}
-
 // The first `rank` names without that of the axis of index k.
 pub fn without_name(names: [Name; AXES], rank: usize, k: AxisIndex) -> [Name; AXES]
     requires { rank ≤ most_axes }
@@ -69,11 +58,11 @@ pub fn without_name(names: [Name; AXES], rank: usize, k: AxisIndex) -> [Name; AX
     let out = k.0 as usize;
     let mut new = names;
     let mut j: usize = 0;
-    let mut i: usize = 0;
-    while i < rank {
+    for i in 0..rank {
         new[j] = names[i];
-        j = past(j, i + 1 == out);
-        i += 1;
+        if i + 1 != out {
+            j += 1;
+        }
     }
     new
 }
@@ -87,10 +76,8 @@ pub fn names_at(v: Version, rank: usize, s: &[u8], at: usize) -> [Name; AXES]
     let z = sizes(v);
     let width = z.name;
     let mut new = no_names();
-    let mut i: usize = 0;
-    while i < rank {
+    for i in 0..rank {
         new[i] = name_at(v, s, at + i * width);
-        i += 1;
     }
     new
 }

@@ -1,5 +1,6 @@
 -- The step that a head names in a recipe's bytes, and parts of its detail where they lie.
-use Rattle.std.specs.Prelude.{ℕ, ◌+◌, ◌*◌, ◌≤◌, ◌≡◌, true, ◌&&◌, List, length}
+use Rattle.std.specs.Prelude.{ℕ, ◌+◌, ◌*◌, ◌≤◌, ◌≡◌, true, ◌&&◌, List, length, Option}
+use Rattle.paper.specs.declared.Cell.{Cell}
 use Rattle.std.proofs.Common.{mul-le-mul_right, le_trans, sym, ap, ◌∙◌, arith, to_z}
 use Rattle.std.specs.Int.{w32}
 use Rattle.paper.specs.declared.Sizes.{Sizes}
@@ -14,8 +15,6 @@ use Rattle.paper.specs.Operators.{takes}
 use Rattle.paper.specs.Recipe.{Step, uses, axis_in, is_scalar}
 use Rattle.laws.specs.Tests.{and_yes, between-true}
 use Rattle.laws.specs.Sizes.{fits}
-use Rattle.cell.specs.Reads.{told}
-use Rattle.cell.specs.declared.bytes.Got.{Got}
 use Rattle.positions.specs.Runs.{Holds, part-part}
 use Rattle.extent.specs.Judged.{Small}
 use Rattle.shape.specs.Joined.{Gluing}
@@ -64,9 +63,9 @@ position-there s h =
 pub scalar-there : (s : List ℕ) (h : StepHead) → part (h.at + scalar_at) word_bytes s ≡ part scalar_at word_bytes (part h.at (detail_of h) s)
 scalar-there s h = sym (part-part s h.at (detail_of h) scalar_at word_bytes (fits h.version).scalar)
 
-pub scalar-told : (o : PairOp) (t : ℕ) (s : List ℕ) (at : ℕ) → takes o t ≡ true → (g : Got) (w : ℕ) → told g ≡ filled t w
+pub scalar-told : (o : PairOp) (t : ℕ) (s : List ℕ) (at : ℕ) → takes o t ≡ true → (g : Option Cell) (w : ℕ) → g ≡ filled t w
     → w ≡ le_of (part (at + scalar_at) word_bytes s)
-    → is_scalar (told g) ≡ (takes o t && is_scalar (filled t (le_of (part (at + scalar_at) word_bytes s))))
+    → is_scalar g ≡ (takes o t && is_scalar (filled t (le_of (part (at + scalar_at) word_bytes s))))
 scalar-told o t s at y g w q e = ap is_scalar (q ∙ ap (filled t) e) ∙ and_yes _ _ y
 
 -- a glue whose axis index is in A

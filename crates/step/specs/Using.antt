@@ -1,13 +1,13 @@
 -- The paper's column "Uses" as four figures: operand B, the axis index, a scalar, and the byte from which on the detail is unused.
-use Prim.Native.Nat.{ℕ, suc, ◌+◌, ◌-◌, ◌*◌, ◌≤◌, ◌<◌}
-use Rattle.std.specs.Prelude.{◌≡◌, refl, Bool, true, false, not, ◌&&◌, ◌||◌, List, [], ◌∷◌, ◌++◌, eqb, drop, get_or, if◌then◌else◌}
+use Prim.Native.Nat.{ℕ, zero, suc, ◌+◌, ◌-◌, ◌*◌, ◌/◌, ◌≤◌}
+use Rattle.std.specs.List.{list_all}
+use Rattle.std.specs.Simd.{first_chunks}
+use Rattle.std.specs.Prelude.{◌≡◌, refl, Bool, true, false, not, ◌&&◌, ◌||◌, List, [], ◌∷◌, ◌++◌, eqb, drop, if◌then◌else◌}
 use Rattle.std.proofs.Math.Path.{sym}
-use Rattle.std.proofs.Common.{ap, ◌∙◌, mul_comm, mul-le-mul_right, le_trans, le_of_eq, eqb-true, eq-eqb, ne_eqb, length-drop, length-take, drop-drop, take-add, take_all}
+use Rattle.std.proofs.Common.{ap, ◌∙◌, mul_comm, mul-le-mul_right, le_trans, le_of_eq, eqb-true, eq-eqb, ne_eqb, length-drop, length-take, length-take-le, take, take-add, take-append-drop, take_all}
 use native.Mathlib.Omega.{arith}
-use Rattle.std.proofs.Math.Numerals.{add-one}
 use Rattle.std.proofs.lemmas.Bool.{eqb-false}
 use Rattle.std.proofs.Math.ListN.{length}
-use Rattle.std.proofs.Math.Seq.{drop-cons}
 use Rattle.paper.specs.declared.Sizes.{Sizes}
 use Rattle.paper.specs.declared.Operation.{Operation}
 use Rattle.paper.specs.declared.Operation.TheVariants.{Moves, Works}
@@ -88,18 +88,6 @@ module _ (op : Operation) (z : Sizes) (n : ℕ) (u : Used) (c : Column op z n u)
 
 -- ---- zeros in a row
 
-module _ (s : List ℕ) (to i : ℕ) where
-  pub zeros-up : i < to → to ≤ length s → zeros (part i (to - i) s) ≡ (eqb (get_or s i 0) 0 && zeros (part (i + 1) (to - (i + 1)) s))
-  unfolding zeros
-  zeros-up h l =
-      let e : to - i ≡ suc (to - (i + 1)) = omega arith in
-      let b : i < length s = omega arith in
-      rw (e, drop-cons s i 0 b, ← add-one i)
-
-  pub zeros-end : to ≤ i → zeros (part i (to - i) s) ≡ true
-  unfolding zeros
-  zeros-end h = let e : to - i ≡ 0 = omega arith in rw e
-
 -- a number is 0 where its bytes are
 zeros-number : (bs : List ℕ) → zeros bs ≡ eqb (le_of bs) 0
 unfolding zeros
@@ -111,14 +99,30 @@ zeros-number (b ∷ bs) = rw (zeros-number bs) (by (eqb b 0) (eqb (le_of bs) 0) 
     by true false p q = let n = eqb-false (le_of bs) 0 q in sym (ne_eqb (b + 256 * le_of bs) 0 (λ z. n (omega arith)))
     by false y p q = let m = eqb-false b 0 p in sym (ne_eqb (b + 256 * le_of bs) 0 (λ z. m (omega arith)))
 
--- eight bytes more
-pub zeros-word : (s : List ℕ) (to i : ℕ) → word_bytes ≤ to - i
-    → zeros (part i (to - i) s) ≡ (eqb (le_of (part i word_bytes s)) 0 && zeros (part (i + word_bytes) (to - (i + word_bytes)) s))
-zeros-word s to i h =
-    let e : to - i ≡ word_bytes + (to - (i + word_bytes)) = omega arith in
-    ap (λ (n : ℕ). zeros (part i n s)) e ∙ ap zeros (take-add word_bytes (to - (i + word_bytes)) (drop i s))
-    ∙ zeros-append (part i word_bytes s) _
-    ∙ rw (zeros-number (part i word_bytes s), drop-drop word_bytes i s) refl
+-- one byte after the other
+pub zeros-each : (bs : List ℕ) → zeros bs ≡ list_all (λ b. eqb b 0) bs
+unfolding zeros
+zeros-each [] = refl
+zeros-each (b ∷ bs) = rw (zeros-each bs)
+
+-- the first k words
+zeros-first : (k : ℕ) (bs : List ℕ) → k * word_bytes ≤ length bs
+    → zeros (take (k * word_bytes) bs) ≡ list_all (λ w. eqb (le_of (part 0 word_bytes w)) 0) (first_chunks word_bytes k bs)
+unfolding zeros
+zeros-first zero bs h = refl
+zeros-first (suc k) bs h =
+    let e : suc k * word_bytes ≡ word_bytes + k * word_bytes = omega arith in
+    let t : take word_bytes (take word_bytes bs) ≡ take word_bytes bs = take_all word_bytes (take word_bytes bs) (omega (arith, length-take-le word_bytes bs (omega arith))) in
+    let n : k * word_bytes ≤ length (drop word_bytes bs) = omega (arith, length-drop word_bytes bs) in
+    rw (e, take-add word_bytes (k * word_bytes) bs, zeros-append (take word_bytes bs) _, zeros-number (take word_bytes bs), t, zeros-first k (drop word_bytes bs) n)
+
+-- as many whole words as there are, and the bytes after them
+pub zeros-words : (bs : List ℕ)
+    → zeros bs ≡ (list_all (λ w. eqb (le_of (part 0 word_bytes w)) 0) (first_chunks word_bytes (length bs / word_bytes) bs) && zeros (drop (length bs / word_bytes * word_bytes) bs))
+zeros-words bs =
+    let k = length bs / word_bytes in
+    ap zeros (sym (take-append-drop (k * word_bytes) bs)) ∙ zeros-append (take (k * word_bytes) bs) _
+    ∙ rw (zeros-first k bs (omega arith))
 
 -- ---- the bytes of the detail at `at` that are not used
 

@@ -7,7 +7,6 @@ ghost use Rattle.paper.specs.Recipe.{uses, axis_in, axis_differs};
 ghost use Rattle.paper.specs.Answers.{axes_of};
 ghost use Rattle.step.specs.Agreeing.{limits_in, index_in, differing, agreed};
 
-use extent::names::same_name;
 use extent::rank_of;
 use paper::{AXES, Axis, AxisIndex, Extent, Move, Name, Operation, Work};
 use shape::names::without_name;
@@ -55,10 +54,11 @@ fn index_in(c: Compared, j: usize) -> usize
 }
 
 // What two axes differ in first: their names, their lower or their upper limits, where these are compared; 0 for nothing.
+#[tactic(auto, unfolding(paper::specs::Recipe::axis_differs))]
 fn axis_differs(limits: bool, m: Name, a: Axis, n: Name, b: Axis) -> u32
     ensures { (result ≡ axis_differs limits m a n b) × (result ≤ 3) }
 {
-    if !same_name(m, n) {
+    if m != n {
         return 1;
     }
     if !limits {
@@ -81,13 +81,11 @@ fn first_difference(c: Compared, m: [Name; AXES], e: Extent, n: [Name; AXES], f:
     if rank_of(f) != rank {
         return 4;
     }
-    let mut j = 0;
-    while j < rank {
+    for j in 0..rank {
         let d = axis_differs(limits_in(c, j), m[j], e.axes[j], n[j], f.axes[j]);
         if d != 0 {
             return 10 * index_in(c, j) as u32 + d;
         }
-        j += 1;
     }
     0
 }

@@ -14,7 +14,7 @@ ghost use Rattle.step.specs.Steps.{detail_of, step_in, Detailed};
 ghost use Rattle.step.specs.Named.{NamesTold};
 
 use crate::StepHead;
-use cell::bytes::{Got, from_word, word};
+use cell::bytes::{from_word, word};
 use extent::{axis_of, covers_all, on_axis, rank_of};
 use operators::types::{gives_pair, gives_single, takes_pair, takes_single};
 use paper::{AXES, AxisIndex, Extent, Form, Move, Name, Operation, PairOp, SCALAR_AT, Work};
@@ -42,11 +42,7 @@ fn scalar_fits(o: PairOp, t: u8, s: &[u8], at: usize) -> bool
     if !takes_pair(o, t) {
         return false;
     }
-    let got = from_word(t, word(s, at + SCALAR_AT));
-    match got {
-        Got::Is(_) => return true,
-        Got::Bad => return false,
-    }
+    from_word(t, word(s, at + SCALAR_AT)).is_some()
 }
 
 // The operator takes A's type, with its scalar.

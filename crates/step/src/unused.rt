@@ -82,20 +82,8 @@ fn zero_between(s: &[u8], from: usize, to: usize) -> bool
     requires { (from ≤ to) × (to ≤ length s.now) }
     ensures { result ≡ zeros (part from (to - from) s.now) }
 {
-    let mut i = from;
-    while WORD_BYTES <= to - i {
-        if word(s, i) != 0 {
-            return false;
-        }
-        i += WORD_BYTES;
-    }
-    while i < to {
-        if s[i] != 0 {
-            return false;
-        }
-        i += 1;
-    }
-    true
+    let (words, rest) = s[from..to].as_chunks::<WORD_BYTES>();
+    words.iter().all(|w| word(w, 0) == 0) && rest.iter().all(|b| *b == 0)
 }
 
 // The bytes of the detail at `at`, of `detail` bytes, that are not used are zero.

@@ -1,21 +1,20 @@
 -- The plan of a stretch: the paper's answer for cell buffers of so many bytes, since cells aren't judged.
-use Rattle.std.specs.Prelude.{ℕ, ◌+◌, ◌-◌, ◌*◌, ◌/◌, ◌≤◌, ◌≡◌, Bool, true, false, List, [], length}
+use Rattle.std.specs.Prelude.{ℕ, ◌+◌, ◌-◌, ◌*◌, ◌/◌, ◌≤◌, ◌≡◌, Bool, true, false, List, [], length, Ok, Err}
 use Rattle.std.proofs.Common.{ap, ◌∙◌, arith}
 use Rattle.std.proofs.Math.Path.{ap₂}
 use Rattle.paper.specs.declared.Sizes.{Sizes}
 use Rattle.paper.specs.declared.Name.{Name}
 use Rattle.paper.specs.declared.Axis.{Axis}
 use Rattle.paper.specs.declared.Extent.{Extent}
+use Rattle.paper.specs.declared.Refusal.{Refusal}
 use Rattle.paper.specs.declared.Part.{Part}
-use Rattle.paper.specs.declared.StretchAnswer.{StretchAnswer}
-use Rattle.paper.specs.declared.StretchAnswer.TheVariants.{Got, Refused}
 use Rattle.paper.specs.Limits.{most_cells, cell_bytes}
-use Rattle.paper.specs.Refusals.{Res, got, refused, refusal, between, bad_bytes1, outside6}
+use Rattle.paper.specs.Refusals.{Res, refusal, between, bad_bytes1, outside6}
 use Rattle.paper.specs.Axes.{cells}
 use Rattle.paper.specs.Bundle.{version_told}
 use Rattle.paper.specs.Recipe.{glued}
 use Rattle.paper.specs.Stretch.{Side, glue_tests, stretch_in, stretch}
-use Rattle.paper.specs.Answers.{axes_of, stretch_said}
+use Rattle.paper.specs.Answers.{axes_of}
 use Rattle.laws.specs.Tests.{between-true}
 use Rattle.laws.specs.Glue.{block_cells}
 use Rattle.laws.proofs.Glue.{Gluable, cells-glued}
@@ -25,27 +24,26 @@ use Rattle.stretch.specs.Sides.{sided, SidePassed, side-clean, glue-passed}
 use Rattle.stretch.specs.Turns.{turn_part, InBuffer, turn_is}
 
 -- a part that is handed out lies in its buffer
-abbrev pub Buffered : ℕ → ℕ → StretchAnswer → Type 0
-Buffered l r (Got p) = InBuffer l r p
-Buffered l r (Refused x) = Unit {0}
+abbrev pub Buffered : ℕ → ℕ → Res Part → Type 0
+Buffered l r (Ok p) = InBuffer l r p
+Buffered l r (Err x) = Unit {0}
 
 -- of a left side (type t, names M, extent e, l bytes), a right side (u, N, f, r bytes), axis k and ordinality o: the answer is the
 -- paper's, in a version or in the version told, whatever the buffers hold, and a part lies in its buffer
 pub record StretchFound (paper : Side → Side → ℕ → ℕ → Res Part) (t : ℕ) (M : List Name) (e : Extent) (l : ℕ) (u : ℕ) (N : List Name)
-    (f : Extent) (r : ℕ) (k o : ℕ) (a : StretchAnswer) : Type 0 where
-  pub said : (bs cs : List ℕ) → length bs ≡ l → length cs ≡ r → stretch_said a ≡ paper (sided t M e bs) (sided u N f cs) k o
+    (f : Extent) (r : ℕ) (k o : ℕ) (a : Res Part) : Type 0 where
+  pub said : (bs cs : List ℕ) → length bs ≡ l → length cs ≡ r → a ≡ paper (sided t M e bs) (sided u N f cs) k o
   pub within : Buffered l r a
 
 module _ (w : ℕ) {t l u r k o : ℕ} {M N : List Name} {e f : Extent} where
   -- what is found in the version told
-  pub in-version : {z : Sizes} {a : StretchAnswer} → version_told w ≡ got z → StretchFound (stretch_in z) t M e l u N f r k o a
+  pub in-version : {z : Sizes} {a : Res Part} → version_told w ≡ Ok z → StretchFound (stretch_in z) t M e l u N f r k o a
       → StretchFound (stretch w) t M e l u N f r k o a
   unfolding stretch
   in-version h s = record { said = λ bs cs p q. rw h (s.said bs cs p q); within = s.within }
 
   -- a version that is none is refused before all else
-  pub no-version : version_told w ≡ refused (refusal bad_bytes1 0 0)
-      → StretchFound (stretch w) t M e l u N f r k o (Refused (refusal bad_bytes1 0 0))
+  pub no-version : {x : Refusal} → version_told w ≡ Err x → StretchFound (stretch w) t M e l u N f r k o (Err x)
   unfolding stretch
   no-version h = record { said = λ bs cs p q. rw h; within = tt }
 
@@ -54,7 +52,7 @@ pub record SidesPassed (z : Sizes) (t : ℕ) (M : List Name) (e : Extent) (l : �
     (k : ℕ) : Type 0 where
   pub left : SidePassed z t M e l 1
   pub right : SidePassed z u N f r 2
-  pub glue : (bs cs : List ℕ) → glue_tests (sided t M e bs) (sided u N f cs) k ≡ got tt
+  pub glue : (bs cs : List ℕ) → glue_tests (sided t M e bs) (sided u N f cs) k ≡ Ok tt
 
 module _ {z : Sizes} {t l u r k : ℕ} {M N : List Name} {e f : Extent} (P : SidesPassed z t M e l u N f r k) where
   abbrev E : List Axis
@@ -89,7 +87,7 @@ module _ {z : Sizes} {t l u r k : ℕ} {M N : List Name} {e f : Extent} (P : Sid
     counted q = let n : cells (glued k E F) ≡ (l + r) / cell_bytes = omega (arith, bytes) in rw n q
 
     pub outside : between 1 ((l + r) / cell_bytes) o ≡ false
-        → StretchFound (stretch_in z) t M e l u N f r k o (Refused (refusal outside6 0 0))
+        → StretchFound (stretch_in z) t M e l u N f r k o (Err (refusal outside6 0 0))
     unfolding stretch_in
     outside q = record { said = λ bs cs x y. rw (P.left.said bs x, P.right.said cs y, P.glue bs cs, counted q); within = tt }
 
@@ -102,12 +100,12 @@ module _ {z : Sizes} {t l u r k : ℕ} {M N : List Name} {e f : Extent} (P : Sid
 
       -- m and n cells are a block of each side
       pub part-found : {m n : ℕ} {p : Part} → m ≡ block_cells k E → n ≡ block_cells k F → p ≡ turn_part m n (o - 1)
-          → StretchFound (stretch_in z) t M e l u N f r k o (Got p)
+          → StretchFound (stretch_in z) t M e l u N f r k o (Ok p)
       unfolding stretch_in
       part-found {m} {n} {p} mis nis s =
           let T = turn_is k E F glue.0 right.0.sound o range.0 range.1 in
           let b : p ≡ turn_part (block_cells k E) (block_cells k F) (o - 1) = s ∙ ap₂ (λ (x y : ℕ). turn_part x y (o - 1)) mis nis in
           record {
-            said = λ bs cs x y. rw (P.left.said bs x, P.right.said cs y, P.glue bs cs, counted q) (ap got (b ∙ T.0));
+            said = λ bs cs x y. rw (P.left.said bs x, P.right.said cs y, P.glue bs cs, counted q) (ap Ok (b ∙ T.0));
             within = rw (b, left.1, right.1) T.1;
           }

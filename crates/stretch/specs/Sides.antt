@@ -1,5 +1,5 @@
 -- The two sides of a stretch as they are lent, and what it says of them that their tests are passed.
-use Rattle.std.specs.Prelude.{ℕ, ◌*◌, ◌≡◌, false, not, ◌&&◌, List, eqb, length, take, replicate}
+use Rattle.std.specs.Prelude.{ℕ, ◌*◌, ◌≡◌, false, not, ◌&&◌, List, eqb, length, take, replicate, Ok, Err}
 use Rattle.std.proofs.Common.{sym, ap, ◌∙◌, arith, eqb-true, ne_eqb}
 use Rattle.std.proofs.lemmas.List.{length-replicate}
 use Rattle.paper.specs.declared.Sizes.{Sizes}
@@ -10,7 +10,7 @@ use Rattle.paper.specs.declared.Refusal.{Refusal}
 use Rattle.paper.specs.declared.Move.TheVariants.{Glue}
 use Rattle.paper.specs.declared.Operation.TheVariants.{Moves}
 use Rattle.paper.specs.Limits.{cell_bytes}
-use Rattle.paper.specs.Refusals.{Res, got, refused, between, bad_bytes1, bad_extent2, bad_axis5, unfit7, bad_result9}
+use Rattle.paper.specs.Refusals.{Res, between, bad_bytes1, bad_extent2, bad_axis5, unfit7, bad_result9}
 use Rattle.paper.specs.Numbers.{none?}
 use Rattle.paper.specs.Axes.{cells, good_extent}
 use Rattle.paper.specs.Cells.{is_type}
@@ -39,15 +39,15 @@ pub record GlueJudged (t : ℕ) (M : List Name) (e : Extent) (u : ℕ) (N : List
 -- ---- what a refusal tells of the tests that it answers
 
 module _ (x : Refusal) {m : Res (Unit {0})} (e : unless x tt ≡ m) where
-  pub failed : (x.number ≡ 0 → ⊥) → m ≡ refused x
+  pub failed : (x.number ≡ 0 → ⊥) → m ≡ Err x
   failed h = sym e ∙ unless-refused x tt h
 
-  pub passed : x.number ≡ 0 → m ≡ got tt
+  pub passed : x.number ≡ 0 → m ≡ Ok tt
   passed h = sym e ∙ unless-got x tt h
 
 -- every test of a side holds, whatever its n bytes are
 pub record SidePassed (z : Sizes) (t : ℕ) (N : List Name) (e : Extent) (n place : ℕ) : Type 0 where
-  pub said : (bs : List ℕ) → length bs ≡ n → judge z place (sided t N e bs) ≡ got tt
+  pub said : (bs : List ℕ) → length bs ≡ n → judge z place (sided t N e bs) ≡ Ok tt
 
 pub side-passed : {z : Sizes} {t : ℕ} {N : List Name} {e : Extent} {n place : ℕ} {x : Refusal} → SideJudged z t N e n place x
     → x.number ≡ 0 → SidePassed z t N e n place
@@ -55,7 +55,7 @@ side-passed s h = record { said = λ bs p. passed _ (s.said bs p) h }
 
 -- ---- what is known where they hold
 
-pub judge-passed : (z : Sizes) (k : ℕ) (s : Side) → judge z k s ≡ got tt → Small s.axes
+pub judge-passed : (z : Sizes) (k : ℕ) (s : Side) → judge z k s ≡ Ok tt → Small s.axes
     × (length s.bytes ≡ cells s.axes * cell_bytes)
 unfolding judge
 judge-passed z k s e =
@@ -72,7 +72,7 @@ side-clean {z} {t} {N} {e} {n} {place} s =
     let r = judge-passed z place (sided t N e (replicate n 0)) (s.said (replicate n 0) l) in
     (r.0, sym l ∙ r.1)
 
-pub glue-passed : (l r : Side) (k : ℕ) → Small l.axes → glue_tests l r k ≡ got tt
+pub glue-passed : (l r : Side) (k : ℕ) → Small l.axes → glue_tests l r k ≡ Ok tt
     → Gluable k l.axes r.axes × Small (glued k l.axes r.axes)
 unfolding glue_tests
 glue-passed l r k s e =

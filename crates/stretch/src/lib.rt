@@ -2,9 +2,8 @@
 // right cell buffer. The version told is judged, then each side, then what gluing asks, then the ordinality; cells aren't.
 #![tactic(auto)]
 
-ghost use Rattle.std.specs.Prelude.{◌*◌, ◌≤◌, ◌≡◌, length};
+ghost use Rattle.std.specs.Prelude.{◌*◌, ◌≤◌, ◌≡◌, length, Ok};
 ghost use Rattle.paper.specs.Limits.{most_cells, cell_bytes, sizes_of};
-ghost use Rattle.paper.specs.Refusals.{got};
 ghost use Rattle.paper.specs.Stretch.{Side, stretch_in, stretch as paper_stretch, handed_out};
 ghost use Rattle.paper.specs.Answers.{axes_of};
 ghost use Rattle.extent.specs.Judged.{Small};
@@ -18,13 +17,13 @@ use extent::names::names_fit;
 use extent::{good_extent, rank_of};
 use origin::{Origin, block_of, in_turns};
 use paper::{
-    AXES, AxisIndex, CELL_BYTES, Extent, Move, Name, Operation, Ordinality, Part, Refusal,
-    StretchAnswer, TYPES, Version,
+    AXES, AxisIndex, CELL_BYTES, Extent, Move, Name, Operation, Ordinality, Part, Refusal, TYPES,
+    Version,
 };
 use refusals::{in_range, none, refuse, refuse_at};
 use shape::glued_along;
 use step::agreeing::difference;
-use versions::{Told, sizes, version_told};
+use versions::{sizes, version_told};
 
 // ---- tests, each group by its first refusal, or none
 
@@ -127,17 +126,17 @@ pub fn plan_as(
     right_bytes: usize,
     axis: AxisIndex,
     o: Ordinality,
-) -> StretchAnswer
+) -> Result<Part, Refusal>
     ensures { StretchFound (stretch_in (sizes_of v)) left_kind left_names left left_bytes
         right_kind right_names right right_bytes axis.0 o.0 result }
 {
     let first = side_refusal(v, left_kind, left_names, left, left_bytes, 1);
     if first.number != 0 {
-        return StretchAnswer::Refused(first);
+        return Err(first);
     }
     let second = side_refusal(v, right_kind, right_names, right, right_bytes, 2);
     if second.number != 0 {
-        return StretchAnswer::Refused(second);
+        return Err(second);
     }
     let both = glue_refusal(
         left_kind,
@@ -149,14 +148,14 @@ pub fn plan_as(
         axis,
     );
     if both.number != 0 {
-        return StretchAnswer::Refused(both);
+        return Err(both);
     }
     if !in_range(o.0 as usize, (left_bytes + right_bytes) / CELL_BYTES) {
-        return StretchAnswer::Refused(refuse(6, 0));
+        return Err(refuse(6, 0));
     }
     let m = block_of(left, axis);
     let n = block_of(right, axis);
-    StretchAnswer::Got(in_turn(m, n, o.0 as usize - 1))
+    Ok(in_turn(m, n, o.0 as usize - 1))
 }
 
 // So in the version that a number tells of: another than 1 and 2 is refused before all else.
@@ -172,29 +171,24 @@ pub fn plan_stretch(
     right_bytes: usize,
     axis: AxisIndex,
     o: Ordinality,
-) -> StretchAnswer
+) -> Result<Part, Refusal>
     ensures { StretchFound (paper_stretch version) left_kind left_names left left_bytes
         right_kind right_names right right_bytes axis.0 o.0 result }
 {
-    let told = version_told(version);
-    match told {
-        Told::Is(v) => {
-            return plan_as(
-                v,
-                left_kind,
-                left_names,
-                left,
-                left_bytes,
-                right_kind,
-                right_names,
-                right,
-                right_bytes,
-                axis,
-                o,
-            )
-        }
-        Told::Unknown => return StretchAnswer::Refused(refuse(1, 0)),
-    }
+    let v = version_told(version)?;
+    plan_as(
+        v,
+        left_kind,
+        left_names,
+        left,
+        left_bytes,
+        right_kind,
+        right_names,
+        right,
+        right_bytes,
+        axis,
+        o,
+    )
 }
 
 // ---- handed out
@@ -202,7 +196,7 @@ pub fn plan_stretch(
 // The bytes of a part, of the buffer that owns it.
 fn part_of<'a>(left: &'a [u8], right: &'a [u8], p: Part) -> &'a [u8]
     requires { InBuffer (length left.now) (length right.now) p }
-    ensures { (L R : Side) → L.bytes ≡ left.now → R.bytes ≡ right.now → result.now ≡ handed_out L R (got p) }
+    ensures { (L R : Side) → L.bytes ≡ left.now → R.bytes ≡ right.now → result.now ≡ handed_out L R (Ok p) }
 {
     match p {
         Part::Left(from, to) => {
@@ -251,8 +245,8 @@ pub fn stretch<'a, 'b>(
         axis,
         o,
     ) {
-        StretchAnswer::Got(p) => part_of(left_cells, right_cells, p),
-        StretchAnswer::Refused(refusal) => {
+        Ok(p) => part_of(left_cells, right_cells, p),
+        Err(refusal) => {
             *said = [refusal.number as u32, refusal.place, refusal.ordinality];
             &left_cells[0..0]
         }

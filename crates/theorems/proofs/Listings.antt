@@ -2,13 +2,13 @@
 -- many, and joined they are the rows of the coordinates whose cell is TRUE, once each, in row-major order. TRUE is judged in the values,
 -- one whole array at a time; of a page only its answer and its bytes are looked at.
 use Prim.Native.Nat.{ℕ, zero, suc, ◌+◌, ◌*◌, ◌/◌, ◌≤◌, ◌<◌}
-use Rattle.std.specs.Prelude.{◌≡◌, Bool, eqb, take, drop, if◌then◌else◌}
+use Rattle.std.specs.Prelude.{◌≡◌, Bool, eqb, take, drop, if◌then◌else◌, Option, Some, Ok}
+use Rattle.std.specs.Option.{option_map}
 use Rattle.std.proofs.Math.Path.{refl, sym, ap, subst}
 use Rattle.std.proofs.Common.{◌∙◌, le-div_iff_mul-le, take_at}
 use Rattle.std.proofs.Math.Bool.{true, false}
 use mathlib.Core.List.{List, [], ◌∷◌, ◌++◌, map, append-nil}
 use Rattle.std.proofs.Math.Option
-use Rattle.std.proofs.Math.Option.{Option, some}
 use native.Mathlib.Omega.{arith}
 use borrow.Author.Tests.{eqb-true, eqb-false, eq-eqb, le-leb}
 use Rattle.std.proofs.Math.ListN.{length, get_or}
@@ -16,7 +16,6 @@ use Rattle.paper.specs.declared.Axis.{Axis}
 use Rattle.paper.specs.declared.Cell.{Cell}
 use Rattle.paper.specs.declared.Cell.TheVariants.{Empty}
 use Rattle.paper.specs.Limits.{BOOLEAN}
-use Rattle.paper.specs.Refusals.{got}
 use Rattle.paper.specs.Numbers.{part, last_of, from, concat, over}
 use Rattle.paper.specs.Axes.{cells, inside, offset, ordinality, at_offset, build, Shape, Array, at}
 use Rattle.paper.specs.Cells.{is_truth, is_true, trues}
@@ -137,7 +136,7 @@ module _ (A : Array) where
 -- where the later pages have the rows of the TRUE cells from where they start on, so has this page with them
 module _ (A : Array) (start : ℕ) (buffer work : List ℕ) (later : ℕ → Option (List ℕ)) (w : Full A)
     (r : 1 ≤ length buffer / row_bytes A.shape) (h : 1 ≤ start) (k : start ≤ cells A.shape.axes)
-    (f : (next : ℕ) → start < next → next ≤ cells A.shape.axes → later next ≡ some (rows_of A.shape (onward A next))) where
+    (f : (next : ℕ) → start < next → next ≤ cells A.shape.axes → later next ≡ Some (rows_of A.shape (onward A next))) where
   abbrev s : Shape
   s = A.shape
 
@@ -147,7 +146,7 @@ module _ (A : Array) (start : ℕ) (buffer work : List ℕ) (later : ℕ → Opt
   abbrev next : ℕ
   next = go_on A (length buffer / row_bytes s) os
 
-  page-then : page_then s (page_of A start buffer work).rows (page_of A start buffer work).answer later ≡ some (rows_of s (onward A start))
+  page-then : page_then s (page_of A start buffer work).rows (page_of A start buffer work).answer later ≡ Some (rows_of s (onward A start))
   unfolding page_then page_of
   page-then = rw wrote (by (eqb next (cells s.axes + 1)) refl)
     where
@@ -158,17 +157,17 @@ module _ (A : Array) (start : ℕ) (buffer work : List ℕ) (later : ℕ → Opt
       wrote = take_at (rows_of s os) (drop (length (rows_of s os)) buffer) (length os * row_bytes s) (length-rows s os)
 
       by : (b : Bool) → eqb next (cells s.axes + 1) ≡ b
-          → (if b then some (rows_of s os) else Option.map (λ more. rows_of s os ++ more) (later next)) ≡ some (rows_of s (onward A start))
+          → (if b then Some (rows_of s os) else option_map (λ more. rows_of s os ++ more) (later next)) ≡ Some (rows_of s (onward A start))
       by true q = rw (← t.all, eqb-true next (cells s.axes + 1) q, past A w, append-nil)
       by false q =
           let l = f next t.on (omega (arith, t.end, eqb-false next (cells s.axes + 1) q)) in
-          rw (l, ← t.all) (ap some (concat-map (row s) os (onward A next)))
+          rw (l, ← t.all) (ap Some (concat-map (row s) os (onward A next)))
 
 -- ---- the pages
 
 -- The recipe is accepted and ends in BOOLEAN, each work area is long enough, each row buffer has room for a row.
 module _ (bundle recipe : List ℕ) (area buffer : ℕ → List ℕ) (As : List Array) (ps : List Planned) (Rs : List Array)
-    (e : planned bundle recipe ≡ got (As, ps)) (t : (last_shape ps).type ≡ BOOLEAN) (v : values As ps ≡ got Rs)
+    (e : planned bundle recipe ≡ Ok (As, ps)) (t : (last_shape ps).type ≡ BOOLEAN) (v : values As ps ≡ Ok Rs)
     (w : (i : ℕ) → bytes_of_all ps ≤ length (area i)) (r : (i : ℕ) → row_bytes (last_shape ps) ≤ length (buffer i)) where
   abbrev A : Array
   A = last_of no_array Rs
@@ -193,7 +192,7 @@ module _ (bundle recipe : List ℕ) (area buffer : ℕ → List ℕ) (As : List 
 
   -- n pages from `start` on, if no fewer than the cells from there on, are the rows of the TRUE cells from there on
   pages-rows : (n i start : ℕ) → 1 ≤ start → start ≤ cells A.shape.axes → cells A.shape.axes + 1 ≤ n + start
-      → pages_from bundle recipe area buffer A.shape n i start ≡ some (rows_of A.shape (onward A start))
+      → pages_from bundle recipe area buffer A.shape n i start ≡ Some (rows_of A.shape (onward A start))
   unfolding pages_from
   pages-rows zero i start h k l = absurd (omega arith)
   pages-rows (suc n) i start h k l =
@@ -206,8 +205,8 @@ module _ (bundle recipe : List ℕ) (area buffer : ℕ → List ℕ) (As : List 
   -- Demand 3: at most as many pages as there are cells name the end, and joined they are the rows of the TRUE coordinates of the last
   -- result.
   pub demand-3 : pages_from bundle recipe area buffer (last_shape ps) (cells A.shape.axes) 0 1
-      ≡ some (concat (map (row_of A.shape.axes) (true_coordinates A)))
+      ≡ Some (concat (map (row_of A.shape.axes) (true_coordinates A)))
   demand-3 =
       let c = cells-pos A.shape.axes (limits-true A.shape.axes (extent-good bundle recipe As ps Rs e v).0) in
       rw (← shape_is) (pages-rows (cells A.shape.axes) 0 1 (omega arith) c (omega arith)
-      ∙ ap (λ (x : List (List ℕ)). some (concat x)) (all-rows A whole))
+      ∙ ap (λ (x : List (List ℕ)). Some (concat x)) (all-rows A whole))

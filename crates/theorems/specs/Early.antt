@@ -1,10 +1,9 @@
 -- Tests refuse with 1 to 11: reading a bundle, planning a recipe, the tests of a run, of a page and of a stretch.
-use Rattle.std.specs.Prelude.{ℕ, zero, suc, ◌+◌, ◌≡◌, refl, Bool, true, false, List, [], eqb, if◌then◌else◌}
-use Rattle.std.proofs.Math.Option.{Option, none, some}
+use Rattle.std.specs.Prelude.{ℕ, zero, suc, ◌+◌, ◌≡◌, refl, Bool, true, false, List, [], eqb, if◌then◌else◌, Option, None, Some, Ok, Err}
 use Rattle.paper.specs.declared.Sizes.{Sizes}
 use Rattle.paper.specs.declared.Refusal.{Refusal}
 use Rattle.paper.specs.Limits.{version1, version2}
-use Rattle.paper.specs.Refusals.{Res, got, refused, ◌>>=◌, refusal, ensure, ensure_same, present, between, bad_bytes1, differ8, bad_page11}
+use Rattle.paper.specs.Refusals.{Res, ◌>>=◌, refusal, ensure, ensure_same, present, between, bad_bytes1, differ8, bad_page11}
 use Rattle.paper.specs.Axes.{Shape}
 use Rattle.paper.specs.Bundle.{version_told, sizes_in, cells_of, array_of, read_array, read_arrays, read_as, read_bundle}
 use Rattle.paper.specs.Recipe.{step_tests, step_result, step_over, plan_step, plan_steps, plan_recipe}
@@ -14,17 +13,17 @@ use Rattle.laws.specs.Tests.{none-refused}
 
 -- a refusal's number is 1 to 11: so of one test, and of tests one after the other
 pub record Early {A : Type 0} (m : Res A) : Type 0 where
-  pub early : (r : Refusal) → m ≡ refused r → between 1 bad_page11 r.number ≡ true
+  pub early : (r : Refusal) → m ≡ Err r → between 1 bad_page11 r.number ≡ true
 
-done : {A : Type 0} (a : A) → Early (got a)
+done : {A : Type 0} (a : A) → Early (Ok a)
 done a = record { early = λ r e. absurd (none-refused a r e) }
 
-refused-early : {A : Type 0} (x : Refusal) → between 1 bad_page11 x.number ≡ true → Early {A = A} (refused x)
+refused-early : {A : Type 0} (x : Refusal) → between 1 bad_page11 x.number ≡ true → Early {A = A} (Err x)
 refused-early x h = record { early = λ r e. let q : x ≡ r = cc in rw q at h }
 
 then-early : {A B : Type 0} (m : Res A) (f : A → Res B) → Early m → ((a : A) → Early (f a)) → Early (m >>= f)
-then-early (got a) f h g = g a
-then-early (refused r) f h g = refused-early r (h.early r refl)
+then-early (Ok a) f h g = g a
+then-early (Err r) f h g = refused-early r (h.early r refl)
 
 ensure-early : (t : Bool) (n k : ℕ) → between 1 bad_page11 n ≡ true → Early (ensure t n k)
 ensure-early true n k h = done tt
@@ -33,13 +32,13 @@ ensure-early false n k h = refused-early (refusal n k 0) h
 same-early : (d k : ℕ) → Early (ensure_same d k)
 same-early d k = by (eqb d 0)
   where
-    by : (t : Bool) → Early {A = Unit {0}} (if t then got tt else refused (refusal differ8 k d))
+    by : (t : Bool) → Early {A = Unit {0}} (if t then Ok tt else Err (refusal differ8 k d))
     by true = done tt
     by false = refused-early {A = Unit {0}} (refusal differ8 k d) refl
 
 present-early : {A : Type 0} (o : Option A) (r : Refusal) → between 1 bad_page11 r.number ≡ true → Early (present o r)
-present-early none r h = refused-early r h
-present-early (some a) r h = done a
+present-early None r h = refused-early r h
+present-early (Some a) r h = done a
 
 -- what follows of a `do` block is found line by line
 ruleset tests = (done, then-early, ensure-early, same-early, present-early)

@@ -1,7 +1,7 @@
 -- What is handed out is the glued array itself: where the two buffers hold two arrays' cells, the part holds the cells of the array that
 -- gluing would build, one after the other from the ordinality asked for.
 use Prim.Native.Nat.{ℕ, zero, suc, ◌+◌, ◌-◌, ◌*◌, ◌≤◌}
-use Rattle.std.specs.Prelude.{◌≡◌, refl, Bool, List, [], ◌∷◌, length, get_or, take, drop, if◌then◌else◌}
+use Rattle.std.specs.Prelude.{◌≡◌, refl, Bool, List, [], ◌∷◌, length, get_or, take, drop, if◌then◌else◌, Ok, Err}
 use Rattle.std.proofs.Math.Path.{ap, subst}
 use Rattle.std.proofs.Common.{◌∙◌}
 use Rattle.std.proofs.Math.Bool.{true, false}
@@ -13,7 +13,7 @@ use Rattle.paper.specs.declared.Cell.{Cell}
 use Rattle.paper.specs.declared.Part.{Part}
 use Rattle.paper.specs.declared.Part.TheVariants.{Left, Right}
 use Rattle.paper.specs.Limits.{cell_bytes}
-use Rattle.paper.specs.Refusals.{Res, got, refused, between, bad_page11, outside6}
+use Rattle.paper.specs.Refusals.{Res, between, bad_page11, outside6}
 use Rattle.paper.specs.Numbers.{le_bytes, part, from, concat}
 use Rattle.paper.specs.Axes.{cells, ordinality, coordinate, build, Array}
 use Rattle.paper.specs.Cells.{encode, cells_bytes}
@@ -101,12 +101,12 @@ module _ (A B : Array) (k o : ℕ) where
     side b = if b then span Left (ordinality E p) (kept b) else span Right (ordinality F (in_second k E F p)) (kept b)
 
     by_side : (b : Bool) → in_first k E p ≡ b
-        → handed_out (side_of A) (side_of B) (got (side b)) ≡ cells_bytes (take (kept b) (drop (o - 1) value))
+        → handed_out (side_of A) (side_of B) (Ok (side b)) ≡ cells_bytes (take (kept b) (drop (o - 1) value))
     unfolding handed_out
     by_side true e = part_bytes A.cells _ (kept true) ∙ ap cells_bytes (stretch-left k A B g s la lb o one last e)
     by_side false e = part_bytes B.cells _ (kept false) ∙ ap cells_bytes (stretch-right k A B g s la lb o one last e)
 
-    handed : Stretched (handed_out (side_of A) (side_of B) (got (stretch_at k E F p (stretch_cells k E F o))))
+    handed : Stretched (handed_out (side_of A) (side_of B) (Ok (stretch_at k E F p (stretch_cells k E F o))))
     unfolding stretch_at
     handed = (some_stay, by_side (in_first k E p) refl)
 
@@ -114,9 +114,9 @@ module _ (A B : Array) (k o : ℕ) where
   answered : (v : ℕ) (m : Res Part) → stretch v (side_of A) (side_of B) k o ≡ m → get_or (figures m) 0 0 ≡ 0
       → Stretched (handed_out (side_of A) (side_of B) m)
   unfolding stretch stretch_in
-  answered v (refused x) e z = absurd
+  answered v (Err x) e z = absurd
       (omega (arith, between-true bad_page11 x.number ((stretch-early v (side_of A) (side_of B) k o).early x e)))
-  answered v (got q) e z =
+  answered v (Ok q) e z =
       let t = bind-got (version_told v) _ q e in
       let a = bind-got (judge t.0 1 (side_of A)) _ q t.2 in
       let b = bind-got (judge t.0 2 (side_of B)) _ q a.2 in
@@ -126,7 +126,7 @@ module _ (A B : Array) (k o : ℕ) where
       let y = judge-passed t.0 2 (side_of B) b.1 in
       let g = (glue-passed (side_of A) (side_of B) k x.0 c.1).0 in
       let r = between-true (cells G) o d.0 in
-      subst (λ (w : Part). Stretched (handed_out (side_of A) (side_of B) (got w))) (got-one _ q d.1)
+      subst (λ (w : Part). Stretched (handed_out (side_of A) (side_of B) (Ok w))) (got-one _ q d.1)
       (handed g y.0.sound (omega (arith, x.1, cell-bytes A.cells)) (omega (arith, y.1, cell-bytes B.cells)) r.0 r.1)
 
   -- `stretch` called with two arrays lent as sides: where it tells no refusal, it hands out cells of the glued array

@@ -1,14 +1,13 @@
 -- Calls that were made: what was passed, what was answered, what was passed as it is after the call, and what the call's own contract says
 -- of these, as a caller learns it. The theorems speak of such calls, so they lean on what `page`, `read`, `pack` and `stretch` promise.
 use Rattle.std.specs.Prelude.{ℕ, ◌≡◌, List}
+use Rattle.paper.specs.declared.Listed.{Listed}
+use Rattle.paper.specs.Refusals.{Res}
 use contract.Lifetimes.{Lfts}
 use denote.Triple.Clauses.{AtExit}
 use borrow.Fn.Kinds.{Dens, res_t, ended_of}
 use Rattle.paper.specs.declared.Form.{Form}
-use Rattle.paper.specs.declared.NumberAnswer.{NumberAnswer}
-use Rattle.paper.specs.declared.PageAnswer.{PageAnswer}
 use Rattle.paper.specs.declared.Reading.{Reading}
-use Rattle.paper.specs.Answers.{page_said}
 use Rattle.paper.specs.Listing.{page}
 use Rattle.paper.specs.Stretch.{Side}
 use Rattle.bundle.specs.Read.{ReadAll}
@@ -47,7 +46,7 @@ reads c e = rw e at (read-promised c.lifetimes c.passed c.answer c.left c.promis
 pub record PackCall : Type 0 where
   pub lifetimes : Lfts 2
   pub passed : Dens lifetimes PackKinds.ps
-  pub answer : NumberAnswer
+  pub answer : Res ℕ
   pub left : AtExit (ended_of 2 PackKinds.ps PackKinds.r) lifetimes
   pub promised : PackReads.Learnt lifetimes passed answer left
 
@@ -100,7 +99,7 @@ stretches c w =
 pub record PageCall : Type 0 where
   pub lifetimes : Lfts 4
   pub passed : Dens lifetimes PageKinds.ps
-  pub answer : PageAnswer
+  pub answer : Res Listed
   pub left : AtExit (ended_of 4 PageKinds.ps PageKinds.r) lifetimes
   pub promised : PageReads.Learnt lifetimes passed answer left
 
@@ -120,6 +119,6 @@ abbrev pub rows_left : PageCall → List ℕ
 rows_left c = c.left.1.1.1.1.0.now
 
 pub pages : (c : PageCall) {B bs W : List ℕ} {o : ℕ} {L : List ℕ} → Pages B bs W o L c
-    → record { answer = page_said c.answer; work = work_left c; rows = rows_left c } ≡ page B bs W o L
+    → record { answer = c.answer; work = work_left c; rows = rows_left c } ≡ page B bs W o L
 pages c w =
     rw (w.bundle, w.recipe, w.work, w.start, w.rows) at (page-promised c.lifetimes c.passed c.answer c.left c.promised)

@@ -1,7 +1,8 @@
 -- Round trip of the functions `pack` and `bundle::read`, in each version, by what they promise: valid arrays packed and read are those arrays
 -- (`packed-then-read`); valid bytes read and packed again from what the reading holds are those bytes (`read-then-packed`); and
 -- whatever packing accepts is read back (`accepted-then-read`).
-use Rattle.std.specs.Prelude.{ℕ, ◌+◌, ◌-◌, ◌≤◌, ◌≡◌, refl, List, [], ◌∷◌, ◌++◌, map, length, take, drop, replicate}
+use Rattle.std.specs.Prelude.{ℕ, ◌+◌, ◌-◌, ◌≤◌, ◌≡◌, refl, List, [], ◌∷◌, ◌++◌, map, length, take, drop, replicate, Ok}
+use Rattle.paper.specs.Refusals.{Res}
 use Rattle.std.proofs.Common.{sym, ap, ap₂, ◌∙◌, arith, length-append, take_at}
 use Rattle.std.proofs.lemmas.List.{length-map}
 use Rattle.std.proofs.Math.Seq.{take-append_seam}
@@ -9,14 +10,11 @@ use Rattle.paper.specs.declared.Version.{Version}
 use Rattle.paper.specs.declared.Form.{Form}
 use Rattle.paper.specs.declared.Head.{Head}
 use Rattle.paper.specs.declared.Reading.{Reading}
-use Rattle.paper.specs.declared.NumberAnswer.{NumberAnswer}
-use Rattle.paper.specs.declared.NumberAnswer.TheVariants.{Got}
 use Rattle.paper.specs.Limits.{most_arrays, most_axes, sizes_of}
-use Rattle.paper.specs.Refusals.{got}
 use Rattle.paper.specs.Numbers.{concat, part, over}
 use Rattle.paper.specs.Axes.{Shape, Array}
 use Rattle.paper.specs.Bundle.{mark_bytes, version_told, version_in, sizes_in, read_bundle, bundle_bytes, After, pack}
-use Rattle.paper.specs.Answers.{shape_of, lying_from, reading, number_said}
+use Rattle.paper.specs.Answers.{shape_of, lying_from, reading}
 use Rattle.laws.specs.Lists.{map-take}
 use Rattle.laws.specs.Answers.{unless-got, form_of, form-shape, reading_of}
 use Rattle.laws.specs.Numbers.{Bytes}
@@ -34,17 +32,17 @@ use Rattle.pack.specs.Laying.{PackedInto}
 use Rattle.theorems.specs.Unique.{number-one}
 
 -- packing gave these bytes: the answer is their number, and they are the first of the output buffer, whose other bytes stay
-pub record Gave (bs out : List ℕ) (r : NumberAnswer) (y : List ℕ) : Type 0 where
-  pub answer : r ≡ Got (length bs)
+pub record Gave (bs out : List ℕ) (r : Res ℕ) (y : List ℕ) : Type 0 where
+  pub answer : r ≡ Ok (length bs)
   pub buffer : y ≡ over bs out
   pub bytes : take (length bs) y ≡ bs
 
-gave-by : (version : ℕ) (ss : List Shape) (cs bs out : List ℕ) (r : NumberAnswer) (y : List ℕ) → PackedInto version ss cs out r y
+gave-by : (version : ℕ) (ss : List Shape) (cs bs out : List ℕ) (r : Res ℕ) (y : List ℕ) → PackedInto version ss cs out r y
     → pack version ss cs out ≡ gave bs out → Gave bs out r y
 gave-by version ss cs bs out r y p e =
     let w : y ≡ over bs out = p.wrote ∙ ap (λ (q : After). q.buffer) e in
     record {
-      answer = number-one r (Got (length bs)) (p.said ∙ ap (λ (q : After). q.answer) e);
+      answer = number-one r (Ok (length bs)) (p.said ∙ ap (λ (q : After). q.answer) e);
       buffer = w;
       bytes = rw w (take-append_seam bs (drop (length bs) out));
     }
@@ -76,18 +74,18 @@ forms-shapes w As v =
 
 -- what reading answers, where the bytes are a bundle's of that version
 pub record ReadBack (v : Version) (bs : List ℕ) (As : List Array) (r : Reading) : Type 0 where
-  pub arrays : read_of bs r ≡ got As
-  pub figures : r ≡ reading_of v (got (lying_from (sizes_of v) (mark_bytes + 1) As))
+  pub arrays : read_of bs r ≡ Ok As
+  pub figures : r ≡ reading_of v (Ok (lying_from (sizes_of v) (mark_bytes + 1) As))
 
-read_back : (v : Version) (bs : List ℕ) (As : List Array) (r : Reading) → version_in bs ≡ v → ReadAll bs r → read_bundle bs ≡ got As
+read_back : (v : Version) (bs : List ℕ) (As : List Array) (r : Reading) → version_in bs ≡ v → ReadAll bs r → read_bundle bs ≡ Ok As
     → ReadBack v bs As r
 unfolding reading
 read_back v bs As r i h e =
-    let q : reading bs ≡ got (lying_from (sizes_in bs) (mark_bytes + 1) As) = rw e in
+    let q : reading bs ≡ Ok (lying_from (sizes_in bs) (mark_bytes + 1) As) = rw e in
     record {
       arrays = h.arrays ∙ e;
       figures = h.tidy ∙ ap (reading_of (version_in bs)) (h.said ∙ q)
-          ∙ ap (λ (x : Version). reading_of x (got (lying_from (sizes_of x) (mark_bytes + 1) As))) i;
+          ∙ ap (λ (x : Version). reading_of x (Ok (lying_from (sizes_of x) (mark_bytes + 1) As))) i;
     }
 
 -- `pack` called with a version, a valid list of arrays and room for them gives a bundle, and `read` called with its bytes gives that
@@ -146,13 +144,13 @@ read-then-packed bs out h l c is z p k =
 
 -- whatever forms and cells `pack` accepts, with a name that fits its bytes for each axis, `read` gives back, in the version told
 pub accepted-then-read : (version count : ℕ) (forms : List Form) (cs out : List ℕ) → Bytes cs → AllNamed (shapes_of count forms)
-    → (n : ℕ) (p : PackCall) → Packs version count forms cs out p → p.answer ≡ Got n → (r : ReadCall)
+    → (n : ℕ) (p : PackCall) → Packs version count forms cs out p → p.answer ≡ Ok n → (r : ReadCall)
     → r.passed.0.now ≡ take n (packed_out p)
-    → (v : Version) × (version_told version ≡ got (sizes_of v)) × (As : List Array) × (shapes As ≡ shapes_of count forms) × (all_cells As ≡ cs)
+    → (v : Version) × (version_told version ≡ Ok (sizes_of v)) × (As : List Array) × (shapes As ≡ shapes_of count forms) × (all_cells As ≡ cs)
     × ReadBack v (take n (packed_out p)) As r.answer
 accepted-then-read version count forms cs out h m n p k a r is =
     let q = packs p k in
-    let s : got n ≡ (pack version (shapes_of count forms) cs out).answer = ap number_said (sym a) ∙ q.said in
+    let s : Ok n ≡ (pack version (shapes_of count forms) cs out).answer = sym a ∙ q.said in
     let w = accepted-read version (shapes_of count forms) cs out n h m (sym s) in
     let b = w.back in
     let e = got-one b.0 n (sym b.1 ∙ sym s) in

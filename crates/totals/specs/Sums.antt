@@ -1,20 +1,18 @@
 -- The running sums: what one cell more does to the exact total and to the mean, whether it is filled or not, and the sum of all cells.
-use Rattle.std.specs.Prelude.{ℕ, ◌+◌, ◌≤◌, ◌<◌, ◌≡◌, refl, Bool, true, false, List, [], ◌∷◌, ◌++◌, length, if◌then◌else◌}
+use Rattle.std.specs.Prelude.{ℕ, ◌+◌, ◌≤◌, ◌<◌, ◌≡◌, refl, Bool, true, false, List, [], ◌∷◌, ◌++◌, length, if◌then◌else◌, Ok, Err, Some, None, Option}
 use Rattle.std.proofs.Common.{sym, ◌∙◌, append-nil, append_assoc, arith, length-append}
 use Rattle.std.proofs.Math.Path.{ap}
 use Rattle.std.specs.Float.Ieee as Ieee
 use Rattle.paper.specs.declared.Cell.{Cell}
 use Rattle.paper.specs.declared.Cell.TheVariants.{Empty}
 use Rattle.paper.specs.Limits.{most_cells}
-use Rattle.paper.specs.Refusals.{Res, got, refused, ◌>>=◌, refusal, no_fit12}
+use Rattle.paper.specs.Refusals.{Res, ◌>>=◌, refusal, no_fit12}
 use Rattle.paper.specs.Operators.{empty_cell}
 use Rattle.paper.specs.declared.Totalled.{Totalled}
 use Rattle.paper.specs.declared.Totalled.TheVariants.{Is}
 use Rattle.paper.specs.Totals.{Numbered, Running, int, float, filled_from, float_sum, average}
 use Rattle.cell.specs.declared.sums.Exact.{Exact}
 use Rattle.cell.specs.declared.means.Mean.{Mean}
-use Rattle.cell.specs.declared.means.Added.{Added}
-use Rattle.cell.specs.declared.means.Added.TheVariants.{On, NoFit}
 use Rattle.cell.specs.Totals.{Sums, onward, after, counted}
 use Rattle.totals.specs.declared.Ran.{Ran}
 use Rattle.totals.specs.Cells.{cells_at, in_front}
@@ -68,16 +66,16 @@ exact-filled c e f cs o s h = rw e (f cs (record { at = o; cell = c }) s refl h)
 -- ---- the mean
 
 -- one cell more, filled or not
-pub record MeanNext (m : Mean) (c : Cell) (r : Added) : Type 0 where
+pub record MeanNext (m : Mean) (c : Cell) (r : Option Mean) : Type 0 where
   pub goes : (made : Running → Ieee.Float) (k o : ℕ) (cs : List Numbered) → m.count < most_cells
       → onward made k m (in_front c o cs) ≡ after made k o r cs
   pub few : counted r ≤ m.count + 1
 
-pub mean-empty : (m : Mean) → MeanNext m Empty (On m)
+pub mean-empty : (m : Mean) → MeanNext m Empty (Some m)
 unfolding after
 mean-empty m = record { goes = λ made k o cs h. refl; few = omega arith }
 
-pub mean-filled : {m : Mean} {c : Cell} {r : Added} → empty_cell c ≡ false → {x : Ieee.Float} → float c ≡ x
+pub mean-filled : {m : Mean} {c : Cell} {r : Option Mean} → empty_cell c ≡ false → {x : Ieee.Float} → float c ≡ x
     → ((made : Running → Ieee.Float) (k : ℕ) (d : Numbered) (cs : List Numbered) → float d.cell ≡ x → m.count < most_cells
     → onward made k m (d ∷ cs) ≡ after made k d.at r cs) × (counted r ≤ m.count + 1) → MeanNext m c r
 mean-filled {c = c} e q f = record { goes = λ made k o cs h. rw e (f.0 made k (record { at = o; cell = c }) cs q h); few = f.1 }
@@ -92,19 +90,19 @@ pub record Summed (bs : List ℕ) (at t n : ℕ) (r : Ran) : Type 0 where
   pub done : r.bad ≡ 0 → (made : Running → Ieee.Float) (k : ℕ)
       → onward made k r.mean [] ≡ float_sum made k (filled_from 1 (cells_at bs at t n))
   pub fails : (r.bad ≡ 0 → ⊥) → (made : Running → Ieee.Float) (k : ℕ)
-      → refused (refusal no_fit12 k r.bad) ≡ float_sum made k (filled_from 1 (cells_at bs at t n))
+      → Err (refusal no_fit12 k r.bad) ≡ float_sum made k (filled_from 1 (cells_at bs at t n))
   pub few : r.bad ≤ n
 
-module _ {m : Mean} {all left : List Numbered} (later : List Numbered) {i : ℕ} {c : Cell} {r : Added} (v : Going m all left i)
+module _ {m : Mean} {all left : List Numbered} (later : List Numbered) {i : ℕ} {c : Cell} {r : Option Mean} (v : Going m all left i)
     (h : i < most_cells) (e : left ≡ in_front c (i + 1) later) (x : MeanNext m c r) where
   after-all : (made : Running → Ieee.Float) (k : ℕ) → after made k (i + 1) r later ≡ float_sum made k all
   after-all made k = sym (x.goes made k (i + 1) later (omega (arith, v.few))) ∙ (rw e at (v.same made k))
 
-  pub going_next : {w : Mean} → r ≡ On w → Going w all later (i + 1)
+  pub going_next : {w : Mean} → r ≡ Some w → Going w all later (i + 1)
   unfolding after
   going_next q = record { same = λ made k. rw q at (after-all made k); few = omega (arith, v.few, x.few, ap counted q) }
 
-  pub going-fails : r ≡ NoFit → (made : Running → Ieee.Float) (k : ℕ) → refused (refusal no_fit12 k (i + 1)) ≡ float_sum made k all
+  pub going-fails : r ≡ None → (made : Running → Ieee.Float) (k : ℕ) → Err (refusal no_fit12 k (i + 1)) ≡ float_sum made k all
   unfolding after
   going-fails q made k = rw q at (after-all made k)
 
@@ -112,7 +110,7 @@ module _ {m : Mean} {all left : List Numbered} (later : List Numbered) {i : ℕ}
 
 -- a sum as a total
 abbrev pub as_total : Res Cell → Res Totalled
-as_total r = r >>= (λ c. got (Is c))
+as_total r = r >>= (λ c. Ok (Is c))
 
 -- the average, or the sum
 abbrev pub made_of : Bool → Running → Ieee.Float

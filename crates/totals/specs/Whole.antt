@@ -1,8 +1,8 @@
 -- A total of an array of a bundle, by the ways its judging can end.
-use Rattle.std.specs.Prelude.{ℕ, ◌≡◌, true, false, List}
+use Rattle.std.specs.Prelude.{ℕ, ◌≡◌, true, false, List, Err}
 use Rattle.std.proofs.Common.{arith}
 use Rattle.paper.specs.declared.Total.{Total}
-use Rattle.paper.specs.Refusals.{refused, refusal, unfit7}
+use Rattle.paper.specs.Refusals.{refusal, unfit7}
 use Rattle.paper.specs.Totals.{totals?, total_of, totals}
 use Rattle.bundle.specs.Read.{array_at}
 use Rattle.refer.specs.declared.Chosen.{Chosen}
@@ -11,13 +11,13 @@ use Rattle.totals.specs.Cells.{Lying, cells_at}
 
 module _ {bs : List ℕ} {k : ℕ} {c : Chosen} (v : ChosenHead bs k c) (which : Total) where
   -- the array's own refusal
-  pub total-refused : (c.refusal.number ≡ 0 → ⊥) → refused c.refusal ≡ totals bs k which
+  pub total-refused : (c.refusal.number ≡ 0 → ⊥) → Err c.refusal ≡ totals bs k which
   unfolding totals
   total-refused n = rw (← its-refusal v n)
 
   module _ (y : c.refusal.number ≡ 0) where
     -- a total that its type has not
-    pub total-unfit : totals? which c.head.form.kind ≡ false → refused (refusal unfit7 k 0) ≡ totals bs k which
+    pub total-unfit : totals? which c.head.form.kind ≡ false → Err (refusal unfit7 k 0) ≡ totals bs k which
     unfolding totals array_at
     total-unfit e = rw (← its-array v y, e)
 

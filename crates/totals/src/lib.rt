@@ -6,18 +6,17 @@ ghost use Rattle.std.specs.Prelude.{◌≡◌, ℕ};
 ghost use Rattle.std.specs.Float.{nan};
 ghost use Rattle.paper.specs.Operators.{answered};
 ghost use Rattle.paper.specs.Totals.{filled_from, below, best_of, int_sum, float_sum, totals?, total_of, totals};
-ghost use Rattle.paper.specs.Answers.{total_said};
 ghost use Rattle.totals.specs.Cells.{Lying, cells_at, tally_of, tally_true, counted};
 ghost use Rattle.totals.specs.Best.{beats_of, better_of};
 ghost use Rattle.totals.specs.Sums.{ExactNext, MeanNext, Summed, as_total, made_of};
 
-use cell::means::{Added, Mean, mean_average, mean_none, mean_sum, mean_with};
+use cell::means::{Mean, mean_average, mean_none, mean_sum, mean_with};
 use cell::sums::{Exact, exact_answer, exact_none, exact_with};
 use operators::logic::{is_empty, is_truth};
 use operators::operators::lt;
-use paper::{Answer, BOOLEAN, Cell, FLOAT, INT, Total, TotalAnswer, Totalled};
+use paper::{BOOLEAN, Cell, FLOAT, Fault, INT, Refusal, Total, Totalled};
 use refer::{choose, held_cell};
-use refusals::{refuse, refuse_at};
+use refusals::{refuse, refuse_at, refuse_fault};
 
 // ---- counts
 
@@ -67,8 +66,8 @@ fn is_below(a: Cell, b: Cell) -> bool
 {
     let answer = lt(a, b);
     match answer {
-        Answer::Is(c) => is_truth(true, c),
-        Answer::Refused(_) => false,
+        Ok(c) => is_truth(true, c),
+        Err(_) => false,
     }
 }
 
@@ -128,7 +127,7 @@ fn exact_next(t: Exact, c: Cell) -> Exact
 }
 
 // The exact total of the filled cells, or 12.
-fn int_sum(s: &[u8], at: usize, kind: u8, n: usize) -> Answer
+fn int_sum(s: &[u8], at: usize, kind: u8, n: usize) -> Result<Cell, Fault>
     requires { Lying at n s.now }
     ensures { (k : ℕ) → answered k 0 result ≡ int_sum k (filled_from 1 (cells_at s.now at kind n)) }
 {
@@ -152,11 +151,11 @@ fn no_number() -> f64
 }
 
 // The running sum with one cell more.
-fn mean_next(m: Mean, c: Cell) -> Added
+fn mean_next(m: Mean, c: Cell) -> Option<Mean>
     ensures { MeanNext m c result }
 {
     match c {
-        Cell::Empty => Added::On(m),
+        Cell::Empty => Some(m),
         Cell::Int(_) => mean_with(m, no_number()),
         Cell::Float(x) => mean_with(m, x),
         Cell::Truth(_) => mean_with(m, no_number()),
@@ -179,7 +178,7 @@ fn float_run(s: &[u8], at: usize, kind: u8, n: usize) -> Ran
     while i < n {
         let c = held_cell(s, at, kind, i);
         let added = mean_next(mean, c);
-        let Added::On(next) = added else {
+        let Some(next) = added else {
             return Ran { mean, bad: i + 1 };
         };
         mean = next;
@@ -191,30 +190,37 @@ fn float_run(s: &[u8], at: usize, kind: u8, n: usize) -> Ran
 // ---- the totals
 
 // The INT sum of array k.
-fn int_total(s: &[u8], at: usize, kind: u8, n: usize, k: u32) -> TotalAnswer
+fn int_total(s: &[u8], at: usize, kind: u8, n: usize, k: u32) -> Result<Totalled, Refusal>
     requires { Lying at n s.now }
-    ensures { total_said result ≡ as_total (int_sum k (filled_from 1 (cells_at s.now at kind n))) }
+    ensures { result ≡ as_total (int_sum k (filled_from 1 (cells_at s.now at kind n))) }
 {
     let answer = int_sum(s, at, kind, n);
     match answer {
-        Answer::Is(c) => TotalAnswer::Got(Totalled::Is(c)),
-        Answer::Refused(number) => TotalAnswer::Refused(refuse(number, k)),
+        Ok(c) => Ok(Totalled::Is(c)),
+        Err(fault) => Err(refuse_fault(fault, k, 0)),
     }
 }
 
 // The FLOAT sum of array k, or its average.
-fn float_total(s: &[u8], at: usize, kind: u8, n: usize, k: u32, mean: bool) -> TotalAnswer
+fn float_total(
+    s: &[u8],
+    at: usize,
+    kind: u8,
+    n: usize,
+    k: u32,
+    mean: bool,
+) -> Result<Totalled, Refusal>
     requires { Lying at n s.now }
-    ensures { total_said result ≡ as_total (float_sum (made_of mean) k (filled_from 1 (cells_at s.now at kind n))) }
+    ensures { result ≡ as_total (float_sum (made_of mean) k (filled_from 1 (cells_at s.now at kind n))) }
 {
     let ran = float_run(s, at, kind, n);
     if ran.bad != 0 {
-        return TotalAnswer::Refused(refuse_at(12, k, ran.bad as u32));
+        return Err(refuse_at(12, k, ran.bad as u32));
     }
     if mean {
-        return TotalAnswer::Got(Totalled::Is(mean_average(ran.mean)));
+        return Ok(Totalled::Is(mean_average(ran.mean)));
     }
-    TotalAnswer::Got(Totalled::Is(mean_sum(ran.mean)))
+    Ok(Totalled::Is(mean_sum(ran.mean)))
 }
 
 // A total is to be had of a type.
@@ -232,15 +238,22 @@ fn has_total(which: Total, kind: u8) -> bool
 }
 
 // Each total of array k, of a type, with its cells.
-fn total_of(s: &[u8], at: usize, kind: u8, n: usize, k: u32, which: Total) -> TotalAnswer
+fn total_of(
+    s: &[u8],
+    at: usize,
+    kind: u8,
+    n: usize,
+    k: u32,
+    which: Total,
+) -> Result<Totalled, Refusal>
     requires { Lying at n s.now }
-    ensures { total_said result ≡ total_of which k kind (cells_at s.now at kind n) }
+    ensures { result ≡ total_of which k kind (cells_at s.now at kind n) }
 {
     match which {
-        Total::Filled => TotalAnswer::Got(Totalled::Count(count_cells(s, at, kind, n, false))),
-        Total::Trues => TotalAnswer::Got(Totalled::Count(count_cells(s, at, kind, n, true))),
-        Total::Smallest => TotalAnswer::Got(Totalled::Is(best_cell(s, at, kind, n, false))),
-        Total::Largest => TotalAnswer::Got(Totalled::Is(best_cell(s, at, kind, n, true))),
+        Total::Filled => Ok(Totalled::Count(count_cells(s, at, kind, n, false))),
+        Total::Trues => Ok(Totalled::Count(count_cells(s, at, kind, n, true))),
+        Total::Smallest => Ok(Totalled::Is(best_cell(s, at, kind, n, false))),
+        Total::Largest => Ok(Totalled::Is(best_cell(s, at, kind, n, true))),
         Total::Sum => {
             if kind == INT {
                 int_total(s, at, kind, n, k)
@@ -253,16 +266,16 @@ fn total_of(s: &[u8], at: usize, kind: u8, n: usize, k: u32, which: Total) -> To
 }
 
 // A total of array k of a bundle: the bundle's own refusal, then 4, 7 and 12.
-pub fn total(s: &[u8], k: u32, which: Total) -> TotalAnswer
-    ensures { total_said result ≡ totals s.now k which }
+pub fn total(s: &[u8], k: u32, which: Total) -> Result<Totalled, Refusal>
+    ensures { result ≡ totals s.now k which }
 {
     let array = choose(s, k);
     let refusal = array.refusal;
     if refusal.number != 0 {
-        return TotalAnswer::Refused(refusal);
+        return Err(refusal);
     }
     if !has_total(which, array.head.form.kind) {
-        return TotalAnswer::Refused(refuse(7, k));
+        return Err(refuse(7, k));
     }
     total_of(
         s,

@@ -1,24 +1,23 @@
 -- The loop over steps and the loop over cells inside it: what holds at the head of each, and a law for each event: the run begins, a
 -- step begins, a cell is stored, a cell refuses, a step ends, all are done. As are the bundle's arrays, ps the steps planned, and W is
 -- the work area as it was lent.
-use Rattle.std.specs.Prelude.{◌≡◌, ℕ, zero, suc, ◌+◌, ◌-◌, ◌*◌, ◌<◌, ◌≤◌, true, List, [], ◌∷◌, ◌++◌, map, length, get_or, take, drop, slice_index_or, refl}
+use Rattle.std.specs.Prelude.{◌≡◌, ℕ, zero, suc, ◌+◌, ◌-◌, ◌*◌, ◌<◌, ◌≤◌, true, List, [], ◌∷◌, ◌++◌, map, length, get_or, take, drop, slice_index_or, refl, Ok, Err}
 use Rattle.std.proofs.Math.Path.{sym, ap}
 use Rattle.std.proofs.Common.{ap₂, ◌∙◌, append_assoc, append-nil, add-one, arith, length-drop, take_at, drop-drop, take-suc}
 use Rattle.std.proofs.lemmas.List.{map-append}
 use Rattle.std.proofs.Math.ListN.{length-append, drop_of_length-le}
 use Rattle.std.proofs.Math.Seq.{drop-append-add, drop-cons}
+use Rattle.paper.specs.declared.Fault.{Fault}
 use Rattle.paper.specs.declared.Cell.{Cell}
 use Rattle.paper.specs.declared.Cell.TheVariants.{Empty}
-use Rattle.paper.specs.declared.Answer.{Answer}
-use Rattle.paper.specs.declared.Answer.TheVariants.{Is, Refused}
 use Rattle.paper.specs.declared.Operation.TheVariants.{Moves}
 use Rattle.paper.specs.declared.Move.TheVariants.{Trim}
 use Rattle.paper.specs.Limits.{cell_bytes}
-use Rattle.paper.specs.Refusals.{got, refused, ◌>>=◌, refusal}
+use Rattle.paper.specs.Refusals.{◌>>=◌, refusal, fault_no}
 use Rattle.paper.specs.Numbers.{total, concat, over, le_bytes}
 use Rattle.paper.specs.Axes.{cells, at_offset, build, Shape, Array}
 use Rattle.paper.specs.Cells.{encode, cells_bytes, is_type}
-use Rattle.paper.specs.Operators.{answered}
+use Rattle.paper.specs.Operators.{answered, Answer}
 use Rattle.paper.specs.Recipe.{Planned, cells_of_all, no_shape}
 use Rattle.paper.specs.Values.{cell_at, settled, no_array, operand_array, value_of, values_from, values}
 use Rattle.paper.specs.Listing.{result_bytes, bytes_of_all}
@@ -158,11 +157,11 @@ module _ {As : List Array} {ps : List Planned} {W : List ℕ} {s : ℕ} {work : 
   }
 
   -- all are done
-  pub run_ends : length ps ≤ s → got d.done.results ≡ values As ps
+  pub run_ends : length ps ≤ s → Ok d.done.results ≡ values As ps
   unfolding values_from in_front_of
   run_ends h =
       let z : drop s ps ≡ [] = drop_of_length-le ps h in
-      ap got (sym (append-nil d.done.results)) ∙ sym (rw z refl) ∙ d.done.so
+      ap Ok (sym (append-nil d.done.results)) ∙ sym (rw z refl) ∙ d.done.so
 
   -- the work area keeps its length
   pub steps-long : length work ≡ length W
@@ -234,24 +233,24 @@ module _ {As : List Array} {ps : List Planned} {W : List ℕ} {s k : ℕ} {work 
   kept_more t (x ∷ cs) c f o (suc i) = kept_more t cs c (λ j. f (suc j)) o i
 
   -- a cell is stored
-  pub cell-stored : k < n → (c : Cell) → answer_to As Rs p k ≡ Is c → OfKind p.shape.type c → (at : ℕ) → at ≡ begins ps s + k * cell_bytes
+  pub cell-stored : k < n → (c : Cell) → answer_to As Rs p k ≡ Ok c → OfKind p.shape.type c → (at : ℕ) → at ≡ begins ps s + k * cell_bytes
       → (after : List ℕ) → after ≡ take at work ++ encode c ++ drop (at + cell_bytes) work → CellsDone d (k + 1) after
   unfolding settled answered
   cell-stored b c q o at e after h = record {
     here = v.here;
     stored = v.stored ++ (c ∷ []);
     count = length-append v.stored (c ∷ []) ∙ omega (arith, v.count);
-    so = sym (ap (in_front_of v.stored) (sym (turn b (Is c) q)) ∙ front-more v.stored c (settled (s + 1) (k + 1 + 1) (drop (k + 1) answers))) ∙ v.so;
+    so = sym (ap (in_front_of v.stored) (sym (turn b (Ok c) q)) ∙ front-more v.stored c (settled (s + 1) (k + 1 + 1) (drop (k + 1) answers))) ∙ v.so;
     kept = kept_more p.shape.type v.stored c v.kept o;
     bytes = put_on (result_bytes Rs ++ cells_bytes v.stored) (encode c) W work after at cell_bytes v.bytes (e ∙ sym so-long) (nine c) h
         ∙ ap (λ (l : List ℕ). over l W) (append_assoc (result_bytes Rs) (cells_bytes v.stored) (encode c) ∙ ap (λ (l : List ℕ). result_bytes Rs ++ l) (one_more v.stored c));
   }
 
   -- a cell refuses: with it the values, at this step and this ordinality
-  pub cell-refuses : k < n → (m : ℕ) → answer_to As Rs p k ≡ Refused m → refused (refusal m (s + 1) (k + 1)) ≡ values As ps
+  pub cell-refuses : k < n → (m : Fault) → answer_to As Rs p k ≡ Err m → Err (refusal (fault_no m) (s + 1) (k + 1)) ≡ values As ps
   unfolding settled answered in_front_of values_from value_of cell_over
   cell-refuses b m q =
-      let e : refused (refusal m (s + 1) (k + 1)) ≡ settled (s + 1) 1 answers = ap (in_front_of v.stored) (turn b (Refused m) q) ∙ v.so in
+      let e : Err (refusal (fault_no m) (s + 1) (k + 1)) ≡ settled (s + 1) 1 answers = ap (in_front_of v.stored) (turn b (Err m) q) ∙ v.so in
       let l : drop s ps ≡ p ∷ drop (suc s) ps = drop-cons ps s no_planned v.here in
       sym (rw (l, ← e) refl) ∙ d.so
 
@@ -264,14 +263,14 @@ module _ {As : List Array} {ps : List Planned} {W : List ℕ} {s k : ℕ} {work 
     unfolding concat
     bytes-more = ap (λ (l : List ℕ). result_bytes Rs ++ l) (sym (append-nil (cells_bytes v.stored))) ∙ concat-map (λ (X : Array). cells_bytes X.cells) Rs (X ∷ [])
 
-    settled-all : got v.stored ≡ settled (s + 1) 1 answers
+    settled-all : Ok v.stored ≡ settled (s + 1) 1 answers
     unfolding settled in_front_of
     settled-all =
         let z : drop k answers ≡ [] = drop_of_length-le answers {i = k} (omega (arith, answers-long)) in
-        ap got (sym (append-nil v.stored)) ∙ sym (rw z refl) ∙ v.so
+        ap Ok (sym (append-nil v.stored)) ∙ sym (rw z refl) ∙ v.so
 
     ended : in_front_of Rs (values_from (s + 1) As Rs (drop s ps))
-        ≡ in_front_of Rs (values_from (s + 1 + 1) As (Rs ++ (X ∷ [])) (drop (s + 1) ps) >>= (λ l. got (X ∷ l)))
+        ≡ in_front_of Rs (values_from (s + 1 + 1) As (Rs ++ (X ∷ [])) (drop (s + 1) ps) >>= (λ l. Ok (X ∷ l)))
     unfolding values_from value_of cell_over
     ended =
         let l : drop s ps ≡ p ∷ drop (s + 1) ps = drop-cons ps s no_planned v.here ∙ ap (λ (i : ℕ). p ∷ drop i ps) (sym (add-one s)) in

@@ -1,10 +1,10 @@
 -- The run's setting: a bundle that was read and a recipe that was planned. What an operand's number names in it is the paper's array,
 -- whose cells lie where the plan says; so each step is ready in its turn.
-use Rattle.std.specs.Prelude.{◌≡◌, ℕ, zero, suc, ◌+◌, ◌-◌, ◌*◌, ◌^◌, ◌<◌, ◌≤◌, Bool, true, false, ◌||◌, leb, List, [], ◌∷◌, map, length, get_or, take, drop, ◌==◌, nat_le, slice_index_or}
+use Rattle.std.specs.Prelude.{◌≡◌, ℕ, zero, suc, ◌+◌, ◌-◌, ◌*◌, ◌^◌, ◌<◌, ◌≤◌, Bool, true, false, ◌||◌, leb, List, [], ◌∷◌, map, length, get_or, take, drop, ◌==◌, nat_le, slice_index_or, Option, None, Some}
+use Rattle.std.specs.Option.{option_map}
 use Rattle.std.proofs.Math.Path.{refl, sym, ap}
 use Rattle.std.proofs.Common.{◌∙◌, arith, length-take, length-drop, get_or-take, take-take, length-take-le}
 use Rattle.std.proofs.Math.Option
-use Rattle.std.proofs.Math.Option.{Option, none, some}
 use borrow.Author.Tests.{eqb-true}
 use Rattle.std.proofs.Math.ListN.{length-map}
 use Rattle.paper.specs.declared.Head.{Head}
@@ -59,7 +59,7 @@ record Nth {A : Type 0} (l : List A) (n : ℕ) (x : A) : Type 0 where
   last : n ≤ length l
   is : (d : A) → slice_index_or l (n - 1) d ≡ x
 
-nth-is : {A : Type 0} (l : List A) (n : ℕ) (x : A) → nth l n ≡ some x → Nth l n x
+nth-is : {A : Type 0} (l : List A) (n : ℕ) (x : A) → nth l n ≡ Some x → Nth l n x
 nth-is l zero x e = absurd (no_none x e)
 nth-is [] (suc n) x e = absurd (no_none x e)
 nth-is (a ∷ l) (suc zero) x e = record { one = omega arith; last = omega arith; is = λ d. some_one a x e }
@@ -69,9 +69,9 @@ nth-is (a ∷ l) (suc (suc n)) x e =
     let q : suc (suc n) - 1 ≡ suc n = omega arith in
     record { one = omega arith; last = omega (arith, r.last); is = λ d. rw q (rw p at (r.is d)) }
 
-some_mapped : {A C : Type 0} (f : A → C) (o : Option A) (y : C) → Option.map f o ≡ some y → (x : A) × (o ≡ some x) × (f x ≡ y)
-some_mapped f none y e = absurd (no_none y e)
-some_mapped f (some x) y e = (x, refl, some_one (f x) y e)
+some_mapped : {A C : Type 0} (f : A → C) (o : Option A) (y : C) → option_map f o ≡ Some y → (x : A) × (o ≡ Some x) × (f x ≡ y)
+some_mapped f None y e = absurd (no_none y e)
+some_mapped f (Some x) y e = (x, refl, some_one (f x) y e)
 
 whole_take : (As : List Array) (j : ℕ) → AllWhole As → AllWhole (take j As)
 whole_take As zero h i b = absurd (omega arith)
@@ -84,7 +84,7 @@ whole_take (A ∷ As) (suc j) h (suc i) b = whole_take As j (λ m q. h (suc m) (
 -- the array that the paper takes, as the plan has it
 pub record Found (B : List ℕ) (As Rs : List Array) (n : ℕ) (o : Operand) (S : Shape) : Type 0 where
   pub array : Array
-  pub is : operand As Rs n ≡ some array
+  pub is : operand As Rs n ≡ Some array
   pub shape : array.shape ≡ S
   pub stands : Stands B (result_bytes Rs) o array
 
@@ -164,7 +164,7 @@ module _ {B bs : List ℕ} {P : Plan} (v : Setting B bs P) {W : List ℕ} {s : �
     abbrev its : Operand
     its = slice_index_or P.operands (slot_of n) (no_operand false)
 
-    in-bundle : leb n steps_from ≡ true → (h : Head) → nth (arrays_of P) n ≡ some h → Found B As Rs n its (shape_in h)
+    in-bundle : leb n steps_from ≡ true → (h : Head) → nth (arrays_of P) n ≡ Some h → Found B As Rs n its (shape_in h)
     unfolding operand array_at
     in-bundle e h q =
         let l = arrays_of P in
@@ -184,7 +184,7 @@ module _ {B bs : List ℕ} {P : Plan} (v : Setting B bs P) {W : List ℕ} {s : �
           });
         }
 
-    in-work : leb n steps_from ≡ false → (X : Array) → nth Rs (n - steps_from) ≡ some X → Found B As Rs n its X.shape
+    in-work : leb n steps_from ≡ false → (X : Array) → nth Rs (n - steps_from) ≡ Some X → Found B As Rs n its X.shape
     unfolding operand
     in-work e X q =
         let i = n - steps_from in
@@ -206,7 +206,7 @@ module _ {B bs : List ℕ} {P : Plan} (v : Setting B bs P) {W : List ℕ} {s : �
           });
         }
 
-    found : (S : Shape) → operand (map shape_in (arrays_of P)) (shapes_in Rs) n ≡ some S → Found B As Rs n its S
+    found : (S : Shape) → operand (map shape_in (arrays_of P)) (shapes_in Rs) n ≡ Some S → Found B As Rs n its S
     unfolding operand
     found S e = by (nat_le n steps_from) refl
       where

@@ -1,7 +1,6 @@
 -- An array's cells where they lie: nine bytes each, from a byte on, in the bundle or among the results so far.
-use Rattle.std.specs.Prelude.{◌≡◌, ℕ, zero, suc, ◌+◌, ◌*◌, ◌<◌, ◌≤◌, true, List, [], ◌∷◌, ◌++◌, length, take, drop, slice_index_or, refl}
+use Rattle.std.specs.Prelude.{◌≡◌, ℕ, zero, suc, ◌+◌, ◌*◌, ◌<◌, ◌≤◌, true, List, [], ◌∷◌, ◌++◌, length, take, drop, slice_index_or, refl, Option, None, Some, is_some}
 use Rattle.std.proofs.Common.{sym, ap, subst, ◌∙◌, arith, length-append, length-drop, ext_get_or, drop-drop}
-use Rattle.std.proofs.Math.Option.{Option, none, some}
 use Rattle.std.proofs.lemmas.List.{take-append-le, drop-append-le}
 use Rattle.std.proofs.Math.Seq.{drop-append-add}
 use Rattle.paper.specs.declared.Cell.{Cell}
@@ -14,7 +13,7 @@ use Rattle.paper.specs.Cells.{is_type, cell_of, encode, cells_bytes}
 use Rattle.paper.specs.Values.{no_array}
 use Rattle.paper.specs.Listing.{result_bytes}
 use Rattle.laws.proofs.Cells.{cell-back}
-use Rattle.laws.specs.Judged.{is?, or_empty, cells_from, cell-no, cell-is, length-cells}
+use Rattle.laws.specs.Judged.{or_empty, cells_from, cell-no, cell-is, length-cells}
 use Rattle.laws.specs.Steps.{Kept}
 use Rattle.laws.specs.Rows.{concat-at}
 use Rattle.laws.specs.Results.{cell-bytes}
@@ -23,7 +22,7 @@ use Rattle.bundle.specs.Read.{cells_in, array_at, Fit}
 pub record Lies (bs : List ℕ) (at : ℕ) (X : Array) : Type 0 where
   pub room : at + length X.cells * cell_bytes ≤ length bs
   pub cell : (k : ℕ) → k < length X.cells → cell_of X.shape.type (part (at + k * cell_bytes) cell_bytes bs)
-      ≡ some (slice_index_or X.cells k Empty)
+      ≡ Some (slice_index_or X.cells k Empty)
 
 -- an array of a type, as many cells as its extent says, each of the type
 pub record Whole (X : Array) : Type 0 where
@@ -33,9 +32,9 @@ pub record Whole (X : Array) : Type 0 where
 
 -- ---- in the bundle
 
-is_some : (o : Option Cell) → is? o ≡ true → o ≡ some (or_empty o)
-is_some none e = let z : ◌≡◌ {A = ℕ} 0 1 = cc in absurd (omega arith)
-is_some (some c) e = refl
+there : (o : Option Cell) → is_some o ≡ true → o ≡ Some (or_empty o)
+there None e = let z : ◌≡◌ {A = ℕ} 0 1 = cc in absurd (omega arith)
+there (Some c) e = refl
 
 pub bundle-lies : (bs : List ℕ) (h : Head) → Fit bs h → Lies bs h.at (array_at bs h)
 unfolding array_at
@@ -49,8 +48,8 @@ bundle-lies bs h f =
           let d = drop-drop (k * cell_bytes) h.at bs in
           let i : k < n = omega (arith, l) in
           ap (λ (x : List ℕ). cell_of t (take cell_bytes x)) (sym d)
-          ∙ is_some (cell_of t (take cell_bytes (drop (k * cell_bytes) (drop h.at bs)))) (cell-is n t 1 k (drop h.at bs) (omega arith) f.clean i)
-          ∙ ap some (sym (cell-no n t k (drop h.at bs) i));
+          ∙ there (cell_of t (take cell_bytes (drop (k * cell_bytes) (drop h.at bs)))) (cell-is n t 1 k (drop h.at bs) (omega arith) f.clean i)
+          ∙ ap Some (sym (cell-no n t k (drop h.at bs) i));
     }
 
 -- ---- among results, one after the other

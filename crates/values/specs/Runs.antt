@@ -1,18 +1,18 @@
 -- What the functions of the values ask and promise: the cells of a step begun, and the steps run. Then a turn of the loop over cells:
 -- what its calls ask, and what it leaves.
-use Rattle.std.specs.Prelude.{◌≡◌, ℕ, zero, suc, ◌+◌, ◌*◌, ◌<◌, ◌≤◌, List, [], ◌++◌, length, take, drop, ◌≢◌}
+use Rattle.std.specs.Prelude.{◌≡◌, ℕ, zero, suc, ◌+◌, ◌*◌, ◌<◌, ◌≤◌, List, [], ◌++◌, length, take, drop, ◌≢◌, Err, Ok}
+use Rattle.paper.specs.Operators.{Answer}
 use Rattle.std.proofs.Math.Path.{refl, ap}
 use Rattle.std.proofs.Common.{sym, ◌∙◌, inl, inr, arith}
 use Rattle.std.proofs.Math.Numerals.{add-one}
-use Rattle.paper.specs.declared.Answer.{Answer}
-use Rattle.paper.specs.declared.Answer.TheVariants.{Is, Refused}
 use Rattle.paper.specs.declared.Cell.{Cell}
 use Rattle.paper.specs.declared.Move.{Move}
 use Rattle.paper.specs.declared.Work.{Work}
 use Rattle.paper.specs.declared.Operation.TheVariants.{Moves, Works}
 use Rattle.paper.specs.declared.Refusal.{Refusal}
 use Rattle.paper.specs.Limits.{cell_bytes, word_bytes, scalar_at, most_cells}
-use Rattle.paper.specs.Refusals.{refused, refusal}
+use Rattle.paper.specs.declared.Fault.{Fault}
+use Rattle.paper.specs.Refusals.{refusal, fault_no}
 use Rattle.paper.specs.Numbers.{le_of, part}
 use Rattle.paper.specs.Axes.{cells, Array}
 use Rattle.paper.specs.Cells.{encode}
@@ -82,7 +82,7 @@ pub record Results (B bs : List ℕ) (P : Plan) (W after : List ℕ) : Type 0 wh
 
 -- or the refusal, with the bytes past all results untouched
 pub record Stopped (B bs : List ℕ) (P : Plan) (W : List ℕ) (r : Refusal) (after : List ℕ) : Type 0 where
-  pub is : values (arrays_at B P) (steps_of bs P) ≡ refused r
+  pub is : values (arrays_at B P) (steps_of bs P) ≡ Err r
   pub long : length after ≡ length W
   pub rest : drop (bytes_of_all (steps_of bs P)) after ≡ drop (bytes_of_all (steps_of bs P)) W
 
@@ -124,7 +124,7 @@ module _ {B bs : List ℕ} {t : Turn} {As : List Array} {ps : List Planned} {W :
   room h = omega (arith, room-all, keeps (omega arith))
 
   -- a cell stored is the next
-  pub stored : k < n → (c : Cell) → answer_to As Rs p k ≡ Is c → (after : List ℕ)
+  pub stored : k < n → (c : Cell) → answer_to As Rs p k ≡ Ok c → (after : List ℕ)
       → after ≡ take (t.result.at + k * cell_bytes) work ++ encode c ++ drop (t.result.at + k * cell_bytes + cell_bytes) work → CellsDone d (k + 1) after
   unfolding cell_over
   stored h c q after e = cell-stored f (omega (arith, counts)) c q (cell_typed y.ready _ c q) (t.result.at + k * cell_bytes) (omega (arith, y.at)) after e
@@ -148,11 +148,11 @@ module _ {B bs : List ℕ} {t : Turn} {As : List Array} {ps : List Planned} {W :
       told : answer_to As Rs p k ≡ r
       told = sym (is ∙ (worked-at k h).is)
 
-      pub worked-on : (c : Cell) → r ≡ Is c → (after : List ℕ)
+      pub worked-on : (c : Cell) → r ≡ Ok c → (after : List ℕ)
           → after ≡ take (t.result.at + k * cell_bytes) work ++ encode c ++ drop (t.result.at + k * cell_bytes + cell_bytes) work → CellsDone d (k + 1) after
       worked-on c u after e = stored h c (told ∙ u) after e
 
-      pub refuses : (i : ℕ) → r ≡ Refused i → refused (refusal i (s + 1) (k + 1)) ≡ values As ps
+      pub refuses : (i : Fault) → r ≡ Err i → Err (refusal (fault_no i) (s + 1) (k + 1)) ≡ values As ps
       refuses i u = cell-refuses f (omega (arith, counts)) i (told ∙ u)
 
       pub untouched : drop (bytes_of_all ps) work ≡ drop (bytes_of_all ps) W
@@ -187,7 +187,7 @@ started w e q z r after h = record {
 }
 
 -- a refusal of a cell has a number
-pub late : (As : List Array) (ps : List Planned) (x : Refusal) → refused x ≡ values As ps → x.number ≢ 0
+pub late : (As : List Array) (ps : List Planned) (x : Refusal) → Err x ≡ values As ps → x.number ≢ 0
 late As ps x e = by (values-late ps 1 As [] x (sym e))
   where
     by : Either x.number → x.number ≢ 0

@@ -1,13 +1,11 @@
 -- A step in its turn: where its operands' cells lie, and the cell that a mark and a word there are. Then what the step gives at a
 -- coordinate: of cells moved, that the nine bytes where the cell comes from are its bytes; of cells worked out, that the code gives the answer.
-use Rattle.std.specs.Prelude.{◌≡◌, ℕ, ◌+◌, ◌*◌, ◌^◌, ◌<◌, true, false, List, length, get_or, drop, ◌==◌, nat_eq, slice_index, slice_index_or}
+use Rattle.std.specs.Prelude.{◌≡◌, ℕ, ◌+◌, ◌*◌, ◌^◌, ◌<◌, true, false, List, length, get_or, drop, ◌==◌, nat_eq, slice_index, slice_index_or, Option, None, Some, Ok}
+use Rattle.std.specs.Option.{unwrap_or}
 use Rattle.std.proofs.Math.Path.{refl, ap}
 use Rattle.std.proofs.Common.{sym, subst, ◌∙◌, arith, eqb-true, length-take, length-drop, get_or-take, get_or-drop, take_all}
 use Rattle.std.proofs.Math.Option
-use Rattle.std.proofs.Math.Option.{Option, none, some}
 use Rattle.paper.specs.declared.Axis.{Axis}
-use Rattle.paper.specs.declared.Answer.{Answer}
-use Rattle.paper.specs.declared.Answer.TheVariants.{Is}
 use Rattle.paper.specs.declared.Cell.{Cell}
 use Rattle.paper.specs.declared.Cell.TheVariants.{Empty}
 use Rattle.paper.specs.declared.Hand.{Hand}
@@ -22,7 +20,7 @@ use Rattle.paper.specs.Limits.{FLOAT, cell_bytes, word_bytes}
 use Rattle.paper.specs.Numbers.{le_of, le_bytes, part}
 use Rattle.paper.specs.Axes.{cells, at_offset, Shape, Array, at}
 use Rattle.paper.specs.Cells.{is_type, filled, cell_from, encode}
-use Rattle.paper.specs.Operators.{takes, takes_one, pair_cell}
+use Rattle.paper.specs.Operators.{takes, takes_one, pair_cell, Answer}
 use Rattle.paper.specs.Bundle.{sizes_in}
 use Rattle.paper.specs.Recipe.{Step, Planned, scalar_of, uses, axis_in, is_scalar, fits_in, takes_type, types_fit, result_axes, result_of}
 use Rattle.paper.specs.Values.{Whence, whence, taken, made, scalar, cell_at}
@@ -87,7 +85,7 @@ pairing_of (Single o) w a b = pairing (single_code_of (kind_in a) o) 0 (cells_at
 
 pub record CellHere (B D : List ℕ) (w : ℕ) (f : Source) (k t : ℕ) (c : Cell) : Type 0 where
   pub reaches : Reaches B D f k
-  pub is : cell_from t (mark_at B D f k) (word_at B D w f k) ≡ some c
+  pub is : cell_from t (mark_at B D f k) (word_at B D w f k) ≡ Some c
 
 -- an operand names an array, whose cells lie there
 pub record Stands (B D : List ℕ) (o : Operand) (X : Array) : Type 0 where
@@ -166,14 +164,14 @@ module _ {B D : List ℕ} {w : ℕ} {f g : Source} {k t : ℕ} {a b : Cell} (ty 
   }
 
 -- a scalar, of any cell
-scalar-here : (B D : List ℕ) (w k t : ℕ) (c : Cell) → filled t w ≡ some c → CellHere B D w (source scalar_side 0) k t c
+scalar-here : (B D : List ℕ) (w k t : ℕ) (c : Cell) → filled t w ≡ Some c → CellHere B D w (source scalar_side 0) k t c
 unfolding cell_from
 scalar-here B D w k t c e = record { reaches = record { room = λ z. let y : ◌≡◌ {A = ℕ} 0 1 = cc in absurd (omega arith) }; is = e }
 
-scalar-some : (o : Option Cell) → is_scalar o ≡ true → o ≡ some (Option.get_or o Empty)
+scalar-some : (o : Option Cell) → is_scalar o ≡ true → o ≡ Some (unwrap_or o Empty)
 unfolding is_scalar
-scalar-some none e = let y : ◌≡◌ {A = ℕ} 0 1 = cc in absurd (omega arith)
-scalar-some (some c) e = refl
+scalar-some None e = let y : ◌≡◌ {A = ℕ} 0 1 = cc in absurd (omega arith)
+scalar-some (Some c) e = refl
 
 -- an array's own cell k
 own-cell : (A : Array) (E : List Axis) (k : ℕ) → A.shape.axes ≡ E → k < cells E → at A (at_offset E k) ≡ slice_index_or A.cells k Empty
@@ -196,7 +194,7 @@ module _ {B bs D : List ℕ} {A Z : Array} {p : Planned} {t : Turn} (y : Ready B
   cells_are = y.count ∙ ap cells (sym result-axes)
 
   -- a cell that the step gives is one of the result's type, and that is a type
-  pub cell_typed : (q : List ℕ) (c : Cell) → cell_at p.step.operation p.step A Z q ≡ Is c → OfKind p.shape.type c
+  pub cell_typed : (q : List ℕ) (c : Cell) → cell_at p.step.operation p.step A Z q ≡ Ok c → OfKind p.shape.type c
   cell_typed q c e =
       rw y.result (cell-kept p.step.operation p.step A Z q c typed y.first.whole.kept y.kept y.tested.types y.scalar e)
 
@@ -314,12 +312,12 @@ module _ {B bs D : List ℕ} {A Z : Array} {p : Planned} {t : Turn} (y : Ready B
       cell = origin_cell o A.cells Z.cells
 
       -- the step's cell
-      pub moved-is : cell_at p.step.operation p.step A Z (at_offset p.shape.axes k) ≡ Is cell
+      pub moved-is : cell_at p.step.operation p.step A Z (at_offset p.shape.axes k) ≡ Ok cell
       unfolding cell_at
       moved-is =
           ap (λ (op : Operation). cell_at op p.step A Z (at_offset p.shape.axes k)) e
-          ∙ (λ i. Is (taken A Z (whence m (y.step i) (first-axes i) (second-axes i) (at_offset (result-axes i) k))))
-          ∙ ap Is (taken-origin E F from A Z first-axes second-axes (lies moving h))
+          ∙ (λ i. Ok (taken A Z (whence m (y.step i) (first-axes i) (second-axes i) (at_offset (result-axes i) k))))
+          ∙ ap Ok (taken-origin E F from A Z first-axes second-axes (lies moving h))
 
       pub inside : in_array o (cells E) (cells F)
       inside = origin-inside E F from (lies moving h)

@@ -7,7 +7,7 @@ mod bands;
 
 ghost use Rattle.std.specs.Prelude.{◌≡◌, ◌+◌, ◌<◌};
 ghost use Rattle.paper.specs.Limits.{most_steps, most_cells};
-ghost use Rattle.paper.specs.Refusals.{refusal};
+ghost use Rattle.paper.specs.Refusals.{fault_no, refusal};
 ghost use Rattle.quick.specs.Operands.{pairing as paired_as};
 ghost use Rattle.quick.specs.Cells.{Workable, Ahead};
 ghost use Rattle.values.specs.Turns.{cells_at, handed};
@@ -17,14 +17,14 @@ use crate::bands::lay_band;
 use cell::bytes::{word, write_cell};
 use coded::{computed, pair_code, single_code};
 use paper::{
-    ARRAYS, Answer, CELL_BYTES, Hand, Head, Move, Operation, Ordinality, Refusal, SCALAR_AT,
+    ARRAYS, CELL_BYTES, Fault, Hand, Head, Move, Operation, Ordinality, Refusal, SCALAR_AT,
     StepNumber, Work,
 };
 use quick::codes::ahead;
 use quick::operands::{Pairing, SCALAR, Source, raw_of};
 use recipe::operands::slot_of;
 use recipe::{Operand, Plan};
-use refusals::{none, refuse_at};
+use refusals::{none, refuse_fault};
 use rows::band_of;
 use step::StepHead;
 
@@ -189,13 +189,13 @@ fn begin_cells(bundle: &[u8], recipe: &[u8], work: &mut [u8], turn: Turn) -> Beg
 // ---- all steps
 
 // The refusal of cell k, from 0, of step s, from 0.
-fn refusal_of(number: u8, s: usize, k: usize) -> Refusal
+fn refusal_of(fault: Fault, s: usize, k: usize) -> Refusal
     requires { (s < most_steps) × (k < most_cells) }
-    ensures { result ≡ refusal number (s + 1) (k + 1) }
+    ensures { result ≡ refusal (fault_no fault) (s + 1) (k + 1) }
 {
     let step = StepNumber((s + 1) as u32);
     let o = Ordinality((k + 1) as u32);
-    refuse_at(number, step.0, o.0)
+    refuse_fault(fault, step.0, o.0)
 }
 
 // Each step's values in turn: those moved or worked out ahead, then those worked out one by one. The first cell in row-major order that
@@ -223,9 +223,9 @@ pub fn run_steps(bundle: &[u8], recipe: &[u8], plan: Plan, work: &mut [u8]) -> R
             let y = raw_of(bundle, done, begun.pairing.second, begun.pairing.scalar, k);
             let got = computed(begun.pairing.code, x.mark, x.bits, y.mark, y.bits);
             match got {
-                Answer::Is(c) => write_cell(work, base + k * CELL_BYTES, c),
-                Answer::Refused(number) => {
-                    out = refusal_of(number, s, k);
+                Ok(c) => write_cell(work, base + k * CELL_BYTES, c),
+                Err(fault) => {
+                    out = refusal_of(fault, s, k);
                     break 'steps;
                 }
             }

@@ -6,14 +6,8 @@ ghost use Rattle.paper.specs.Limits.{sizes_of};
 ghost use Rattle.paper.specs.Bundle.{version_told};
 ghost use Rattle.versions.specs.Told.{told_sizes};
 
-use paper::{HEAD_BYTES, LIMITS_BYTES, Sizes, Version};
-
-// The version that a number tells of, or none.
-#[derive(Clone, Copy)]
-pub enum Told {
-    Is(Version),
-    Unknown,
-}
+use paper::{HEAD_BYTES, LIMITS_BYTES, Refusal, Sizes, Version};
+use refusals::refuse;
 
 // A version's sizes.
 pub fn sizes(v: Version) -> Sizes
@@ -43,15 +37,13 @@ pub fn sizes(v: Version) -> Sizes
     }
 }
 
-// The version told: 1 or 2, in all its bits.
-pub fn version_told(n: u32) -> Told
+// The version told: 1 or 2, in all its bits; any other number is refused.
+pub fn version_told(n: u32) -> Result<Version, Refusal>
     ensures { told_sizes result ≡ version_told n }
 {
-    if n == 1 {
-        return Told::Is(Version::One);
+    match n {
+        1 => Ok(Version::One),
+        2 => Ok(Version::Two),
+        _ => Err(refuse(1, 0)),
     }
-    if n == 2 {
-        return Told::Is(Version::Two);
-    }
-    Told::Unknown
 }

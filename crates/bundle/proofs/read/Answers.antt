@@ -1,11 +1,11 @@
 -- `bundle::read` meets its contract: each way out by the law of its test.
+use Rattle.std.specs.Prelude.{Err}
 use Rattle.std.proofs.Common.{ℕ, ◌+◌, ◌≤◌, List, ◌≡◌, ap, arith, length, drop}
 use Rattle.paper.specs.declared.Version.{Version}
 use Rattle.paper.specs.declared.Sizes.{Sizes}
 use Rattle.paper.specs.declared.Form.{Form}
 use Rattle.paper.specs.declared.Refusal.{Refusal}
 use Rattle.paper.specs.Limits.{sizes_of}
-use Rattle.paper.specs.Refusals.{refused}
 use Rattle.paper.specs.Bundle.{version_in, read_array, read_bundle}
 use Rattle.bundle.specs.Read.{head_at, Fit, cells_at, FormAt}
 use Rattle.bundle.specs.Arrays.{array-refused, array-read}
@@ -44,8 +44,8 @@ module _ (c : After-form_at-form) where
   abbrev form : Form
   form = c.form_at-form.result
 
-  refuses : {x : Refusal} → refused x ≡ read_array (sizes_of (v (of here))) (here.loop-i.i + 1) (drop next (bs (of here)))
-      → refused x ≡ read_bundle (bs (of here))
+  refuses : {x : Refusal} → Err x ≡ read_array (sizes_of (v (of here))) (here.loop-i.i + 1) (drop next (bs (of here)))
+      → Err x ≡ read_bundle (bs (of here))
   refuses e =
       bundle-refused (named (of here)) (of here).opened-count.ensures (some here)
       (loop-refused here.loop-i.invariant c.loop-i-test.true e)

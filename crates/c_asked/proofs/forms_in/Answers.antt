@@ -53,8 +53,5 @@ offset_bounds-forms-i c = let v = c.loop-i.invariant in omega arith
 pub bounds-forms-i : goal.bounds-forms-i
 bounds-forms-i c = let v = c.loop-i.invariant in omega arith
 
-pub overflow_add-i : goal.overflow_add-i
-overflow_add-i c = let v = c.loop-i.invariant in omega arith
-
 pub loop-i-preserved : goal.loop-i-preserved
 loop-i-preserved c = filling-more c.loop-i-test.true c.form_at-form.ensures c.loop-i.invariant

@@ -1,5 +1,4 @@
--- `c_asked::forms_in`: what its loops keep.
-use Rattle.std.proofs.Common.{◌-◌}
+-- `c_asked::forms_in`: what its loop keeps.
 use Rattle.paper.specs.Limits.{most_arrays, sizes_of}
 use Rattle.c_asked.specs.Pieces.{Filling}
 use Rattle.c_asked.specs.Heads.{form_in}
@@ -7,6 +6,3 @@ use Rattle.c_asked.proofs.forms_in.Given as goal
 
 abbrev pub invariant-loop-i : goal.invariant-loop-i
 invariant-loop-i l = Filling (form_in (sizes_of l.v)) l.size l.heads most_arrays l.count l.i l.forms
-
-abbrev pub decreases-loop-i : goal.decreases-loop-i
-decreases-loop-i l = l.count - l.i

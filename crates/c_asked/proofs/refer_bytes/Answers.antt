@@ -32,8 +32,5 @@ offset_bounds-zs-i c = let v = c.loop-i.invariant in omega arith
 pub bounds-zs-i : goal.bounds-zs-i
 bounds-zs-i c = let v = c.loop-i.invariant in omega arith
 
-pub overflow_add-i : goal.overflow_add-i
-overflow_add-i c = let v = c.loop-i.invariant in omega arith
-
 pub slice_bounds-refer-end : goal.slice_bounds-refer-end
 slice_bounds-refer-end c = let v = c.loop-i.invariant in omega arith

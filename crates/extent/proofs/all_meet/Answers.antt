@@ -1,51 +1,24 @@
 -- `extent::all_meet` meets its contract.
--- As many axes; then the loop keeps the comparison of the axes left equal to the whole.
-use Rattle.std.proofs.Common.{ℕ, ◌+◌, ◌&&◌, ◌∙◌, ◌≡◌, refl, sym, arith, drop}
-use borrow.Author.Tests.{not-false, not-true}
-use Rattle.paper.specs.Numbers.{alike}
+-- As many axes; then the test of each two, as the chain has it.
+use Rattle.std.proofs.Common.{ℕ, ◌≡◌, ◌∙◌, ap, arith, rules, sym, take}
+use Rattle.std.proofs.lemmas.Iterator.{YieldsList-from_slice, YieldsList-from_zip}
+use Rattle.std.proofs.lemmas.Iterator.Search.{all_from_yields_List}
+use Rattle.extent.specs.Meeting.{alike-other, alike-zip}
 use Rattle.paper.specs.Answers.{axes_of}
-use Rattle.extent.specs.Rank.{axis_no}
-use Rattle.extent.specs.Meeting.{meet, meeting-end, meeting-other, meeting-up}
 use Rattle.extent.proofs.all_meet.Goals as goal
-use Rattle.extent.proofs.all_meet.Goals.{Else-rank_of-rank, In-loop-i, Start}
-
-same : (c : Else-rank_of-rank) → c.rank_of.result ≡ c.rank_of-rank.result
-same c = omega (arith, c.if-rank_of-rank.false)
-
-module _ (c : In-loop-i) where
-  abbrev start : Start
-  start = c.before.before.before.before.before
-
-  abbrev i : ℕ
-  i = c.loop-i.i
-
-  turn : let a = start.args in
-      alike (meet a.asked) (axes_of a.e) (axes_of a.f)
-      ≡ (meet a.asked (axis_no a.e i) (axis_no a.f i)
-      && alike (meet a.asked) (drop (i + 1) (axes_of a.e)) (drop (i + 1) (axes_of a.f)))
-  turn =
-      let a = start.args in
-      sym c.loop-i.invariant
-      ∙ meeting-up a.asked a.e a.f _ _ c.rank_of-rank.ensures
-      c.rank_of.ensures (same c.before.before) i c.loop-i-test.true
 
 pub returns-then-rank_of-rank : goal.returns-then-rank_of-rank
-returns-then-rank_of-rank c =
-    meeting-other c.args.asked _ _
-    (λ h. c.if-rank_of-rank.true (c.rank_of.ensures.number ∙ h ∙ sym c.rank_of-rank.ensures.number))
-
-pub loop-i-init : goal.loop-i-init
-loop-i-init c = refl
-
-pub returns-then-not-axes_meet : goal.returns-then-not-axes_meet
-returns-then-not-axes_meet c = sym (turn c.before.before.before.before ∙ rw (sym c.axes_meet.ensures ∙ not-true _ c.if-not-axes_meet.true-raw))
-
-pub loop-i-preserved : goal.loop-i-preserved
-loop-i-preserved c = sym (turn c.before.before.before.before ∙ rw (sym c.axes_meet.ensures ∙ not-false _ c.if-not-axes_meet.false-raw))
+returns-then-rank_of-rank g c m h =
+    alike-other m _ _ (λ e. c.if-rank_of-rank.true (c.rank_of.ensures.number ∙ e ∙ sym c.rank_of-rank.ensures.number))
 
 pub returns : goal.returns
-returns c =
-    let a = c.args in
-    meeting-end a.asked a.e a.f _ _ c.rank_of-rank.ensures
-    c.rank_of.ensures (same c.before.before) _ c.loop-i-test.false
-    ∙ c.loop-i.invariant
+returns g c m h =
+    let e = axes_of c.args.e in
+    let f = axes_of c.args.f in
+    let same : c.rank_of.result ≡ c.rank_of-rank.result = omega (arith, c.if-rank_of-rank.false) in
+    all_from_yields_List (λ p. m p.0 p.1) c.all.new.self _ _ c.all.ensures.ran
+    (YieldsList-from_zip
+    (YieldsList-from_slice {s = c.zip.result.a} e (ap (λ i. i.rest.now) c.zip.ensures.first ∙ c.iter.ensures.rest ∙ c.rank_of-rank.ensures.first))
+    (YieldsList-from_slice {s = c.zip.result.b} f (c.zip.ensures.second.0 ∙ ap (λ (n : ℕ). take n c.args.f.axes) (sym same) ∙ c.rank_of.ensures.first)))
+    (λ x b q k. let t : b ≡ m x.0.now x.1.now = h _ _ _ (search rules) in search (rules, t))
+    ∙ sym (alike-zip m e f (omega arith))

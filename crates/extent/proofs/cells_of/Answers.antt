@@ -17,10 +17,10 @@ module _ (c : After-width_of-n) where
   turn : c.loop-i.n * c.width_of-n.result ≡ cells (drop (c.loop-i.i - 1) (take c.rank_of-rank.result c.args.e.axes))
   turn =
       let l = c.loop-i in
-      ap₂ ◌*◌ l.invariant.1 c.width_of-n.ensures.0 ∙ mul_comm _ _ ∙ sym (cells-down c.args.e.axes c.rank_of-rank.result c.rank_of-rank.ensures.room l.i no_axis (omega arith) (omega arith))
+      ap₂ ◌*◌ l.invariant.0 c.width_of-n.ensures.0 ∙ mul_comm _ _ ∙ sym (cells-down c.args.e.axes c.rank_of-rank.result c.rank_of-rank.ensures.room l.i no_axis (omega arith) (omega arith))
 
 pub loop-i-init : goal.loop-i-init
-loop-i-init c = (omega arith, cells-none c.args.e.axes c.rank_of-rank.result c.rank_of-rank.ensures.room, omega arith)
+loop-i-init c = (cells-none c.args.e.axes c.rank_of-rank.result c.rank_of-rank.ensures.room, omega arith)
 
 pub width_of-n-requires : goal.width_of-n-requires
 width_of-n-requires c =
@@ -28,7 +28,7 @@ width_of-n-requires c =
     sound-first s.args.e.axes s.rank_of-rank.result s.rank_of-rank.ensures.room (c.loop-i.i - 1) no_axis (sound s) (omega arith)
 
 pub overflow_mul-n : goal.overflow_mul-n
-overflow_mul-n c = omega (arith, product_le c.loop-i.invariant.2 c.width_of-n.ensures.1)
+overflow_mul-n c = omega (arith, product_le c.loop-i.invariant.1 c.width_of-n.ensures.1)
 
 pub returns-then-n-gt-CELLS : goal.returns-then-n-gt-CELLS
 returns-then-n-gt-CELLS c =
@@ -38,7 +38,7 @@ returns-then-n-gt-CELLS c =
     (rw (lt-leb _ _ m), omega arith)
 
 pub loop-i-preserved : goal.loop-i-preserved
-loop-i-preserved c = (omega arith, turn c.before, omega arith)
+loop-i-preserved c = (turn c.before, omega arith)
 
 pub returns : goal.returns
 returns c =
@@ -46,4 +46,4 @@ returns c =
     let s = c in
     let e = ap cells (drop-none (take s.rank_of-rank.result s.args.e.axes) l.i (omega arith) ∙ s.rank_of-rank.ensures.first) in
     let n : cells (axes_of s.args.e) ≤ most_cells = omega (arith, e) in
-    (rw (le-leb _ _ n) (l.invariant.1 ∙ e), omega arith)
+    (rw (le-leb _ _ n) (l.invariant.0 ∙ e), omega arith)

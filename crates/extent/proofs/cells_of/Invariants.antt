@@ -5,7 +5,4 @@ use Rattle.paper.specs.Limits.{most_cells}
 use Rattle.extent.proofs.cells_of.Given as goal
 
 abbrev pub invariant-loop-i : goal.invariant-loop-i
-invariant-loop-i l = (l.i ≤ l.rank) × (l.n ≡ cells (drop l.i (take l.rank l.e.axes))) × (l.n ≤ most_cells)
-
-abbrev pub decreases-loop-i : goal.decreases-loop-i
-decreases-loop-i l = l.i
+invariant-loop-i l = (l.n ≡ cells (drop l.i (take l.rank l.e.axes))) × (l.n ≤ most_cells)

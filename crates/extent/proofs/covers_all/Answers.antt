@@ -1,8 +1,8 @@
 -- `extent::covers_all` meets its contract.
--- One case of the comparison.
-use Rattle.std.proofs.Common.{◌∙◌}
-use Rattle.extent.specs.Meeting.{by-covers}
+-- All meet by one test, which is two of the paper's.
+use Rattle.std.proofs.Common.{◌∙◌, rules}
+use Rattle.extent.specs.Meeting.{axis_covers, by-covers}
 use Rattle.extent.proofs.covers_all.Goals as goal
 
 pub returns : goal.returns
-returns c = c.all_meet.ensures ∙ by-covers _ _
+returns c = c.all_meet.ensures axis_covers (λ a b r p. search rules) ∙ by-covers _ _

@@ -1,16 +1,15 @@
 -- `extent::extent_cells` meets its contract.
 -- The number is kept where the extent lies inside its maximum.
-use Rattle.std.proofs.Common.{◌∙◌, ◌≡◌, sym, arith}
+use Rattle.std.proofs.Common.{◌∙◌, ◌≡◌, sym, arith, rules}
 use borrow.Author.Tests.{not-false, not-true}
 use Rattle.paper.specs.Answers.{axes_of, names_for}
-use Rattle.paper.specs.Axes.{within}
-use Rattle.extent.specs.Meeting.{by-maximum}
+use Rattle.paper.specs.Axes.{axis_within, within}
 use Rattle.extent.specs.Judged.{by-within, not_within}
 use Rattle.extent.proofs.extent_cells.Goals as goal
 use Rattle.extent.proofs.extent_cells.Goals.{After-all_meet}
 
 told : (c : After-all_meet) → within (axes_of c.args.e) (axes_of c.args.maximum) ≡ c.all_meet.result
-told c = sym (c.all_meet.ensures ∙ by-maximum _ _)
+told c = sym (c.all_meet.ensures axis_within (λ a b r p. search rules))
 
 pub returns-then-not-all_meet : goal.returns-then-not-all_meet
 returns-then-not-all_meet c = (

@@ -1,7 +1,7 @@
 -- `judged::eights_ahead` meets its contract: eight cells more a turn.
-use Rattle.std.proofs.Common.{arith}
+use Rattle.std.proofs.Common.{ℕ, ◌≡◌, ◌*◌, ◌/◌, subst, arith}
 use borrow.Author.Tests.{not-false}
-use Rattle.judged.specs.Looks.{none_ahead, eight-ahead}
+use Rattle.judged.specs.Looks.{Ahead, none_ahead, eight-ahead}
 use Rattle.judged.proofs.eights_ahead.Goals as goal
 
 pub loop-t-preserved : goal.loop-t-preserved
@@ -18,4 +18,7 @@ pub returns-then-not-eight_at : goal.returns-then-not-eight_at
 returns-then-not-eight_at c = c.loop-t.invariant
 
 pub returns : goal.returns
-returns c = c.loop-t.invariant
+returns c =
+    let a = c.args in
+    let e : c.loop-t.t ≡ a.n / 8 = omega (arith, c.loop-t-test.false, c.loop-t.invariant.few) in
+    subst (λ (t : ℕ). Ahead a.kind a.s.now a.at a.n (t * 8)) e c.loop-t.invariant

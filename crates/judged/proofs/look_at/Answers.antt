@@ -4,7 +4,5 @@ use Rattle.judged.proofs.look_at.Goals as goal
 
 pub returns : goal.returns
 returns c =
-    let w = c.before.before.before in
-    let p = w.before.before.before in
-    look_is p.args.kind p.args.s.now p.args.at w.wide-mark.result c.word-n.result c.unmarked.result
-    c.is_filled.result p.requires w.wide-mark.ensures c.word-n.ensures c.unmarked.ensures c.is_filled.ensures
+    look_is c.args.kind c.args.s.now c.args.at c.from-mark.result c.word-n.result c.unmarked.result
+    c.is_filled.result c.requires c.from-mark.ensures c.word-n.ensures c.unmarked.ensures c.is_filled.ensures

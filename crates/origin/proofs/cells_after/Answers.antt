@@ -1,5 +1,5 @@
 -- `origin::cells_after` meets its contract: from the last axis to the first, n is the number of cells of the axes done.
-use Rattle.std.proofs.Common.{ℕ, ◌+◌, ◌*◌, ◌-◌, ◌≡◌, ap₂, arith, drop}
+use Rattle.std.proofs.Common.{ℕ, ◌+◌, ◌*◌, ◌-◌, ◌≡◌, ap₂, mul_comm, ◌∙◌, arith, drop}
 use Rattle.paper.specs.declared.Extent.{Extent}
 use Rattle.paper.specs.Answers.{axes_of}
 use Rattle.paper.specs.Axes.{cells}
@@ -17,7 +17,7 @@ module _ (c : After-rank_of-i) where
   ends = rw (axes-end e _ c.rank_of-i.ensures c.rank_of-i.result (omega arith))
 
 pub loop-i-init : goal.loop-i-init
-loop-i-init c = (omega arith, omega (arith, c.rank_of-i.ensures.number), ends c)
+loop-i-init c = (omega (arith, c.rank_of-i.ensures.number), ends c)
 
 pub width_of-n-requires : goal.width_of-n-requires
 width_of-n-requires c =
@@ -33,12 +33,12 @@ module _ (c : After-width_of-n) where
   abbrev i : ℕ
   i = c.loop-i.i
 
-  turn : c.width_of-n.result * c.loop-i.n ≡ cells (drop (i - 1) (axes_of (e s)))
+  turn : c.loop-i.n * c.width_of-n.result ≡ cells (drop (i - 1) (axes_of (e s)))
   unfolding cells
   turn =
       let n : i - 1 + 1 ≡ i = omega arith in
       rw (axes-up (e s) _ s.rank_of-i.ensures (i - 1) (omega arith), n)
-      (ap₂ ◌*◌ c.width_of-n.ensures.0 c.loop-i.invariant.2)
+      (mul_comm _ _ ∙ ap₂ ◌*◌ c.width_of-n.ensures.0 c.loop-i.invariant.1)
 
 pub overflow_mul-n : goal.overflow_mul-n
 overflow_mul-n c =
@@ -46,7 +46,7 @@ overflow_mul-n c =
     omega (arith, turn c, cells-drop (axes_of (e d)) (i c - 1) d.requires.small.sound, d.requires.small.few)
 
 pub loop-i-preserved : goal.loop-i-preserved
-loop-i-preserved c = (omega arith, omega arith, turn c)
+loop-i-preserved c = (omega arith, turn c)
 
 pub returns : goal.returns
 returns c =
@@ -56,4 +56,4 @@ returns c =
     let b : l.i ≡ c.args.before = omega arith in
     let one = cells-pos (drop l.i E) (sound-drop E l.i small.sound) in
     let few = cells-drop E l.i small.sound in
-    (rw (← b) l.invariant.2, omega (arith, l.invariant.2), omega (arith, l.invariant.2, small.few))
+    (rw (← b) l.invariant.1, omega (arith, l.invariant.1), omega (arith, l.invariant.1, small.few))

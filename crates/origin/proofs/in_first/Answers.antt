@@ -3,8 +3,8 @@ use Rattle.std.proofs.Common.{ap, sym, ◌∙◌}
 use Rattle.origin.specs.Origins.{in_a}
 use Rattle.origin.proofs.in_first.Goals as goal
 
-pub returns-in-After : goal.returns-in-After
-returns-in-After c = ap in_a (sym c.in-After.is ∙ c.found_at-found.ensures)
+pub returns-in-Some : goal.returns-in-Some
+returns-in-Some c = ap in_a (sym c.in-Some.is ∙ c.found_at-found.ensures)
 
-pub returns-in-Outside : goal.returns-in-Outside
-returns-in-Outside c = ap in_a (sym c.in-Outside.is ∙ c.found_at-found.ensures)
+pub returns-in-None : goal.returns-in-None
+returns-in-None c = ap in_a (sym c.in-None.is ∙ c.found_at-found.ensures)

@@ -3,9 +3,9 @@ use Rattle.std.proofs.Common.{ap, sym, ◌∙◌}
 use Rattle.origin.specs.Origins.{over_a}
 use Rattle.origin.proofs.laid_over.Goals as goal
 
-pub returns-in-After : goal.returns-in-After
-returns-in-After c =
-    ap (over_a c.args.j) (sym c.in-After.is ∙ c.found_at-found.ensures)
+pub returns-in-Some : goal.returns-in-Some
+returns-in-Some c =
+    ap (over_a c.args.j) (sym c.in-Some.is ∙ c.found_at-found.ensures)
 
-pub returns-in-Outside : goal.returns-in-Outside
-returns-in-Outside c = ap (over_a c.args.j) (sym c.in-Outside.is ∙ c.found_at-found.ensures)
+pub returns-in-None : goal.returns-in-None
+returns-in-None c = ap (over_a c.args.j) (sym c.in-None.is ∙ c.found_at-found.ensures)

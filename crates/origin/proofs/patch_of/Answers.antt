@@ -28,7 +28,7 @@ module _ (c : In-loop-i) where
   few = omega (arith, long, start.requires.room)
 
 pub loop-i-init : goal.loop-i-init
-loop-i-init c = (omega arith, c.empty-new.ensures)
+loop-i-init c = c.empty-new.ensures
 
 pub axis_in-requires : goal.axis_in-requires
 axis_in-requires c = record { insertable = (start c).requires; le_j = omega arith }
@@ -36,7 +36,7 @@ axis_in-requires c = record { insertable = (start c).requires; le_j = omega arit
 pub with_axis-new-requires : goal.with_axis-new-requires
 with_axis-new-requires c =
     let s = (goal.at.with_axis-new-requires c).In-loop-i in
-    room_for (W s) c.loop-i.i (here s) (few s) _ c.loop-i.invariant.1
+    room_for (W s) c.loop-i.i (here s) (few s) _ c.loop-i.invariant
 
 pub loop-i-preserved : goal.loop-i-preserved
 loop-i-preserved c =
@@ -44,12 +44,12 @@ loop-i-preserved c =
     let i = c.loop-i.i in
     let n : i + 1 - 1 ≡ i = omega arith in
     let a = c.axis_in.ensures ∙ ap (λ (j : ℕ). get_or (W s) j no_axis) n in
-    (omega (arith, c.loop-i-test.true), c.with_axis-new.ensures ∙ first_more (W s) i (here s) (few s) _ _ c.loop-i.invariant.1 a)
+    c.with_axis-new.ensures ∙ first_more (W s) i (here s) (few s) _ _ c.loop-i.invariant a
 
 pub returns : goal.returns
 returns c =
     let X = put_in c.args.k.0 (spot c.args.x) (axes_of c.args.f) in
     let l = length-in c.requires (spot c.args.x) in
     let r = c.rank_of-n.ensures in
-    ap axes_of (c.loop-i.invariant.1 ∙ ap extent_of (take_all c.loop-i.i X (omega (arith, l, r.number, c.loop-i-test.false))))
+    ap axes_of (c.loop-i.invariant ∙ ap extent_of (take_all c.loop-i.i X (omega (arith, l, r.number, c.loop-i-test.false))))
     ∙ extent-axes X (omega (arith, l, c.requires.room))

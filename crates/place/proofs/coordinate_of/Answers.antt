@@ -33,7 +33,7 @@ limits c = sound-first (l c.before.before.before) (r c.before.before.before) (ro
 
 pub loop-i-init : goal.loop-i-init
 loop-i-init c =
-    (omega arith, refl, left-none (l c) (r c) (room c) (sound c) (k c), drop-first (replicate most_axes 0) (r c) c.rank_of-i.ensures.few ∙ sym (at_offset-none (l c) (r c) (room c) (sound c) (k c)))
+    (refl, left-none (l c) (r c) (room c) (sound c) (k c), drop-first (replicate most_axes 0) (r c) c.rank_of-i.ensures.few ∙ sym (at_offset-none (l c) (r c) (room c) (sound c) (k c)))
 
 pub width_of-w-requires : goal.width_of-w-requires
 width_of-w-requires c = limits c
@@ -51,13 +51,12 @@ pub loop-i-preserved : goal.loop-i-preserved
 loop-i-preserved c =
     let s = (goal.at.loop-i-preserved c).After-rank_of-i in
     let v = c.loop-i in
-    let q = ap₂ ◌/◌ v.invariant.2 c.width_of-w.ensures.0 in
-    let m = ap₂ ◌%◌ v.invariant.2 c.width_of-w.ensures.0 in (
-      omega arith,
-      simp length-set v.invariant.1,
+    let q = ap₂ ◌/◌ v.invariant.1 c.width_of-w.ensures.0 in
+    let m = ap₂ ◌%◌ v.invariant.1 c.width_of-w.ensures.0 in (
+      simp length-set v.invariant.0,
       q ∙ left_down (l s) (r s) (room s) (sound s) (k s) v.i no_axis (omega arith) (omega arith),
       set-down v.at (r s) (omega arith) v.i c.risen.result (omega arith) (omega arith)
-          ∙ ap₂ (λ (x : ℕ) (xs : List ℕ). x ∷ xs) (c.risen.ensures ∙ ap (λ (n : ℕ). (axis_no s.args.e (v.i - 1)).lo + n) m) v.invariant.3
+          ∙ ap₂ (λ (x : ℕ) (xs : List ℕ). x ∷ xs) (c.risen.ensures ∙ ap (λ (n : ℕ). (axis_no s.args.e (v.i - 1)).lo + n) m) v.invariant.2
           ∙ sym (at_offset-down (l s) (r s) (room s) (sound s) (k s) v.i no_axis (omega arith) (omega arith)),
     )
 
@@ -68,6 +67,6 @@ returns c =
     let few : k s < cells (take (r s) (l s)) = omega (arith, ap cells s.rank_of-i.ensures.first, s.requires.counted.one, s.requires.counted.last) in
     ap (λ (n : ℕ). take n v.at) (sym s.rank_of-i.ensures.number)
     ∙ sym (drop-none (take (r s) v.at) v.i (omega arith))
-    ∙ v.invariant.3
+    ∙ v.invariant.2
     ∙ at_offset-whole (l s) (r s) (room s) (sound s) (k s) v.i (omega arith) few
     ∙ ap (λ (E : List Axis). at_offset E (k s)) s.rank_of-i.ensures.first

@@ -1,44 +1,24 @@
 -- `place::is_inside` meets its contract.
--- The loop keeps the test of the axes left equal to the whole test.
-use Rattle.std.proofs.Common.{ℕ, ◌+◌, ◌≤◌, ◌&&◌, ap₂, sym, ◌∙◌, ◌≡◌, arith, rules, drop, get_or, length, take}
-use borrow.Author.Tests.{not-false, not-true}
-use Rattle.laws.specs.Loops.{inside-end, inside-up}
-use Rattle.extent.specs.Rank.{axis_no}
+-- The test of each axis with its position, as the chain has it.
+use Rattle.std.proofs.Common.{◌≡◌, ◌∙◌, ap, arith, length, length-take, rules, sym}
+use Rattle.std.proofs.lemmas.Iterator.{YieldsList-from_slice, YieldsList-from_zip}
+use Rattle.std.proofs.lemmas.Iterator.Search.{all_from_yields_List}
+use Rattle.extent.specs.Meeting.{alike-zip}
 use Rattle.paper.specs.Answers.{axes_of}
-use Rattle.paper.specs.Axes.{inside, no_axis, on_axis}
+use Rattle.paper.specs.Axes.{on_axis}
 use Rattle.paper.specs.Limits.{most_axes}
-use Rattle.paper.specs.declared.Extent.{Extent}
 use Rattle.place.specs.Positions.{first-positions, positions_of}
-use Rattle.place.specs.declared.Coordinate.{Coordinate}
 use Rattle.place.proofs.is_inside.Goals as goal
-use Rattle.place.proofs.is_inside.Goals.{After-rank_of-rank, In-loop-i}
-
-room : (c : After-rank_of-rank) → c.rank_of-rank.result ≤ length c.args.p.at
-room c = let l : length c.args.p.at ≡ most_axes = search rules in omega arith
-
-module _ (c : In-loop-i) where
-  abbrev e : Extent
-  e = c.args.e
-
-  abbrev p : Coordinate
-  p = c.args.p
-
-  abbrev r : ℕ
-  r = c.rank_of-rank.result
-
-  turn : inside (axes_of e) (positions_of (axes_of e) p) ≡ (on_axis (axis_no e c.loop-i.i) (get_or p.at c.loop-i.i 0) && inside (drop (c.loop-i.i + 1) (take r e.axes)) (drop (c.loop-i.i + 1) (take r p.at)))
-  turn = sym c.loop-i.invariant.1 ∙ inside-up e.axes p.at r c.rank_of-rank.ensures.room (room c.before.before) c.loop-i.i no_axis 0 c.loop-i-test.true
-
-pub loop-i-init : goal.loop-i-init
-loop-i-init c = (omega arith, ap₂ inside c.rank_of-rank.ensures.first (first-positions c.args.e c.rank_of-rank.result c.args.p c.rank_of-rank.ensures))
-
-pub returns-then-not-on_axis : goal.returns-then-not-on_axis
-returns-then-not-on_axis c = sym (turn (goal.at.returns-then-not-on_axis c).In-loop-i ∙ rw (sym c.on_axis.ensures ∙ not-true _ c.if-not-on_axis.true-raw))
-
-pub loop-i-preserved : goal.loop-i-preserved
-loop-i-preserved c = (omega arith, sym (turn (goal.at.loop-i-preserved c).In-loop-i ∙ rw (sym c.on_axis.ensures ∙ not-false _ c.if-not-on_axis.false-raw)))
 
 pub returns : goal.returns
 returns c =
-    let s = (goal.at.returns c).After-rank_of-rank in
-    sym (inside-end s.args.e.axes s.args.p.at s.rank_of-rank.result s.rank_of-rank.ensures.room (room s) c.loop-i.i (omega arith) (omega arith)) ∙ c.loop-i.invariant.1
+    let e = axes_of c.args.e in
+    let p = positions_of e c.args.p in
+    let r = c.rank_of-rank in
+    let l : length c.args.p.at ≡ most_axes = search rules in
+    all_from_yields_List (λ x. on_axis x.0 x.1) c.all.new.self _ _ c.all.ensures.ran
+    (YieldsList-from_zip
+    (YieldsList-from_slice {s = c.zip.result.a} e (ap (λ i. i.rest.now) c.zip.ensures.first ∙ c.iter.ensures.rest ∙ r.ensures.first))
+    (YieldsList-from_slice {s = c.zip.result.b} p (c.zip.ensures.second.0 ∙ first-positions c.args.e r.result c.args.p r.ensures)))
+    (λ x b q k. search rules)
+    ∙ sym (alike-zip on_axis e p (omega (arith, length-take (length e) c.args.p.at, r.ensures.number, r.ensures.few)))

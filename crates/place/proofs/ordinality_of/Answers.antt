@@ -1,6 +1,6 @@
 -- `place::ordinality_of` meets its contract.
 -- From the last axis to the first: the sum and the product of the widths are those of the axes done.
-use Rattle.std.proofs.Common.{ℕ, ◌*◌, ◌+◌, ◌-◌, ◌<◌, ◌≤◌, List, ap, ap₂, sym, ◌∙◌, ◌≡◌, arith, rules, drop, length, take}
+use Rattle.std.proofs.Common.{ℕ, ◌*◌, ◌+◌, ◌-◌, ◌<◌, ◌≤◌, List, ap, ap₂, sym, ◌∙◌, ◌≡◌, arith, rules, drop, length, mul_comm, take}
 use Rattle.laws.specs.Limits.{Sound, cells-drop}
 use Rattle.laws.specs.Loops.{cells-down, cells-none, drop-none, inside-first, offset-down, offset-few, offset-none, sound-first}
 use Rattle.laws.specs.Places.{Inside}
@@ -55,17 +55,17 @@ turn-sum : (c : After-above) → c.above.result * c.loop-i.later + c.loop-i.sum 
 turn-sum c =
     let s = c.before.before.before.before.before in
     let v = c.loop-i in
-    ap₂ ◌+◌ (ap₂ ◌*◌ c.above.ensures v.invariant.2) v.invariant.1
+    ap₂ ◌+◌ (ap₂ ◌*◌ c.above.ensures v.invariant.1) v.invariant.0
     ∙ sym (offset-down (l s) (p s) (r s) s.rank_of-i.ensures.room (room s) v.i no_axis 0 (omega arith) (omega arith))
 
-turn-later : (c : After-width_of-later) → c.width_of-later.result * c.loop-i.later ≡ cells_from c.before.before.before.before.before.before (c.loop-i.i - 1)
+turn-later : (c : After-width_of-later) → c.loop-i.later * c.width_of-later.result ≡ cells_from c.before.before.before.before.before.before (c.loop-i.i - 1)
 turn-later c =
     let s = c.before.before.before.before.before.before in
     let v = c.loop-i in
-    ap₂ ◌*◌ c.width_of-later.ensures.0 v.invariant.2 ∙ sym (cells-down (l s) (r s) s.rank_of-i.ensures.room v.i no_axis (omega arith) (omega arith))
+    ap₂ ◌*◌ v.invariant.1 c.width_of-later.ensures.0 ∙ mul_comm _ _ ∙ sym (cells-down (l s) (r s) s.rank_of-i.ensures.room v.i no_axis (omega arith) (omega arith))
 
 pub loop-i-init : goal.loop-i-init
-loop-i-init c = (omega arith, offset-none (l c) (p c) (r c) c.rank_of-i.ensures.room (room c), cells-none (l c) (r c) c.rank_of-i.ensures.room)
+loop-i-init c = (offset-none (l c) (p c) (r c) c.rank_of-i.ensures.room (room c), cells-none (l c) (r c) c.rank_of-i.ensures.room)
 
 pub above-requires : goal.above-requires
 above-requires c =
@@ -87,7 +87,7 @@ pub overflow_mul-later : goal.overflow_mul-later
 overflow_mul-later c = omega (arith, turn-later c, product (goal.at.overflow_mul-later c).After-rank_of-i (c.loop-i.i - 1))
 
 pub loop-i-preserved : goal.loop-i-preserved
-loop-i-preserved c = (omega arith, turn-sum (goal.at.loop-i-preserved c).After-above, turn-later c)
+loop-i-preserved c = (turn-sum (goal.at.loop-i-preserved c).After-above, turn-later c)
 
 pub overflow_add-result : goal.overflow_add-result
 overflow_add-result c = omega (arith, few (goal.at.overflow_add-result c).After-rank_of-i c.loop-i.i)

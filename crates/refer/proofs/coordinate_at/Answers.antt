@@ -12,12 +12,12 @@ loop-i-preserved c =
     let zs = c.args.zs.now in
     let f : SFits w32 (get_or zs l.i (pos 0)) = sfits_of (search rules) in
     let d = rw (to_z-of_z w32 (get_or zs l.i (pos 0)) f) at c.distance_to.ensures in
-    let m = coordinate-more zs l.at l.i _ c.loop-i-test.true (omega arith) d l.invariant.2 in
-    (omega arith, simp length-set l.invariant.1, m)
+    let m = coordinate-more zs l.at l.i _ c.loop-i-test.true (omega arith) d l.invariant.1 in
+    (simp length-set l.invariant.0, m)
 
 pub loop-i-init : goal.loop-i-init
-loop-i-init c = (omega arith, refl, refl)
+loop-i-init c = (refl, refl)
 
 pub returns : goal.returns
 returns c = let l = c.loop-i in
-    coordinate-end c.args.zs.now l.at l.i (omega arith) (omega arith) l.invariant.2
+    coordinate-end c.args.zs.now l.at l.i (omega arith) (omega arith) l.invariant.1

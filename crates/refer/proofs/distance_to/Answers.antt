@@ -6,4 +6,4 @@ use Rattle.refer.proofs.distance_to.Goals as goal
 pub returns : goal.returns
 returns c =
     let f = to_z-of_z w32 c.args.z c.ranges.z in
-    rw (c.distance_of.ensures, c.bits_of.ensures, f, f)
+    rw (c.distance_of.ensures, c.cast_unsigned.ensures, f, f)

@@ -11,11 +11,10 @@ run_length-length-requires c = record { holds = c.requires.holds; moving = c.req
 
 pub returns : goal.returns
 returns c =
-    let l = c.least.ensures in
     record {
-      fits = l.1;
-      some = λ h. l.2 c.run_length-length.ensures.0 h;
+      fits = omega arith;
+      some = λ h. omega (arith, c.run_length-length.ensures.0);
       each = λ i h.
-          c.run_length-length.ensures.1.each i (omega (arith, l.0)) (omega (arith, l.1, c.requires.le_most))
+          c.run_length-length.ensures.1.each i (omega arith) (omega (arith, c.requires.le_most))
           ∙ ap (onward i i) (sym c.origin_of-from.ensures);
     }

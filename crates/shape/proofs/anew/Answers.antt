@@ -37,7 +37,7 @@ module _ (c : In-loop-i) where
   place = ap (λ (w : ℕ). c.loop-i.i * w) c.bytes_for-width.ensures
 
 pub loop-i-init : goal.loop-i-init
-loop-i-init c = (omega arith, c.empty-new.ensures)
+loop-i-init c = c.empty-new.ensures
 
 pub overflow_mul-i : goal.overflow_mul-i
 overflow_mul-i c = let t = (goal.at.overflow_mul-i c).In-loop-i in omega (arith, place t, room t)
@@ -52,7 +52,7 @@ axis_anew-requires c =
 pub with_axis-new-requires : goal.with_axis-new-requires
 with_axis-new-requires c =
     let t = (goal.at.with_axis-new-requires c).In-loop-i in
-    room_for (W t) t.loop-i.i (omega (arith, all t, here t)) (omega (arith, all t, t.rank_of-rank.ensures.number, t.rank_of-rank.ensures.few)) t.loop-i.new t.loop-i.invariant.1
+    room_for (W t) t.loop-i.i (omega (arith, all t, here t)) (omega (arith, all t, t.rank_of-rank.ensures.number, t.rank_of-rank.ensures.few)) t.loop-i.new t.loop-i.invariant
 
 pub loop-i-preserved : goal.loop-i-preserved
 loop-i-preserved c =
@@ -63,11 +63,9 @@ loop-i-preserved c =
     let i = t.loop-i.i in
     let a = axis-first t.args.e t.rank_of-rank.result t.rank_of-rank.ensures i t.loop-i-test.true in
     let v = c.axis_anew.ensures ∙ ap₂ (λ (x : Axis) (n : ℕ). fresh how x (drop (at + n) s)) a (place t)
-    ∙ renewed-at how (E t) s at i (here t) in (
-      omega arith,
-      c.with_axis-new.ensures
-          ∙ first_more (W t) i (omega (arith, all t, here t)) (omega (arith, all t, t.rank_of-rank.ensures.number, t.rank_of-rank.ensures.few)) t.loop-i.new c.axis_anew.result t.loop-i.invariant.1 v,
-    )
+    ∙ renewed-at how (E t) s at i (here t) in
+    c.with_axis-new.ensures
+    ∙ first_more (W t) i (omega (arith, all t, here t)) (omega (arith, all t, t.rank_of-rank.ensures.number, t.rank_of-rank.ensures.few)) t.loop-i.new c.axis_anew.result t.loop-i.invariant v
 
 pub returns : goal.returns
 returns c =
@@ -75,4 +73,4 @@ returns c =
     let W = renewed s.args.how (axes_of s.args.e) s.args.s.now s.args.at in
     let n = length-renewed s.args.how (axes_of s.args.e) s.args.s.now s.args.at in
     let r = c.rank_of-rank.ensures in
-    ap axes_of (c.loop-i.invariant.1 ∙ ap extent_of (take_all c.loop-i.i W (omega (arith, n, r.number)))) ∙ extent-axes W (omega (arith, n, r.number, r.few))
+    ap axes_of (c.loop-i.invariant ∙ ap extent_of (take_all c.loop-i.i W (omega (arith, n, r.number)))) ∙ extent-axes W (omega (arith, n, r.number, r.few))

@@ -47,7 +47,7 @@ pub loop-i-preserved : goal.loop-i-preserved
 loop-i-preserved c =
     let s = (goal.at.loop-i-preserved c).After-mean_next-added in
     let t = turn s in
-    (omega arith, going_next _ t.loop-i.invariant.1 (few t) (next t) (added s) c.in-On.is)
+    (omega arith, going_next _ t.loop-i.invariant.1 (few t) (next t) (added s) c.in-Some.is)
 
 pub returns : goal.returns
 returns c =

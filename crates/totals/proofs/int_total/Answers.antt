@@ -7,14 +7,14 @@ pub int_sum-answer-requires : goal.int_sum-answer-requires
 unfolding answered
 int_sum-answer-requires c = search rules
 
-pub refuse-requires : goal.refuse-requires
+pub refuse_fault-requires : goal.refuse_fault-requires
 unfolding answered
-refuse-requires c = search rules
+refuse_fault-requires c = search rules
 
-pub returns-in-Is : goal.returns-in-Is
+pub returns-in-Ok : goal.returns-in-Ok
 unfolding answered
-returns-in-Is c = rw (← c.int_sum-answer.ensures c.args.k, c.in-Is.is)
+returns-in-Ok c = rw (← c.int_sum-answer.ensures c.args.k, c.in-Ok.is)
 
-pub returns-in-Refused : goal.returns-in-Refused
+pub returns-in-Err : goal.returns-in-Err
 unfolding answered
-returns-in-Refused c = rw (c.refuse.ensures, ← c.int_sum-answer.ensures c.args.k, c.in-Refused.is)
+returns-in-Err c = rw (c.refuse_fault.ensures, ← c.int_sum-answer.ensures c.args.k, c.in-Err.is)

@@ -11,10 +11,10 @@ pub is_truth-requires : goal.is_truth-requires
 unfolding holds
 is_truth-requires c = search rules
 
-pub returns-in-Is : goal.returns-in-Is
+pub returns-in-Ok : goal.returns-in-Ok
 unfolding holds
-returns-in-Is c = rw (← c.lt-answer.ensures, c.in-Is.is) c.is_truth.ensures
+returns-in-Ok c = rw (← c.lt-answer.ensures, c.in-Ok.is) c.is_truth.ensures
 
-pub returns-in-Refused : goal.returns-in-Refused
+pub returns-in-Err : goal.returns-in-Err
 unfolding holds
-returns-in-Refused c = rw (← c.lt-answer.ensures, c.in-Refused.is)
+returns-in-Err c = rw (← c.lt-answer.ensures, c.in-Err.is)

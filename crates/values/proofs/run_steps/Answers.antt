@@ -1,11 +1,11 @@
 -- `values::run_steps` meets its contract: each event of the two loops has its law in specs/Done and specs/Runs.
+use Rattle.std.specs.Prelude.{Err}
 use Rattle.std.proofs.Common.{◌≡◌, ℕ, ◌+◌, ◌<◌, List, length, get_or, take, sym, refl, ap, ◌∙◌, subst, arith, length-take-le}
 use Rattle.paper.specs.declared.Refusal.{Refusal}
 use Rattle.paper.specs.declared.Work.{Work}
 use Rattle.paper.specs.declared.Operation.TheVariants.{Works}
 use Rattle.paper.specs.Limits.{word_bytes, scalar_at}
 use Rattle.paper.specs.Numbers.{le_of, part}
-use Rattle.paper.specs.Refusals.{refused}
 use Rattle.recipe.specs.declared.Plan.{Plan}
 use Rattle.recipe.specs.Whole.{steps_of, steps-count}
 use Rattle.coded.specs.Codes.{NoNan, answered}
@@ -200,7 +200,7 @@ module _ (c : After-write_cell) where
   next X d v =
       let w = works (turn at) in
       worked-on (turned (step at) X d) ((head (turn at)).cells.invariant.6 X d v) w.0 w.1 (q at) w.2 (turn at).cells-test.true at.computed-got.result (gave at)
-      _ c.in-Is.is _ c.write_cell.ensures
+      _ c.in-Ok.is _ c.write_cell.ensures
 
   stays : length c.write_cell.new.d ≡ length (W (step at))
   stays = keeps (on (head (turn at))) (next _ _ (begun (pairing (turn at)))) (omega (arith, (turn at).cells-test.true))
@@ -229,17 +229,17 @@ returns-after-steps c =
       stopped = λ h. absurd (h (ap (λ (r : Refusal). r.number) v.3));
     }
 
-pub shape_of-work-in-Refused : goal.shape_of-work-in-Refused
-shape_of-work-in-Refused c = kept (goal.at.shape_of-work-in-Refused c).After-computed-got
+pub shape_of-work-in-Err : goal.shape_of-work-in-Err
+shape_of-work-in-Err c = kept (goal.at.shape_of-work-in-Err c).After-computed-got
 
-pub returns-in-Refused : goal.returns-in-Refused
-returns-in-Refused c =
-    let s = (goal.at.returns-in-Refused c).After-computed-got in
+pub returns-in-Err : goal.returns-in-Err
+returns-in-Err c =
+    let s = (goal.at.returns-in-Err c).After-computed-got in
     let w = works (turn s) in
     let y = on (head (turn s)) in
     let f = fill (head (turn s)) in
     let t = (turn s).cells-test.true in
-    let e = ap refused c.refusal_of-out.ensures ∙ refuses y f w.0 w.1 (q s) w.2 t c.computed-got.result (gave s) _ c.in-Refused.is in
+    let e = ap Err c.refusal_of-out.ensures ∙ refuses y f w.0 w.1 (q s) w.2 t c.computed-got.result (gave s) _ c.in-Err.is in
     record {
       done = λ z. absurd (late _ _ _ e z);
       stopped = λ h. record { is = sym e; long = kept s; rest = untouched y f w.0 w.1 (q s) w.2 t c.computed-got.result (gave s) };

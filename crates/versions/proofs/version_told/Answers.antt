@@ -1,17 +1,17 @@
 -- `versions::version_told` meets its contract: 1, 2, or another.
-use Rattle.std.proofs.Common.{eq-eqb, ne_eqb}
+use Rattle.std.proofs.Common.{arith, ne_eqb}
 use Rattle.paper.specs.Limits.{sizes_of}
 use Rattle.paper.specs.Bundle.{version_told}
 use Rattle.versions.proofs.version_told.Goals as goal
 
-pub returns-then-n-eq1 : goal.returns-then-n-eq1
+pub returns-in-1 : goal.returns-in-1
 unfolding version_told sizes_of
-returns-then-n-eq1 c = rw (eq-eqb _ _ c.if-n-eq1.true)
+returns-in-1 c = rw c.in-1.is
 
-pub returns-then-n-eq2 : goal.returns-then-n-eq2
+pub returns-in-2 : goal.returns-in-2
 unfolding version_told sizes_of
-returns-then-n-eq2 c = rw (ne_eqb _ _ c.if-n-eq1.false, eq-eqb _ _ c.if-n-eq2.true)
+returns-in-2 c = rw c.in-2.is
 
-pub returns : goal.returns
+pub returns-in_default : goal.returns-in_default
 unfolding version_told
-returns c = rw (ne_eqb _ _ c.if-n-eq1.false, ne_eqb _ _ c.if-n-eq2.false)
+returns-in_default c = rw (c.refuse.ensures, ne_eqb c.args.n 1 (λ e. omega arith), ne_eqb c.args.n 2 (λ e. omega arith))

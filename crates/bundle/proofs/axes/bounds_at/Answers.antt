@@ -62,7 +62,6 @@ module _ (c : In-loop-i) where
 pub loop-i-init : goal.loop-i-init
 loop-i-init c =
     let p = (goal.at.loop-i-init c).After-sizes-z in (
-      omega arith,
       subst (λ (l : List Name). Filled (z p) no_name (name_of (z p)) (s p) (at p) (n p) 0 l) (sym c.no_names-names.ensures)
           (filled-start (z p) no_name (name_of (z p)) (s p) (at p) (n p)),
       filled-start (z p) no_axis (axis_of (z p)) (s p) (at p) (n p),
@@ -76,7 +75,7 @@ module _ (c : After-axis_at-m) where
 
   long : (length again.loop-i.names ≡ most_axes) × (length again.loop-i.axes ≡ most_axes)
       × (length again.loop-i.maxima ≡ most_axes)
-  long = let f = again.loop-i.invariant in (f.1.long, f.2.long, f.3.long)
+  long = let f = again.loop-i.invariant in (f.0.long, f.1.long, f.2.long)
 
   few : i again < n (sized again)
   few = again.loop-i-test.true
@@ -90,13 +89,12 @@ loop-i-preserved c =
     let h : i q < most_axes = omega (arith, few c, p.requires.0) in
     let e = c.name_at-name.ensures
     ∙ ap (λ (x : Sizes). name_from (part (here q) x.name (s p))) (sym p.sizes-z.ensures) in (
-      omega (arith, few c),
       filled_more (z p) no_name (name_of (z p)) (s p) (at p) (n p) (i q) l.names _ (few c) h (name-told (z p) f (s p) (here q) _ e)
-          l.invariant.1,
+          l.invariant.0,
       filled_more (z p) no_axis (axis_of (z p)) (s p) (at p) (n p) (i q) l.axes _ (few c) h
-          (axis-told (z p) f (s p) (here q) _ c.axis_at-a.ensures) l.invariant.2,
+          (axis-told (z p) f (s p) (here q) _ c.axis_at-a.ensures) l.invariant.1,
       filled_more (z p) no_axis (maximum_of (z p)) (s p) (at p) (n p) (i q) l.maxima _ (few c) h
-          (maximum-told (z p) f (s p) (here q) _ c.axis_at-m.ensures) l.invariant.3,
+          (maximum-told (z p) f (s p) (here q) _ c.axis_at-m.ensures) l.invariant.2,
     )
 
 pub returns : goal.returns
@@ -107,9 +105,9 @@ returns c =
     × (◌≡◌ {A = Extent} (record { rank = n p; axes = l.axes }) (extent_of (each_axis x (axis_of x) (n p) (drop (at p) (s p)))))
     × (◌≡◌ {A = Extent} (record { rank = n p; axes = l.maxima }) (extent_of (each_axis x (maximum_of x) (n p) (drop (at p) (s p))))))
     c.sizes-z.ensures (
-      filled-names (z p) (s p) (at p) (n p) l.i l.invariant.0 c.loop-i-test.false (name_of (z p)) l.names l.invariant.1,
-      filled-extent (z p) (s p) (at p) (n p) l.i l.invariant.0 c.loop-i-test.false (axis_of (z p)) l.axes l.invariant.2,
-      filled-extent (z p) (s p) (at p) (n p) l.i l.invariant.0 c.loop-i-test.false (maximum_of (z p)) l.maxima l.invariant.3,
+      filled-names (z p) (s p) (at p) (n p) l.i (omega arith) c.loop-i-test.false (name_of (z p)) l.names l.invariant.0,
+      filled-extent (z p) (s p) (at p) (n p) l.i (omega arith) c.loop-i-test.false (axis_of (z p)) l.axes l.invariant.1,
+      filled-extent (z p) (s p) (at p) (n p) l.i (omega arith) c.loop-i-test.false (maximum_of (z p)) l.maxima l.invariant.2,
     )
 
 pub overflow_mul-here : goal.overflow_mul-here
@@ -153,9 +151,3 @@ offset_bounds-maxima-i c = omega (arith, few c)
 
 pub bounds-maxima-i : goal.bounds-maxima-i
 bounds-maxima-i c = omega (arith, few c, long c)
-
-pub overflow_add-i : goal.overflow_add-i
-overflow_add-i c = omega (arith, few c)
-
-pub loop-i-smaller : goal.loop-i-smaller
-loop-i-smaller c = omega (arith, few c)

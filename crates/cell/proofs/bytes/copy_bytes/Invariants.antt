@@ -1,10 +1,6 @@
 -- `cell::bytes::copy_bytes`: what its loops keep.
-use Rattle.std.proofs.Common.{◌-◌}
 use Rattle.laws.specs.Put.{Copying}
 use Rattle.cell.proofs.bytes.copy_bytes.Given as goal
 
 abbrev pub invariant-loop-k : goal.invariant-loop-k
 invariant-loop-k l = Copying l.s l.from l.initial.d l.at l.n l.d l.k
-
-abbrev pub decreases-loop-k : goal.decreases-loop-k
-decreases-loop-k l = l.n - l.k

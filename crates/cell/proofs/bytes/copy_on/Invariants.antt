@@ -1,10 +1,7 @@
 -- `cell::bytes::copy_on`: what its loops keep.
-use Rattle.std.proofs.Common.{◌≡◌, ◌-◌, take}
+use Rattle.std.proofs.Common.{◌≡◌, take}
 use Rattle.laws.specs.Put.{Copying}
 use Rattle.cell.proofs.bytes.copy_on.Given as goal
 
 abbrev pub invariant-loop-k : goal.invariant-loop-k
 invariant-loop-k l = Copying l.initial.d l.from l.initial.d l.at l.n l.d l.k × (take l.at l.d ≡ take l.at l.initial.d)
-
-abbrev pub decreases-loop-k : goal.decreases-loop-k
-decreases-loop-k l = l.n - l.k

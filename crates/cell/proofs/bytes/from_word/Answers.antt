@@ -1,8 +1,8 @@
 -- `cell::bytes::from_word` meets its contract: each arm is a case of `filled`. Assumes nothing.
+use Rattle.std.specs.Prelude.{Some}
 use Rattle.std.proofs.Common.{ℤ, sym, ap, ◌∙◌, w64}
 use mir.ValLaws.{to_z-of_z}
 use Rattle.paper.specs.declared.Cell.TheVariants.{Int}
-use mathlib.Core.Option.{some}
 use Rattle.cell.proofs.Finite.{no-nan-bits}
 use Rattle.cell.proofs.Cases.{filled-int, filled-float, filled-float-bad, filled-truth, filled-truth-bad}
 use Rattle.cell.proofs.bytes.from_word.Goals as goal
@@ -12,7 +12,7 @@ float_from_bits-result c = no-nan-bits c.args.n c.if-n-lt9218868437227405312.tru
 
 pub returns-in-1 : goal.returns-in-1
 returns-in-1 c =
-    ap (λ (z : ℤ). some (Int z)) (to_z-of_z w64 c.signed.result (record { sfits = c.signed.type_inv }) ∙ c.signed.ensures)
+    ap (λ (z : ℤ). Some (Int z)) (to_z-of_z w64 c.signed.result (record { sfits = c.signed.type_inv }) ∙ c.signed.ensures)
     ∙ sym (filled-int _ c.args.n c.in-1.is)
 
 pub returns-then-n-lt9218868437227405312 : goal.returns-then-n-lt9218868437227405312

@@ -1,116 +1,15 @@
--- `cell::bytes::put9` meets its contract: the stores, one by one, replace a run of the slice. Assumes nothing.
-use Rattle.std.proofs.Common.{◌∷◌, lit<}
-use Rattle.paper.specs.Limits.{cell_bytes}
+-- `cell::bytes::put9` meets its contract: a byte is stored, and the number's eight after it. Assumes nothing.
+use Rattle.std.proofs.Common.{ℕ, ◌+◌, List, ◌∷◌, length, ap, ◌∙◌, arith}
+use Rattle.paper.specs.Limits.{word_bytes, cell_bytes}
 use Rattle.paper.specs.Numbers.{le_bytes}
-use Rattle.cell.proofs.Runs.{Room, stores_at-spliced, length-stores, byte_fits, place-fits, next-in}
+use Rattle.laws.specs.Put.{put}
+use Rattle.cell.proofs.Runs.{stored-after, le-bytes}
 use Rattle.cell.proofs.bytes.put9.Goals as goal
-use Rattle.cell.proofs.bytes.put9.Goals.{Start}
-
-room : (c : Start) → Room c.args.d.now c.args.at cell_bytes
-room c = record { ends = c.requires; short = c.well_formed.0.0 }
-
--- each index is within the slice after the stores before it, and each byte fits
-
-pub overflow_cast-d : goal.overflow_cast-d
-unfolding le_bytes
-overflow_cast-d c = byte_fits _
-
-pub overflow_add-d : goal.overflow_add-d
-unfolding le_bytes
-overflow_add-d c = place-fits (room c) 1 (lit< tt)
-
-pub bounds-d-at-2 : goal.bounds-d-at-2
-unfolding le_bytes
-bounds-d-at-2 c = next-in (room c) (c.args.mark ∷ le_bytes 0 c.args.n) (lit< tt)
-
-pub overflow_cast-d-2 : goal.overflow_cast-d-2
-unfolding le_bytes
-overflow_cast-d-2 c = byte_fits _
-
-pub overflow_add-d-2 : goal.overflow_add-d-2
-unfolding le_bytes
-overflow_add-d-2 c = place-fits (room c) 2 (lit< tt)
-
-pub bounds-d-at-3 : goal.bounds-d-at-3
-unfolding le_bytes
-bounds-d-at-3 c = next-in (room c) (c.args.mark ∷ le_bytes 1 c.args.n) (lit< tt)
-
-pub overflow_cast-d-3 : goal.overflow_cast-d-3
-unfolding le_bytes
-overflow_cast-d-3 c = byte_fits _
-
-pub overflow_add-d-3 : goal.overflow_add-d-3
-unfolding le_bytes
-overflow_add-d-3 c = place-fits (room c) 3 (lit< tt)
-
-pub bounds-d-at-4 : goal.bounds-d-at-4
-unfolding le_bytes
-bounds-d-at-4 c = next-in (room c) (c.args.mark ∷ le_bytes 2 c.args.n) (lit< tt)
-
-pub overflow_cast-d-4 : goal.overflow_cast-d-4
-unfolding le_bytes
-overflow_cast-d-4 c = byte_fits _
-
-pub overflow_add-d-4 : goal.overflow_add-d-4
-unfolding le_bytes
-overflow_add-d-4 c = place-fits (room c) 4 (lit< tt)
-
-pub bounds-d-at-5 : goal.bounds-d-at-5
-unfolding le_bytes
-bounds-d-at-5 c = next-in (room c) (c.args.mark ∷ le_bytes 3 c.args.n) (lit< tt)
-
-pub overflow_cast-d-5 : goal.overflow_cast-d-5
-unfolding le_bytes
-overflow_cast-d-5 c = byte_fits _
-
-pub overflow_add-d-5 : goal.overflow_add-d-5
-unfolding le_bytes
-overflow_add-d-5 c = place-fits (room c) 5 (lit< tt)
-
-pub bounds-d-at-6 : goal.bounds-d-at-6
-unfolding le_bytes
-bounds-d-at-6 c = next-in (room c) (c.args.mark ∷ le_bytes 4 c.args.n) (lit< tt)
-
-pub overflow_cast-d-6 : goal.overflow_cast-d-6
-unfolding le_bytes
-overflow_cast-d-6 c = byte_fits _
-
-pub overflow_add-d-6 : goal.overflow_add-d-6
-unfolding le_bytes
-overflow_add-d-6 c = place-fits (room c) 6 (lit< tt)
-
-pub bounds-d-at-7 : goal.bounds-d-at-7
-unfolding le_bytes
-bounds-d-at-7 c = next-in (room c) (c.args.mark ∷ le_bytes 5 c.args.n) (lit< tt)
-
-pub overflow_cast-d-7 : goal.overflow_cast-d-7
-unfolding le_bytes
-overflow_cast-d-7 c = byte_fits _
-
-pub overflow_add-d-7 : goal.overflow_add-d-7
-unfolding le_bytes
-overflow_add-d-7 c = place-fits (room c) 7 (lit< tt)
-
-pub bounds-d-at-8 : goal.bounds-d-at-8
-unfolding le_bytes
-bounds-d-at-8 c = next-in (room c) (c.args.mark ∷ le_bytes 6 c.args.n) (lit< tt)
-
-pub overflow_cast-d-8 : goal.overflow_cast-d-8
-unfolding le_bytes
-overflow_cast-d-8 c = byte_fits _
-
-pub overflow_add-d-8 : goal.overflow_add-d-8
-unfolding le_bytes
-overflow_add-d-8 c = place-fits (room c) 8 (lit< tt)
-
-pub bounds-d-at-9 : goal.bounds-d-at-9
-unfolding le_bytes
-bounds-d-at-9 c = next-in (room c) (c.args.mark ∷ le_bytes 7 c.args.n) (lit< tt)
-
-pub shape_of-d : goal.shape_of-d
-unfolding le_bytes
-shape_of-d c = length-stores (c.args.mark ∷ le_bytes 8 c.args.n) c.args.d.now c.args.at
 
 pub returns : goal.returns
 unfolding le_bytes
-returns c = stores_at-spliced (c.args.mark ∷ le_bytes 8 c.args.n) c.args.d.now c.args.at c.requires
+returns c =
+    let a = c.args in
+    let e = c.copy_from_slice.ensures.after ∙ c.to_le_bytes.ensures ∙ le-bytes word_bytes 0 a.n a.n (omega arith) in
+    stored-after a.d.now _ a.at a.mark (a.at + cell_bytes) (omega (arith, ap length e)) (omega (arith, c.requires))
+    ∙ ap (λ (l : List ℕ). put a.d.now a.at (a.mark ∷ l)) e

@@ -1,32 +1,18 @@
 -- `cell::ints::int_div` meets its contract. Assumes nothing.
-use Rattle.std.proofs.Common.{◌≡◌, ℤ, pos, negsuc, neg_ℤ, sym, ap, ◌∙◌, subst, arith, to_z-of_z, w64, of_z}
-use lib.Signed.{quot_z}
+use Rattle.std.proofs.Common.{arith, pos, int_div, ap, ◌∙◌, to_z-of_z, w64, of_z}
 use mir.Facts.{sfits_lit}
-use Rattle.laws.specs.Parts.{bits-eq, quot_fits, quot-minus-one}
-use Rattle.paper.specs.Operators.{fit_int, int_by}
-use Rattle.cell.proofs.Fit.{fit-back, by_zero, by-other}
+use Rattle.laws.specs.Parts.{bits-eq}
+use Rattle.cell.proofs.Fit.{by_zero, by-other, divided}
 use Rattle.cell.proofs.ints.int_div.Goals as goal
-
-pub nonzero_div-result : goal.nonzero_div-result
-nonzero_div-result c =
-    let o = c in
-    (omega (arith, c.if-b-eq0.false), simp (to_z-of_z o.ranges.a, to_z-of_z o.ranges.b) (quot_fits o.args.a o.args.b (λ e. c.if-b-eqminus1.false (ap (of_z w64) e)) o.ranges.a))
 
 pub returns-then-b-eq0 : goal.returns-then-b-eq0
 returns-then-b-eq0 c =
     let o = c in
-    by_zero quot_z o.args.a o.args.b (bits-eq {w = w64} o.args.b (pos 0) o.ranges.b (sfits_lit tt) c.if-b-eq0.true)
+    by_zero int_div o.args.a o.args.b (bits-eq {w = w64} o.args.b (pos 0) o.ranges.b (sfits_lit tt) c.if-b-eq0.true)
 
-pub returns-then-b-eqminus1 : goal.returns-then-b-eqminus1
-unfolding int_by
-returns-then-b-eqminus1 c =
-    let o = c in
-    let e : o.args.b ≡ negsuc 0 = bits-eq {w = w64} o.args.b (negsuc 0) o.ranges.b (sfits_lit tt) c.if-b-eqminus1.true in
-    c.int_neg.ensures ∙ simp (to_z-of_z o.ranges.a) (subst (λ (z : ℤ). fit_int (neg_ℤ o.args.a) ≡ int_by quot_z o.args.a z) (sym e) (ap fit_int (sym (quot-minus-one o.args.a))))
-
-pub returns-else-b-eqminus1 : goal.returns-else-b-eqminus1
-returns-else-b-eqminus1 c =
-    let o = c in
-    let f = simp (to_z-of_z o.ranges.a, to_z-of_z o.ranges.b) at (nonzero_div-result c).1 in
-    simp (to_z-of_z o.ranges.a, to_z-of_z o.ranges.b)
-    (fit-back (quot_z o.args.a o.args.b) f ∙ by-other quot_z o.args.a o.args.b (λ e. c.if-b-eq0.false (ap (of_z w64) e)))
+pub returns-else-b-eq0 : goal.returns-else-b-eq0
+returns-else-b-eq0 c =
+    let a = c.args.a in
+    let b = c.args.b in
+    c.fitting.ensures (int_div a b) (divided a b _ (omega (arith, c.if-b-eq0.false)) (simp (to_z-of_z c.ranges.a, to_z-of_z c.ranges.b) at c.checked_div.ensures))
+    ∙ by-other int_div a b (λ e. c.if-b-eq0.false (ap (of_z w64) e))

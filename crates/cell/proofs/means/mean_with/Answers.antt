@@ -1,5 +1,5 @@
 -- `cell::means::mean_with` meets its contract: each way out is one of Onward.antt. Assumes nothing.
-use Rattle.std.proofs.Common.{sym, ◌∙◌, arith}
+use Rattle.std.proofs.Common.{refl, sym, ◌∙◌, arith}
 use Rattle.cell.proofs.Onward.{first, later, fails}
 use Rattle.cell.proofs.means.mean_with.Goals as goal
 
@@ -10,8 +10,8 @@ pub returns-then-is_finite : goal.returns-then-is_finite
 returns-then-is_finite c =
     let o = c.args in (
       λ made k n cs is few. later o.m o.x made k n cs is _ c.if-m-eq0.false
-          (sym c.is_finite.ensures ∙ c.if-is_finite.true) c.wrapping_add_u32.ensures.value few,
-      omega (arith, c.wrapping_add_u32.ensures.value),
+          (sym c.is_finite.ensures ∙ c.if-is_finite.true) refl few,
+      omega arith,
     )
 
 pub returns-else-is_finite : goal.returns-else-is_finite

@@ -23,7 +23,7 @@ module _ (c : Then-not-in_name) where
   stops : (R : List ℕ) → (eqb left 0 && zeros R) ≡ name_rest (le_bytes (half_name - s.args.i) s.args.n ++ R)
   stops R =
       let l = c.loop-at in
-      rest-stop R l.at left c.loop-at-test.true l.invariant.0
+      rest-stop R l._at left c.loop-at-test.true l.invariant.0
       (sym c.in_name.ensures ∙ not-true _ c.if-not-in_name.true-raw) ∙ l.invariant.1 R
 
 pub returns-then-left-ne0 : goal.returns-then-left-ne0
@@ -36,9 +36,9 @@ pub loop-at-preserved : goal.loop-at-preserved
 loop-at-preserved c =
     let l = c.loop-at in
     let t = c.loop-at-test.true in (
-      left_less l.at l.left t l.invariant.0,
-      λ R. rest_more R l.at l.left t l.invariant.0 (sym c.in_name.ensures ∙ not-false _ c.if-not-in_name.false-raw) ∙ l.invariant.1 R,
+      left_less l._at l.left t l.invariant.0,
+      λ R. rest_more R l._at l.left t l.invariant.0 (sym c.in_name.ensures ∙ not-false _ c.if-not-in_name.false-raw) ∙ l.invariant.1 R,
     )
 
 pub returns : goal.returns
-returns c R f b = let l = c.loop-at in f ∙ rest_end R l.at l.left c.loop-at-test.false ∙ l.invariant.1 R
+returns c R f b = let l = c.loop-at in f ∙ rest_end R l._at l.left c.loop-at-test.false ∙ l.invariant.1 R

@@ -8,7 +8,4 @@ use Rattle.extent.proofs.names.goes_on.Given as goal
 
 abbrev pub invariant-loop-at : goal.invariant-loop-at
 invariant-loop-at l =
-    Left l.at l.left × ((R : List ℕ) → name_rest (le_bytes (half_name - l.at) l.left ++ R) ≡ name_rest (le_bytes (half_name - l.i) l.n ++ R))
-
-abbrev pub decreases-loop-at : goal.decreases-loop-at
-decreases-loop-at l = half_name - l.at
+    Left l._at l.left × ((R : List ℕ) → name_rest (le_bytes (half_name - l._at) l.left ++ R) ≡ name_rest (le_bytes (half_name - l.i) l.n ++ R))

@@ -1,9 +1,9 @@
 -- `operators::operators::absolute` meets its contract: each arm is given which cell c is. Assumes nothing.
+use Rattle.std.specs.Prelude.{Ok}
 use Rattle.std.proofs.Common.{rules, sym, ap, ◌∙◌, to_z-of_z, w64, SFits}
 use borrow.Author.Rules.{sfits_of}
 use Rattle.operators.proofs.Arms.{signed-last}
 use Rattle.paper.specs.Operators.{single_cell, signed}
-use Rattle.paper.specs.declared.Answer.TheVariants.{Is}
 use Rattle.paper.specs.declared.Cell.TheVariants.{Float}
 use Rattle.paper.specs.declared.SingleOp.TheVariants.{Absolute}
 use Rattle.operators.proofs.operators.absolute.Goals as goal
@@ -17,7 +17,7 @@ returns-in-Int c =
 
 pub returns-in-Float : goal.returns-in-Float
 unfolding single_cell signed
-returns-in-Float c = ap (λ y. Is (Float y)) c.float_abs.ensures ∙ sym (ap (single_cell Absolute) c.in-Float.is)
+returns-in-Float c = ap (λ y. Ok (Float y)) c.float_abs.ensures ∙ sym (ap (single_cell Absolute) c.in-Float.is)
 
 pub returns-in_default : goal.returns-in_default
 unfolding single_cell signed

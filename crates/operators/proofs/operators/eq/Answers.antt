@@ -1,9 +1,9 @@
 -- `operators::operators::eq` meets its contract: each arm is what the paper says of two such cells. Assumes nothing.
+use Rattle.std.specs.Prelude.{Ok}
 use Rattle.std.proofs.Common.{rules, Bool, refl, ap, ◌∙◌}
 use borrow.Author.Rules.{sfits_of}
 use Rattle.operators.proofs.Arms.{arm, ints-arm, compared-last}
 use Rattle.paper.specs.Operators.{compared, applied}
-use Rattle.paper.specs.declared.Answer.TheVariants.{Is}
 use Rattle.paper.specs.declared.Cell.TheVariants.{Truth}
 use Rattle.paper.specs.declared.PairOp.TheVariants.{Eq}
 use Rattle.operators.proofs.operators.eq.Goals as goal
@@ -11,7 +11,7 @@ use Rattle.operators.proofs.operators.eq.Goals as goal
 pub returns-in-Ints : goal.returns-in-Ints
 unfolding applied compared
 returns-in-Ints c = ints-arm Eq _ _ c.both.ensures c.in-Ints.is
-    (ap (λ (t : Bool). Is (Truth t)) c.int_eq.ensures) (sfits_of (search rules)) (sfits_of (search rules))
+    (ap (λ (t : Bool). Ok (Truth t)) c.int_eq.ensures) (sfits_of (search rules)) (sfits_of (search rules))
 
 pub returns-in-Floats : goal.returns-in-Floats
 unfolding applied compared

@@ -1,7 +1,6 @@
 -- `operators::operators::pair` meets its contract: each arm is given which operator it is. Assumes nothing.
 use Rattle.std.proofs.Common.{◌≡◌, sym, ap, ◌∙◌}
-use Rattle.paper.specs.Operators.{pair_cell}
-use Rattle.paper.specs.declared.Answer.{Answer}
+use Rattle.paper.specs.Operators.{pair_cell, Answer}
 use Rattle.paper.specs.declared.PairOp.{PairOp}
 use Rattle.operators.proofs.operators.pair.Goals as goal
 use Rattle.operators.proofs.operators.pair.Goals.{Start}

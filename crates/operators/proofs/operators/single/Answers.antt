@@ -1,7 +1,6 @@
 -- `operators::operators::single` meets its contract: each arm is given which operator it is. Assumes nothing.
 use Rattle.std.proofs.Common.{◌≡◌, sym, ap, ◌∙◌}
-use Rattle.paper.specs.Operators.{single_cell}
-use Rattle.paper.specs.declared.Answer.{Answer}
+use Rattle.paper.specs.Operators.{single_cell, Answer}
 use Rattle.paper.specs.declared.SingleOp.{SingleOp}
 use Rattle.operators.proofs.operators.single.Goals as goal
 use Rattle.operators.proofs.operators.single.Goals.{Start}

@@ -51,9 +51,6 @@ bounds-forms-i c = omega (arith, (s c).requires.few)
 pub put_array-ends-requires : goal.put_array-ends-requires
 put_array-ends-requires c = laying-room c.loop-i.invariant (next (goal.at.put_array-ends-requires c).In-loop-i _)
 
-pub overflow_add-i : goal.overflow_add-i
-overflow_add-i c = omega (arith, (s (turn (goal.at.overflow_add-i c).After-put_array-ends)).requires.few)
-
 pub shape_of-d : goal.shape_of-d
 shape_of-d c = c.loop-i.invariant.long
 

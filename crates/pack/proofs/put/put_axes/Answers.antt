@@ -104,8 +104,5 @@ bounds-e-i c = omega (arith, (p (goal.at.bounds-e-i c).In-loop-i).rank_of-rank.e
 pub bounds-m-i : goal.bounds-m-i
 bounds-m-i c = omega (arith, (p (goal.at.bounds-m-i c).In-loop-i).rank_of-rank.ensures.few)
 
-pub overflow_add-i : goal.overflow_add-i
-overflow_add-i c = omega (arith, (p (turn (goal.at.overflow_add-i c).After-put_axis)).rank_of-rank.ensures.few)
-
 pub shape_of-d : goal.shape_of-d
 shape_of-d c = c.loop-i.invariant.long

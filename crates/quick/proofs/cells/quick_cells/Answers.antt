@@ -40,7 +40,7 @@ pub loop-off-preserved : goal.loop-off-preserved
 loop-off-preserved c =
     let s = (goal.at.loop-off-preserved c).In-loop-off in
     one_more (turn s) c.raw_told-a.ensures c.raw_told-b.ensures (start s).requires.code_value
-    c.worked-got.ensures c.in-Is.is c.write_cell.ensures
+    c.worked-got.ensures c.in-Ok.is c.write_cell.ensures
 
 pub loop-off-init : goal.loop-off-init
 loop-off-init c = begins
@@ -60,11 +60,11 @@ worked-got-requires c =
     let s = (goal.at.worked-got-requires c).In-loop-off in
     no_nan (turn s) c.raw_told-a.ensures c.raw_told-b.ensures (start s).requires.code_value
 
-pub shape_of-work-in-Refused : goal.shape_of-work-in-Refused
-shape_of-work-in-Refused c = c.loop-off.invariant.ahead.long
+pub shape_of-work-in-Err : goal.shape_of-work-in-Err
+shape_of-work-in-Err c = c.loop-off.invariant.ahead.long
 
-pub returns-in-Refused : goal.returns-in-Refused
-returns-in-Refused c = counted c.loop-off.invariant
+pub returns-in-Err : goal.returns-in-Err
+returns-in-Err c = counted c.loop-off.invariant
 
 pub shape_of-work : goal.shape_of-work
 shape_of-work c = c.loop-off.invariant.ahead.long

@@ -8,27 +8,27 @@ found_at-found-requires c =
     rw (c.first_axes-first.ensures, c.first_axes-other.ensures, c.cells_after-line.ensures.0)
     (first-beside c.requires c.uneven-c.result c.uneven-c.ensures)
 
-pub side_by_side-requires-in-Outside : goal.side_by_side-requires-in-Outside
-side_by_side-requires-in-Outside c =
+pub side_by_side-requires-in-None : goal.side_by_side-requires-in-None
+side_by_side-requires-in-None c =
     rw (c.first_axes-first.ensures, c.first_axes-other.ensures, c.cells_after-line.ensures.0)
     (first-beside c.requires c.uneven-c.result c.uneven-c.ensures)
 
 pub overflow_mul-result : goal.overflow_mul-result
 overflow_mul-result c =
     let m = c.cells_after-line.ensures.0 in
-    let run = rw (c.first_axes-first.ensures, c.first_axes-other.ensures, m) at c.side_by_side-in-Outside.ensures in
+    let run = rw (c.first_axes-first.ensures, c.first_axes-other.ensures, m) at c.side_by_side-in-None.ensures in
     let n = rw (← m) at (around-few c.requires c.uneven-c.result c.uneven-c.ensures _ run) in
     omega (arith, n.0, c.requires.here.few)
 
 pub overflow_sub-result : goal.overflow_sub-result
 overflow_sub-result c =
     let m = c.cells_after-line.ensures.0 in
-    let run = rw (c.first_axes-first.ensures, c.first_axes-other.ensures, m) at c.side_by_side-in-Outside.ensures in
+    let run = rw (c.first_axes-first.ensures, c.first_axes-other.ensures, m) at c.side_by_side-in-None.ensures in
     rw m (around-few c.requires c.uneven-c.result c.uneven-c.ensures _ run).1
 
-pub returns-in-Outside : goal.returns-in-Outside
-returns-in-Outside c =
+pub returns-in-None : goal.returns-in-None
+returns-in-None c =
     let m = c.cells_after-line.ensures.0 in
-    let run = rw (c.first_axes-first.ensures, c.first_axes-other.ensures, m) at c.side_by_side-in-Outside.ensures in
+    let run = rw (c.first_axes-first.ensures, c.first_axes-other.ensures, m) at c.side_by_side-in-None.ensures in
     let out = rw (c.first_axes-first.ensures, c.first_axes-other.ensures, m) at c.found_at-found.ensures in
-    rw m (around-side c.requires c.uneven-c.result c.uneven-c.ensures _ run (sym out ∙ c.in-Outside.is))
+    rw m (around-side c.requires c.uneven-c.result c.uneven-c.ensures _ run (sym out ∙ c.in-None.is))

@@ -1,6 +1,6 @@
 -- `rows::sides::side_by_side` meets its contract: from the last axis to the first, `block` is the number of cells of the axes done, which
 -- have the same limits in both.
-use Rattle.std.proofs.Common.{ℕ, ◌+◌, ◌-◌, ◌*◌, ◌≤◌, ◌<◌, ◌≡◌, sym, ap, ◌∙◌, List, [], ◌∷◌, arith, length, drop, drop_of_length-le}
+use Rattle.std.proofs.Common.{ℕ, ◌+◌, ◌-◌, ◌*◌, ◌≤◌, ◌<◌, ◌≡◌, sym, ap, ◌∙◌, List, [], ◌∷◌, arith, length, mul_comm, drop, drop_of_length-le}
 use borrow.Author.Tests.{not-false}
 use Rattle.paper.specs.declared.Axis.{Axis}
 use Rattle.paper.specs.declared.Extent.{Extent}
@@ -36,7 +36,7 @@ module _ (c : After-rank_of-i) where
   one_cell = rw none-t
 
 pub loop-i-init : goal.loop-i-init
-loop-i-init c = (omega arith, one_cell c, rw (none-t c, none-e c) tt)
+loop-i-init c = (one_cell c, rw (none-t c, none-e c) tt)
 
 -- at an axis
 module _ (c : In-loop-i) where
@@ -59,7 +59,7 @@ module _ (c : In-loop-i) where
   beside = c.requires
 
   lt : i < length G
-  lt = omega (arith, c.loop-i.invariant.0, c.rank_of-i.ensures.number)
+  lt = omega (arith, c.rank_of-i.ensures.number)
 
   up-t : drop i G ≡ axis_no t i ∷ drop (i + 1) G
   up-t = axes-on t i lt
@@ -71,10 +71,10 @@ module _ (c : In-loop-i) where
   next = omega arith
 
   behind : SameLimits (drop (i + 1) G) (drop (i + 1) E)
-  behind = rw next c.loop-i.invariant.2
+  behind = rw next c.loop-i.invariant.1
 
   block : c.loop-i.block ≡ cells (drop (i + 1) G)
-  block = rw next c.loop-i.invariant.1
+  block = rw next c.loop-i.invariant.0
 
   ranged-t : Ranged (axis_no t i)
   ranged-t = let s = rw up-t at (sound-drop G i beside.here.sound) in (s.0, s.1)
@@ -97,9 +97,9 @@ side_left-requires c =
     let s = (goal.at.side_left-requires c).In-loop-i in
     record { ranged = ranged-t s; ranged_2 = ranged-e s; le_block = (some s, few s) }
 
-pub returns-then-not-same_limits : goal.returns-then-not-same_limits
-returns-then-not-same_limits c =
-    let s = (goal.at.returns-then-not-same_limits c).In-loop-i in
+pub returns-then-ne : goal.returns-then-ne
+returns-then-ne c =
+    let s = (goal.at.returns-then-ne c).In-loop-i in
     side-here (beside s) (i s) _ (axis_no (t s) (i s)) (axis_no (e s) (i s)) (lt s) (up-t s) (up-e s) (behind s)
     (rw (block s) at c.side_left.ensures)
 
@@ -111,19 +111,19 @@ module _ (c : After-width_of) where
   abbrev d : In-loop-i
   d = (goal.at.After-width_of c).In-loop-i
 
-  passed : c.width_of.result * d.loop-i.block ≡ cells (drop (i d) (G d))
-  passed = ap (λ (w : ℕ). w * d.loop-i.block) c.width_of.ensures.0 ∙ turn d
+  passed : d.loop-i.block * c.width_of.result ≡ cells (drop (i d) (G d))
+  passed = mul_comm _ _ ∙ ap (λ (w : ℕ). w * d.loop-i.block) c.width_of.ensures.0 ∙ turn d
 
   alike : SameLimits (drop (i d) (G d)) (drop (i d) (E d))
   alike =
-      let l = sym c.same_limits.ensures ∙ not-false _ c.if-not-same_limits.false-raw in
+      let l = not-false _ (sym c.ne.ensures ∙ c.if-ne.false) in
       limits-on (G d) (E d) (i d) (axis_no (t d) (i d)) (axis_no (e d) (i d)) (up-t d) (up-e d) l (behind d)
 
 pub overflow_mul-block : goal.overflow_mul-block
 overflow_mul-block c = omega (arith, passed c, turn (d c), few (d c))
 
 pub loop-i-preserved : goal.loop-i-preserved
-loop-i-preserved c = (omega (arith, (d c).loop-i.invariant.0), passed c, alike c)
+loop-i-preserved c = (passed c, alike c)
 
 -- at the end
 module _ (c : After-loop-i) where
@@ -131,10 +131,10 @@ module _ (c : After-loop-i) where
   ended = omega arith
 
   all : c.loop-i.block ≡ cells (axes_of c.args.t)
-  all = rw ended at c.loop-i.invariant.1
+  all = rw ended at c.loop-i.invariant.0
 
   even : SameLimits (axes_of c.args.t) (axes_of c.args.e)
-  even = rw ended at c.loop-i.invariant.2
+  even = rw ended at c.loop-i.invariant.1
 
 pub overflow_sub-result : goal.overflow_sub-result
 overflow_sub-result c = omega (arith, all c, c.requires.lt)

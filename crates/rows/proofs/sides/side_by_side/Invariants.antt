@@ -1,5 +1,5 @@
--- `rows::sides::side_by_side`: what its loops keep.
-use Rattle.std.proofs.Common.{◌≤◌, ◌≡◌, drop}
+-- `rows::sides::side_by_side`: what its loop keeps.
+use Rattle.std.proofs.Common.{◌≡◌, drop}
 use Rattle.paper.specs.Axes.{cells}
 use Rattle.paper.specs.Answers.{axes_of}
 use Rattle.laws.specs.Alike.{SameLimits}
@@ -7,7 +7,4 @@ use Rattle.rows.proofs.sides.side_by_side.Given as goal
 
 abbrev pub invariant-loop-i : goal.invariant-loop-i
 invariant-loop-i l =
-    (l.i ≤ l.initial.i) × (l.block ≡ cells (drop l.i (axes_of l.t))) × SameLimits (drop l.i (axes_of l.t)) (drop l.i (axes_of l.e))
-
-abbrev pub decreases-loop-i : goal.decreases-loop-i
-decreases-loop-i l = l.i
+    (l.block ≡ cells (drop l.i (axes_of l.t))) × SameLimits (drop l.i (axes_of l.t)) (drop l.i (axes_of l.e))

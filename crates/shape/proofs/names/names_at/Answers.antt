@@ -10,7 +10,7 @@ use Rattle.shape.proofs.names.names_at.Goals as goal
 use Rattle.shape.proofs.names.names_at.Goals.{In-loop-i, Start}
 
 pub loop-i-init : goal.loop-i-init
-loop-i-init c = (omega arith, (ap length c.no_names-new.ensures, λ N n. refl))
+loop-i-init c = (ap length c.no_names-new.ensures, λ N n. refl)
 
 module _ (c : In-loop-i) where
   abbrev s : Start
@@ -44,15 +44,13 @@ pub loop-i-preserved : goal.loop-i-preserved
 loop-i-preserved c =
     let t = (goal.at.loop-i-preserved c).In-loop-i in
     let l = t.loop-i in
-    let e = c.name_at.ensures ∙ ap (λ (n : ℕ). name_from (part ((s t).args.at + n) (w t) (s t).args.s.now)) (width t) in (
-      omega arith,
-      renamed-more (w t) (s t).args.rank (s t).args.s.now (s t).args.at l.i l.new c.name_at.result
-          l.invariant.1 t.loop-i-test.true (s t).requires.rank_le_most_axes e,
-    )
+    let e = c.name_at.ensures ∙ ap (λ (n : ℕ). name_from (part ((s t).args.at + n) (w t) (s t).args.s.now)) (width t) in
+    renamed-more (w t) (s t).args.rank (s t).args.s.now (s t).args.at l.i l.new c.name_at.result
+    l.invariant t.loop-i-test.true (s t).requires.rank_le_most_axes e
 
 pub returns : goal.returns
 returns c =
     let s = c in
     let l = c.loop-i in
-    renamed-all (sizes_of s.args.v).name s.args.rank s.args.s.now s.args.at l.i l.new l.invariant.1
-    c.loop-i-test.false l.invariant.0
+    renamed-all (sizes_of s.args.v).name s.args.rank s.args.s.now s.args.at l.i l.new l.invariant
+    c.loop-i-test.false (omega arith)

@@ -5,9 +5,9 @@ use Rattle.laws.specs.Loops.{length-mapped}
 use Rattle.paper.specs.declared.Name.{Name}
 use Rattle.paper.specs.Limits.{most_axes}
 use Rattle.paper.specs.Axes.{no_name}
-use Rattle.shape.specs.Names.{kept-start, kept_more, kept-all}
+use Rattle.shape.specs.Names.{kept-start, kept_more, kept-same, kept-all}
 use Rattle.shape.proofs.names.without_name.Goals as goal
-use Rattle.shape.proofs.names.without_name.Goals.{Start}
+use Rattle.shape.proofs.names.without_name.Goals.{Start, then-i-out, else-i-out}
 
 module _ (c : Start) where
   full : length c.args.names ≡ most_axes
@@ -20,15 +20,12 @@ module _ (c : Start) where
   many = length-take-le c.args.rank c.args.names (omega (arith, full, c.requires))
 
 pub loop-i-init : goal.loop-i-init
-loop-i-init c = let s = (goal.at.loop-i-init c).Start in (omega arith, kept-start s.args.k.0 (N s) s.args.names (full s))
-
-pub past-j-requires : goal.past-j-requires
-past-j-requires c = let l = c.loop-i in omega (arith, l.invariant.0, l.invariant.1.few, c.requires)
+loop-i-init c = let s = (goal.at.loop-i-init c).Start in kept-start s.args.k.0 (N s) s.args.names (full s)
 
 pub bounds-new-j : goal.bounds-new-j
 bounds-new-j c =
     let l = c.loop-i in
-    omega (arith, l.invariant.1.few, c.loop-i-test.true, c.requires)
+    omega (arith, l.invariant.few, c.loop-i-test.true, c.requires)
 
 pub loop-i-preserved : goal.loop-i-preserved
 loop-i-preserved c =
@@ -36,12 +33,14 @@ loop-i-preserved c =
     let l = c.loop-i in
     let t = c.loop-i-test.true in
     let e : get_or (N s) l.i no_name ≡ get_or s.args.names l.i no_name = get_or-take s.args.rank s.args.names l.i no_name t in
-    let v = kept_more s.args.k.0 (N s) l.i l.j l.new l.invariant.1 (omega (arith, many s)) (omega (arith, many s, s.requires)) in
-    (omega arith, rw (c.past-j.ensures, ← e) v)
+    elim c.if-i-out.branch [
+      | then-i-out w ↦ rw (w.j-is, ← e) (kept_more s.args.k.0 (N s) l.i l.j l.new l.invariant (omega (arith, many s)) (omega (arith, many s, s.requires)) w.if-i-out.true)
+      | else-i-out w ↦ rw (w.j-is, ← e) (kept-same s.args.k.0 (N s) l.i l.j l.new l.invariant (omega (arith, many s)) (omega (arith, many s, s.requires)) (omega (arith, w.if-i-out.false)))
+    ]
 
 pub returns : goal.returns
 returns c =
     let s = (goal.at.returns c).Start in
     let l = c.loop-i in
-    kept-all s.args.k.0 (N s) l.i l.j l.new l.invariant.1 (omega (arith, many s, c.loop-i-test.false))
-    (omega (arith, many s, s.requires)) (omega (arith, l.invariant.0, s.requires))
+    kept-all s.args.k.0 (N s) l.i l.j l.new l.invariant (omega (arith, many s, c.loop-i-test.false))
+    (omega (arith, many s, s.requires)) (omega (arith, s.requires))

@@ -1,46 +1,34 @@
--- `step::unused::zero_between` meets its contract: what is left are zeros exactly if all are, in both loops.
-use Rattle.std.proofs.Common.{refl, sym, ◌∙◌, eq-eqb, ne_eqb, arith}
-use Rattle.step.specs.Using.{zeros-up, zeros-word, zeros-end}
+-- `step::unused::zero_between` meets its contract: all bytes are zeros if the whole words are and the bytes after them.
+use Rattle.std.proofs.Common.{ℕ, ◌-◌, ◌*◌, ◌/◌, List, ◌≡◌, ◌∙◌, sym, eqb, rules, length, drop}
+use Rattle.std.proofs.lemmas.Iterator.{YieldsList-from_slice}
+use Rattle.std.proofs.lemmas.Iterator.Search.{all_from_yields_List}
+use Rattle.std.specs.List.{list_all}
+use Rattle.std.specs.Simd.{first_chunks}
+use Rattle.paper.specs.Limits.{word_bytes}
+use Rattle.paper.specs.Numbers.{le_of, part}
+use Rattle.step.specs.Using.{zeros-each, zeros-words}
 use Rattle.step.proofs.unused.zero_between.Goals as goal
+use Rattle.step.proofs.unused.zero_between.Goals.{After-all}
 
-pub loop-i-init : goal.loop-i-init
-loop-i-init c = (c.requires.0, refl)
+module _ (c : After-all) where
+  abbrev X : List ℕ
+  X = part c.args.from (c.args.to - c.args.from) c.args.s.now
 
-pub overflow_sub-to : goal.overflow_sub-to
-overflow_sub-to c = c.loop-i.invariant.0
+  words : c.all.result ≡ list_all (λ w. eqb (le_of (part 0 word_bytes w)) 0) (first_chunks word_bytes (length X / word_bytes) X)
+  words =
+      all_from_yields_List (λ w. eqb (le_of (part 0 word_bytes w)) 0) _ _ _ c.all.ensures.ran
+      (YieldsList-from_slice _ (c.iter.ensures.rest ∙ c.as_chunks.ensures.front)) (λ x b q k. search rules)
 
-pub word-requires : goal.word-requires
-word-requires c = omega (arith, c.loop-i-test.true, c.loop-i.invariant.0, c.requires.1)
+pub returns-then-all : goal.returns-then-all
+returns-then-all c =
+    let a = (goal.at.returns-then-all c).After-all in
+    let w = sym (words a) ∙ c.if-all.true in
+    let r = all_from_yields_List (λ b. eqb b 0) _ _ _ c.all-then-all.ensures.ran
+    (YieldsList-from_slice _ (c.iter-then-all.ensures.rest ∙ c.as_chunks.ensures.back)) (λ x b q k. search rules) in
+    r ∙ sym (zeros-words (X a) ∙ rw (w, zeros-each (drop (length (X a) / word_bytes * word_bytes) (X a))))
 
-pub returns-then-word-ne0 : goal.returns-then-word-ne0
-returns-then-word-ne0 c =
-    sym (zeros-word c.args.s.now c.args.to c.loop-i.i c.loop-i-test.true
-    ∙ rw (← c.word.ensures, ne_eqb _ 0 c.if-word-ne0.true))
-    ∙ c.loop-i.invariant.1
-
-pub loop-i-preserved : goal.loop-i-preserved
-loop-i-preserved c = (
-  omega (arith, c.loop-i-test.true, c.loop-i.invariant.0),
-  sym (zeros-word c.args.s.now c.args.to c.loop-i.i c.loop-i-test.true
-      ∙ rw (← c.word.ensures, eq-eqb _ 0 c.if-word-ne0.false))
-      ∙ c.loop-i.invariant.1,
-)
-
-pub loop-i-2-init : goal.loop-i-2-init
-loop-i-2-init c = refl
-
-pub returns-then-s-i-ne0 : goal.returns-then-s-i-ne0
-returns-then-s-i-ne0 c =
-    sym (zeros-up c.args.s.now c.args.to c.loop-i-2.i c.loop-i-2-test.true c.requires.1
-    ∙ rw (ne_eqb _ 0 c.if-s-i-ne0.true))
-    ∙ c.loop-i-2.invariant ∙ c.loop-i.invariant.1
-
-pub loop-i-2-preserved : goal.loop-i-2-preserved
-loop-i-2-preserved c =
-    sym (zeros-up c.args.s.now c.args.to c.loop-i-2.i c.loop-i-2-test.true c.requires.1
-    ∙ rw (eq-eqb _ 0 c.if-s-i-ne0.false))
-    ∙ c.loop-i-2.invariant
-
-pub returns : goal.returns
-returns c =
-    sym (zeros-end c.args.s.now c.args.to c.loop-i-2.i c.loop-i-2-test.false) ∙ c.loop-i-2.invariant ∙ c.loop-i.invariant.1
+pub returns-else-all : goal.returns-else-all
+returns-else-all c =
+    let a = (goal.at.returns-else-all c).After-all in
+    let w = sym (words a) ∙ c.if-all.false in
+    c.if-all.false ∙ sym (zeros-words (X a) ∙ rw w)
