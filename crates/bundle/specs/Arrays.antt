@@ -1,5 +1,5 @@
 -- An array read, by cases: each way out of the code from the tests that lead to it, at offsets into the bundle's bytes.
-use Rattle.std.specs.Prelude.{ℕ, ◌+◌, ◌-◌, ◌*◌, ◌≤◌, ◌<◌, ◌≡◌, refl, ◌&&◌, eqb, length, drop, Ok, Err}
+use Rattle.std.specs.Prelude.{ℕ, ◌+◌, ◌-◌, ◌*◌, ◌≤◌, ◌<◌, ◌≡◌, ◌&&◌, eqb, length, drop, Ok, Err, Some, None}
 use Rattle.std.proofs.Math.Path.{sym, ap, ap₂}
 use Rattle.std.proofs.Common.{◌∙◌}
 use Rattle.std.proofs.Math.Bool.{true, false}
@@ -22,40 +22,38 @@ use Rattle.paper.specs.Cells.{is_type}
 use Rattle.paper.specs.Bundle.{name_of, axis_of, maximum_of, each_axis, array_of, read_array}
 use Rattle.paper.specs.Answers.{extent_of, names_of, shape_of}
 use Rattle.laws.specs.Sizes.{Fits}
-use Rattle.laws.specs.Tests.{between-true}
+use Rattle.laws.specs.Tests.{and_left, between-true}
 use Rattle.laws.specs.Judged.{first_bad, cells_from, judged, cells-judged}
-use Rattle.laws.specs.Answers.{unless-refused, unless-got, no_head, form_of, form-shape}
-use Rattle.extent.specs.Judged.{cells_within, within-zero, within-some}
+use Rattle.laws.specs.Answers.{form_of, form-shape}
+use Rattle.extent.specs.Judged.{cells_within, within-none, within-some, good-small}
 use Rattle.bundle.specs.Axes.{length-each}
-use Rattle.bundle.specs.Read.{array_at, head_at, one_of, JudgedArray, cells_at, FormAt, FormRead, ReadArray}
+use Rattle.bundle.specs.Read.{array_at, head_at, JudgedArray, cells_at, FormAt, FormRead, ReadArray}
 
 -- ---- from the bytes after the axes
 
-module _ (k : ℕ) (s : List ℕ) (from : ℕ) (form : Form) (n : ℕ)
-    (q : n ≡ cells_within (shape_of form).names (shape_of form).axes (shape_of form).maximum) where
+module _ (k : ℕ) (s : List ℕ) (from : ℕ) (form : Form) where
   abbrev shape : Shape
   shape = shape_of form
 
   abbrev t : ℕ
   t = form.kind
 
-  -- an answer that is a refusal
-  of_none : {x : Refusal} → (x.number ≡ 0 → ⊥) → Err x ≡ array_of k shape (drop from s) → JudgedArray s k (head_at form from 0) x
-  of_none {x} h e = record { said = unless-refused x _ h ∙ e; fit = λ f. absurd (h f) }
-
-  pub of-extent : n ≡ 0 → JudgedArray s k (head_at form from 0) (refusal bad_extent2 k 0)
+  pub of-extent : None ≡ cells_within shape.names shape.axes shape.maximum → JudgedArray s k form from (Err (refusal bad_extent2 k 0))
   unfolding array_of
-  of-extent e = of_none (λ y. omega arith) (rw (within-zero shape.names shape.axes shape.maximum (sym q ∙ e)))
+  of-extent e = rw (within-none shape.names shape.axes shape.maximum (sym e))
 
-  module _ (some : n ≡ 0 → ⊥) where
+  module _ (n : ℕ) (some : Some n ≡ cells_within shape.names shape.axes shape.maximum) where
     is-good : ((good_extent shape.names shape.axes && within shape.axes shape.maximum) ≡ true) × (cells shape.axes ≡ n)
-    is-good = let g = within-some shape.names shape.axes shape.maximum (λ e. some (q ∙ e)) in (g.0, g.1 ∙ sym q)
+    is-good = within-some shape.names shape.axes shape.maximum some
 
-    pub of-short : length s - from < n * cell_bytes → JudgedArray s k (head_at form from 0) (refusal bad_bytes1 k 0)
+    pub few-cells : n ≤ most_cells
+    few-cells = omega (arith, is-good.1, (good-small shape.names shape.axes (and_left _ (within shape.axes shape.maximum) is-good.0)).few)
+
+    pub of-short : length s - from < n * cell_bytes → JudgedArray s k form from (Err (refusal bad_bytes1 k 0))
     unfolding array_of
     of-short h =
         let f : leb (n * cell_bytes) (length s - from) ≡ false = lt-leb (n * cell_bytes) (length s - from) h in
-        of_none (λ y. omega arith) (rw (is-good.0, is-good.1, length-drop, f))
+        rw (is-good.0, is-good.1, length-drop, f)
 
     module _ (h : n * cell_bytes ≤ length s - from) (b : ℕ) (e : b ≡ first_bad t 1 n (drop from s)) where
       of-cells : array_of k shape (drop from s)
@@ -66,28 +64,25 @@ module _ (k : ℕ) (s : List ℕ) (from : ℕ) (form : Form) (n : ℕ)
           let f : leb (n * cell_bytes) (length s - from) ≡ true = le-leb (n * cell_bytes) (length s - from) h in
           rw (is-good.0, is-good.1, length-drop, f, cells-judged n k t 1 (drop from s) (omega arith), ← e)
 
-      pub of-bad : (b ≡ 0 → ⊥) → JudgedArray s k (head_at form from 0) (refusal bad_cell3 k b)
-      of-bad z = let f : eqb b 0 ≡ false = ne_eqb b 0 z in of_none (λ y. omega arith) (sym (of-cells ∙ rw f))
+      pub of-bad : (b ≡ 0 → ⊥) → JudgedArray s k form from (Err (refusal bad_cell3 k b))
+      of-bad z = let f : eqb b 0 ≡ false = ne_eqb b 0 z in sym (of-cells ∙ rw f)
 
       -- all cells are cells: the array is as it stands in the bytes
-      pub of-got : from ≤ length s → b ≡ 0 → n ≤ most_cells → JudgedArray s k (head_at form from n) (refusal 0 0 0)
+      pub of-got : from ≤ length s → b ≡ 0 → JudgedArray s k form from (Ok n)
       unfolding array_at
-      of-got l z few =
-          let m = is-good.1 in
-          record {
-            said =
-                ap₂ (λ (j : ℕ) (d : List ℕ). Ok (record { shape = shape; cells = cells_from t j (drop from s) }, d)) m
+      of-got l z =
+          let m = is-good.1 in (
+            ap₂ (λ (j : ℕ) (d : List ℕ). Ok (record { shape = shape; cells = cells_from t j (drop from s) }, d)) m
                 (sym (drop-drop (n * cell_bytes) from s))
-                ∙ sym (of-cells ∙ rw z);
-            fit = λ f.
-                record {
-                  good = is-good.0;
-                  counted = sym m;
-                  few = few;
-                  fits = omega (arith, m);
-                  clean = ap (λ (j : ℕ). first_bad t 1 j (drop from s)) m ∙ sym e ∙ z;
-                };
-          }
+                ∙ sym (of-cells ∙ rw z),
+            record {
+              good = is-good.0;
+              counted = sym m;
+              few = few-cells;
+              fits = omega (arith, m);
+              clean = ap (λ (j : ℕ). first_bad t 1 j (drop from s)) m ∙ sym e ∙ z;
+            },
+          )
 
 -- ---- from its first byte
 
@@ -113,22 +108,19 @@ module _ (z : Sizes) (fits : Fits z) (s : List ℕ) (at t n : ℕ) (et : t ≡ g
       let w : at + (type_bytes + n * z.axis) ≡ at + type_bytes + n * z.axis = omega arith in
       rw (p, r, length-drop at s, drop-drop type_bytes at s, drop-drop (type_bytes + n * z.axis) at s, w)
 
-  -- the bytes are bad: the form has no axis
-  form-none : ((k : ℕ) → Err (refusal bad_bytes1 k 0) ≡ read_array z k (drop at s)) → FormRead z s at no_head.form
-  form-none q = record { bad = λ o. q; good = λ h. absurd (h refl) }
-
-  pub form_type : is_type t ≡ false → FormRead z s at no_head.form
-  form_type e = form-none (λ k. sym (moved k ∙ rw e))
+  -- the bytes are bad
+  pub form_type : is_type t ≡ false → FormRead z s at None
+  form_type e = λ k. sym (moved k ∙ rw e)
 
   module _ (e : is_type t ≡ true) where
-    pub form-count : between 1 z.axes n ≡ false → FormRead z s at no_head.form
-    form-count f = form-none (λ k. sym (moved k ∙ rw (e, f)))
+    pub form-count : between 1 z.axes n ≡ false → FormRead z s at None
+    form-count f = λ k. sym (moved k ∙ rw (e, f))
 
     module _ (f : between 1 z.axes n ≡ true) where
-      pub form-short : length s - at < type_bytes + n * z.axis → FormRead z s at no_head.form
+      pub form-short : length s - at < type_bytes + n * z.axis → FormRead z s at None
       form-short h =
           let g : leb (type_bytes + n * z.axis) (length s - at) ≡ false = lt-leb _ _ h in
-          form-none (λ k. sym (moved k ∙ rw (e, f, g)))
+          λ k. sym (moved k ∙ rw (e, f, g))
 
       -- the axes are read
       module _ (h : type_bytes + n * z.axis ≤ length s - at) (l : List Name) (x m : Extent)
@@ -168,26 +160,24 @@ module _ (z : Sizes) (fits : Fits z) (s : List ℕ) (at t n : ℕ) (et : t ≡ g
                   ∙ sym (moved k ∙ rw (e, f, g));
             }
 
-        pub form-read : FormRead z s at form
-        form-read = record { bad = λ o. absurd (omega (arith, ranked, between-true z.axes n f)); good = λ o. form-whole }
+        pub form-read : FormRead z s at (Some form)
+        form-read = form-whole
 
 -- ---- its form read, and then its cells judged, from byte `from` on
 
-module _ {z : Sizes} {bs : List ℕ} {at from k n : ℕ} {form : Form} {x : Refusal} (f : FormAt z bs at form)
-    (p : from ≡ cells_at z at form) (j : JudgedArray bs k (head_at form from n) x) where
-  judged-rest : one_of bs x (head_at form from n) ≡ read_array z k (drop at bs)
-  judged-rest = j.said ∙ ap (λ (b : ℕ). array_of k (shape_of form) (drop b bs)) p ∙ f.rest k
+module _ {z : Sizes} {bs : List ℕ} {at from : ℕ} {form : Form} (f : FormAt z bs at form) (p : from ≡ cells_at z at form) (k : ℕ) where
+  judged-rest : array_of k (shape_of form) (drop from bs) ≡ read_array z k (drop at bs)
+  judged-rest = ap (λ (b : ℕ). array_of k (shape_of form) (drop b bs)) p ∙ f.rest k
 
-  pub array-refused : (x.number ≡ 0 → ⊥) → Err x ≡ read_array z k (drop at bs)
-  array-refused h = sym (unless-refused x _ h) ∙ judged-rest
+  pub array-refused : {x : Refusal} → JudgedArray bs k form from (Err x) → Err x ≡ read_array z k (drop at bs)
+  array-refused j = j ∙ judged-rest
 
-  pub array-read : x.number ≡ 0 → ReadArray z bs at k (head_at form from n)
-  array-read y =
-      let w = j.fit y in
+  pub array-read : {n : ℕ} → JudgedArray bs k form from (Ok n) → ReadArray z bs at k (head_at form from n)
+  array-read j =
       record {
-        said = sym judged-rest ∙ unless-got x _ y;
-        fit = w;
-        tidy = λ i. record { form = f.tidy i; at = from; cells = w.counted i };
+        said = sym (j.0 ∙ judged-rest);
+        fit = j.1;
+        tidy = λ i. record { form = f.tidy i; at = from; cells = j.1.counted i };
         begins = p ∙ (omega arith) ∙ ap (λ (m : ℕ). at + (type_bytes + m * z.axis)) f.rank;
         rank = omega (arith, f.rank, f.few);
       }

@@ -1,5 +1,5 @@
 -- What the reader's structs mean: the paper's answer, from the struct and the bundle's bytes; and what later code leans on.
-use Rattle.std.specs.Prelude.{ℕ, ◌+◌, ◌*◌, ◌≤◌, ◌<◌, ◌≡◌, true, ◌&&◌, List, map, length, take, drop, get_or, Ok, Err}
+use Rattle.std.specs.Prelude.{ℕ, ◌+◌, ◌*◌, ◌≤◌, ◌<◌, ◌≡◌, true, ◌&&◌, List, map, length, take, drop, get_or, Ok, Err, Option, Some, None, IfOk}
 use Rattle.paper.specs.declared.Sizes.{Sizes}
 use Rattle.paper.specs.declared.Form.{Form}
 use Rattle.paper.specs.declared.Head.{Head}
@@ -10,10 +10,9 @@ use Rattle.paper.specs.Refusals.{Res, ◌>>=◌, ◌>>◌, refusal, ensure, bad_
 use Rattle.paper.specs.Numbers.{none?}
 use Rattle.paper.specs.Axes.{cells, good_extent, within, Shape, Array}
 use Rattle.paper.specs.Bundle.{mark_bytes, version_in, array_of, read_array, read_arrays, read_as, read_bundle}
-use Rattle.paper.specs.Answers.{shape_of, unless, reading, read_said}
+use Rattle.paper.specs.Answers.{shape_of, reading, read_said}
 use Rattle.laws.specs.Judged.{first_bad, cells_from}
 use Rattle.laws.specs.Answers.{form_of, head_of, no_head, reading_of}
-use Rattle.bundle.specs.declared.Counted.{Counted}
 
 -- the number of cells that a form has
 abbrev pub cells_in : Form → ℕ
@@ -31,14 +30,6 @@ head_at form from n = record { form = form; at = from; cells = n }
 abbrev pub end_of : Head → ℕ
 end_of h = h.at + h.cells * cell_bytes
 
--- an array and the bytes after it, or the refusal
-abbrev pub one_of : List ℕ → Refusal → Head → Res (Array × List ℕ)
-one_of bs x h = unless x (array_at bs h, drop (end_of h) bs)
-
--- the answer that is a refusal
-abbrev pub not_counted : Refusal → Counted
-not_counted x = record { refusal = x; cells = 0 }
-
 -- what later code leans on: the extent is good and inside its maximum, its cells are counted, they lie in the bytes, and each is one
 pub record Fit (bs : List ℕ) (h : Head) : Type 0 where
   pub good : let s : Shape = shape_of h.form in (good_extent s.names s.axes && within s.axes s.maximum) ≡ true
@@ -49,10 +40,12 @@ pub record Fit (bs : List ℕ) (h : Head) : Type 0 where
 
 -- ---- one array
 
--- array k, whose form and first cell's byte a head tells: its extent, its cell bytes and its cells judged, with the refusal x
-pub record JudgedArray (bs : List ℕ) (k : ℕ) (h : Head) (x : Refusal) : Type 0 where
-  pub said : one_of bs x h ≡ array_of k (shape_of h.form) (drop h.at bs)
-  pub fit : x.number ≡ 0 → Fit bs h
+-- array k of a form, its cells from byte `from` on: its extent, its cell bytes and its cells judged; its n cells, or the refusal
+abbrev pub JudgedArray : List ℕ → ℕ → Form → ℕ → Res ℕ → Type 0
+JudgedArray bs k form from (Ok n) =
+    let h : Head = head_at form from n in
+    (Ok (array_at bs h, drop (end_of h) bs) ≡ array_of k (shape_of form) (drop from bs)) × Fit bs h
+JudgedArray bs k form from (Err x) = Err x ≡ array_of k (shape_of form) (drop from bs)
 
 -- the byte after the type, the axis count and the axes of an array that begins at `at` and has this form
 abbrev pub cells_at : Sizes → ℕ → Form → ℕ
@@ -66,10 +59,10 @@ pub record FormAt (z : Sizes) (bs : List ℕ) (at : ℕ) (form : Form) : Type 0 
   pub room : cells_at z at form ≤ length bs
   pub rest : (k : ℕ) → array_of k (shape_of form) (drop (cells_at z at form) bs) ≡ read_array z k (drop at bs)
 
--- the same, or a form with no axis where the bytes are bad
-pub record FormRead (z : Sizes) (bs : List ℕ) (at : ℕ) (form : Form) : Type 0 where
-  pub bad : form.extent.rank ≡ 0 → (k : ℕ) → Err (refusal bad_bytes1 k 0) ≡ read_array z k (drop at bs)
-  pub good : (form.extent.rank ≡ 0 → ⊥) → FormAt z bs at form
+-- the same, or none where the bytes are bad
+abbrev pub FormRead : Sizes → List ℕ → ℕ → Option Form → Type 0
+FormRead z bs at (Some form) = FormAt z bs at form
+FormRead z bs at None = (k : ℕ) → Err (refusal bad_bytes1 k 0) ≡ read_array z k (drop at bs)
 
 -- the number of axes that a head has
 abbrev pub axes_in : Head → ℕ
@@ -93,12 +86,16 @@ pub record ReadArray (z : Sizes) (bs : List ℕ) (at k : ℕ) (h : Head) : Type 
 abbrev pub read_rest : Sizes → ℕ → List ℕ → Res (List Array)
 read_rest z n bs = read_arrays z 1 n (drop (mark_bytes + 1) bs) >>= (λ p. ensure (none? p.1) bad_bytes1 0 >> Ok p.0)
 
--- the opening bytes are good and tell of n arrays, which are left to do; n is 0 where they are bad
-pub record Opened (z : Sizes) (bs : List ℕ) (n : ℕ) : Type 0 where
-  pub bad : n ≡ 0 → Err (refusal bad_bytes1 0 0) ≡ read_as z bs
+-- the opening bytes are good and tell of n arrays, which are left to do
+pub record Begun (z : Sizes) (bs : List ℕ) (n : ℕ) : Type 0 where
   pub few : n ≤ most_arrays
-  pub long : (n ≡ 0 → ⊥) → mark_bytes + 1 ≤ length bs
-  pub rest : (n ≡ 0 → ⊥) → read_as z bs ≡ read_rest z n bs
+  pub long : mark_bytes + 1 ≤ length bs
+  pub rest : read_as z bs ≡ read_rest z n bs
+
+-- the same, or none where they are bad
+abbrev pub Opened : Sizes → List ℕ → Option ℕ → Type 0
+Opened z bs (Some n) = Begun z bs n
+Opened z bs None = Err (refusal bad_bytes1 0 0) ≡ read_as z bs
 
 -- the first n heads fit
 abbrev pub AllFit : List ℕ → ℕ → List Head → Type 0
@@ -109,16 +106,21 @@ abbrev pub AllRanked : Sizes → ℕ → List Head → Type 0
 AllRanked z n l = (j : ℕ) → j < n → axes_in (get_or l j no_head) ≤ z.axes
 
 -- the arrays that a reading names in a bundle's bytes, or the refusal
-abbrev pub read_of : List ℕ → Reading → Res (List Array)
-read_of bs r = unless r.refusal (map (array_at bs) (take r.count r.heads))
+abbrev pub read_of : List ℕ → Res Reading → Res (List Array)
+read_of bs (Ok r) = Ok (map (array_at bs) (take r.count r.heads))
+read_of bs (Err x) = Err x
 
--- a bundle read: what is said, with nothing past the last; the version; the arrays; and what later code leans on
-pub record ReadAll (bs : List ℕ) (r : Reading) : Type 0 where
-  pub said : read_said r ≡ reading bs
-  pub tidy : r ≡ reading_of (version_in bs) (read_said r)
-  pub version : r.refusal.number ≡ 0 → r.version ≡ version_in bs
-  pub arrays : read_of bs r ≡ read_bundle bs
+-- what later code leans on, of a reading
+pub record Kept (bs : List ℕ) (r : Reading) : Type 0 where
+  pub version : r.version ≡ version_in bs
   pub room : r.count ≤ length r.heads
   pub few : r.count ≤ most_arrays
   pub fit : AllFit bs r.count r.heads
   pub ranks : AllRanked (sizes_of r.version) r.count r.heads
+
+-- a bundle read: what is said, with nothing past the last; the arrays; and what later code leans on
+pub record ReadAll (bs : List ℕ) (r : Res Reading) : Type 0 where
+  pub said : read_said r ≡ reading bs
+  pub tidy : r ≡ reading_of (version_in bs) (read_said r)
+  pub arrays : read_of bs r ≡ read_bundle bs
+  pub kept : IfOk r (Kept bs)

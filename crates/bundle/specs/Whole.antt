@@ -2,7 +2,7 @@
 use Prim.Native.Nat.{ℕ, suc, ◌+◌, ◌-◌, ◌*◌, ◌≤◌, ◌<◌}
 use Rattle.std.proofs.Math.Path.{◌≡◌, refl, sym, ap, ap₂, subst}
 use Rattle.std.proofs.Common.{◌∙◌, eq-eqb, ne_eqb, length-drop, length-set, take-append-drop}
-use Rattle.std.specs.Prelude.{Bool, eqb, get_or, set, Ok, Err}
+use Rattle.std.specs.Prelude.{Bool, eqb, get_or, set, Ok, Err, Some, None}
 use Rattle.std.proofs.Math.Bool.{true, false}
 use mathlib.Core.List.{List, [], ◌∷◌, ◌++◌, map, map-append, append_assoc, append-nil}
 use native.Mathlib.Omega.{arith}
@@ -10,7 +10,6 @@ use Rattle.std.proofs.Math.ListN.{length, take, drop, replicate, get_or-eq_defau
 use Rattle.std.proofs.lemmas.List.{length-map}
 use Rattle.std.proofs.Math.Seq.{length-take-le}
 use Rattle.paper.specs.declared.Version.{Version}
-use Rattle.paper.specs.declared.Version.TheVariants.{One}
 use Rattle.paper.specs.declared.Sizes.{Sizes}
 use Rattle.paper.specs.declared.Head.{Head}
 use Rattle.paper.specs.declared.Refusal.{Refusal}
@@ -22,9 +21,9 @@ use Rattle.paper.specs.Bundle.{mark, mark_bytes, version_in, sizes_in, read_arra
 use Rattle.paper.specs.Answers.{shape_of, lying_from, reading, read_said}
 use Rattle.laws.specs.Lists.{each_set}
 use Rattle.laws.specs.Tests.{between-true}
-use Rattle.laws.specs.Answers.{unless-refused, head_of, no_head, reading_of}
+use Rattle.laws.specs.Answers.{head_of, no_head}
 use Rattle.bundle.specs.Front.{front-more, blank-more}
-use Rattle.bundle.specs.Read.{cells_in, axes_in, array_at, end_of, Fit, ReadArray, read_rest, Opened, AllFit, AllRanked, ReadAll}
+use Rattle.bundle.specs.Read.{cells_in, axes_in, array_at, end_of, Fit, ReadArray, read_rest, Begun, Opened, AllFit, AllRanked, ReadAll}
 
 -- what a head says: a shape, and the byte at which the cells begin
 abbrev pub head_said : Head → Shape × ℕ
@@ -155,90 +154,73 @@ module _ {z : Sizes} {s : List ℕ} {n i at : ℕ} {l : List Head} (v : Loop z s
 
 -- ---- an answer that is a refusal
 
-pub all-refused : {bs : List ℕ} {x : Refusal} → (x.number ≡ 0 → ⊥) → Err x ≡ read_bundle bs → ReadAll bs (reading_of One (Err x))
+pub all-refused : {bs : List ℕ} {x : Refusal} → Err x ≡ read_bundle bs → ReadAll bs (Err x)
 unfolding reading
-all-refused {bs} {x} h q =
-    let said : read_said (reading_of One (Err x)) ≡ Err x = unless-refused x _ h in
+all-refused {bs} {x} q =
     record {
-      said = said ∙ ap (λ (m : Res (List Array)). m >>= (λ As. Ok (lying_from (sizes_in bs) (mark_bytes + 1) As))) q;
-      tidy = ap (reading_of (version_in bs)) (sym said);
-      version = λ f. absurd (h f);
-      arrays = unless-refused x _ h ∙ q;
-      room = omega arith;
-      few = omega arith;
-      fit = λ j k. absurd (omega arith);
-      ranks = λ j k. absurd (omega arith);
+      said = ap (λ (m : Res (List Array)). m >>= (λ As. Ok (lying_from (sizes_in bs) (mark_bytes + 1) As))) q;
+      tidy = refl;
+      arrays = q;
+      kept = tt;
     }
 
 -- ---- the opening bytes
 
 module _ (z : Sizes) (s : List ℕ) where
-  -- they are bad
-  opened-none : Err (refusal bad_bytes1 0 0) ≡ read_as z s → Opened z s 0
-  opened-none q = record { bad = λ e. q; few = omega arith; long = λ h. absurd (h refl); rest = λ h. absurd (h refl) }
-
-  pub opened-short : length s < mark_bytes + 1 → Opened z s 0
+  pub opened-short : length s < mark_bytes + 1 → Opened z s None
   unfolding read_as
-  opened-short h = opened-none (rw (get_or-eq_default s 0 {n = mark_bytes} (omega arith)) (by (same (take mark_bytes s) (mark z))))
+  opened-short h = rw (get_or-eq_default s 0 {n = mark_bytes} (omega arith)) (by (same (take mark_bytes s) (mark z)))
     where
       by : (b : Bool) → ◌≡◌ {A = Res (List Array)} (Err (refusal bad_bytes1 0 0))
           (ensure b bad_bytes1 0 >> Err (refusal bad_bytes1 0 0))
       by true = refl
       by false = refl
 
-  pub opened-mark : same (take mark_bytes s) (mark z) ≡ false → Opened z s 0
+  pub opened-mark : same (take mark_bytes s) (mark z) ≡ false → Opened z s None
   unfolding read_as
-  opened-mark e = opened-none (rw e)
+  opened-mark e = rw e
 
   module _ (m : same (take mark_bytes s) (mark z) ≡ true) (n : ℕ) (en : n ≡ get_or s mark_bytes 0) where
-    pub opened-count : between 1 most_arrays n ≡ false → Opened z s 0
+    pub opened-count : between 1 most_arrays n ≡ false → Opened z s None
     unfolding read_as
-    opened-count f = opened-none (rw (m, ← en, f))
+    opened-count f = rw (m, ← en, f)
 
-    pub opened-good : between 1 most_arrays n ≡ true → mark_bytes + 1 ≤ length s → Opened z s n
+    pub opened-good : between 1 most_arrays n ≡ true → mark_bytes + 1 ≤ length s → Opened z s (Some n)
     unfolding read_as
-    opened-good f l =
-        let r = between-true most_arrays n f in
-        record { bad = λ e. absurd (omega arith); few = r.1; long = λ h. l; rest = λ h. rw (m, ← en, f) }
+    opened-good f l = record { few = (between-true most_arrays n f).1; long = l; rest = rw (m, ← en, f) }
 
 -- ---- the bundle
 
 -- by the sizes of the version v that it names
-module _ {s : List ℕ} {v : Version} (ev : v ≡ version_in s) {n : ℕ} (o : Opened (sizes_of v) s n) where
-  abbrev z : Sizes
-  z = sizes_of v
-
-  by-version : read_as z s ≡ read_bundle s
+module _ (s : List ℕ) {v : Version} (ev : v ≡ version_in s) where
+  by-version : read_as (sizes_of v) s ≡ read_bundle s
   by-version = ap (λ (x : Version). read_as (sizes_of x) s) ev
 
-  pub bundle-bad : n ≡ 0 → Err (refusal bad_bytes1 0 0) ≡ read_bundle s
-  bundle-bad e = o.bad e ∙ by-version
+  pub bundle-bad : Opened (sizes_of v) s None → Err (refusal bad_bytes1 0 0) ≡ read_bundle s
+  bundle-bad o = o ∙ by-version
 
-  module _ (some : n ≡ 0 → ⊥) where
-    rest_of : read_as z s ≡ read_rest z n s
-    rest_of = o.rest some
+  module _ {n : ℕ} (o : Begun (sizes_of v) s n) where
+    pub bundle-refused : {x : Refusal} → Err x ≡ read_arrays (sizes_of v) 1 n (drop (mark_bytes + 1) s) → Err x ≡ read_bundle s
+    bundle-refused e = sym (o.rest ∙ rw (← e)) ∙ by-version
 
-    pub bundle-refused : {x : Refusal} → Err x ≡ read_arrays z 1 n (drop (mark_bytes + 1) s) → Err x ≡ read_bundle s
-    bundle-refused e = sym (rest_of ∙ rw (← e)) ∙ by-version
-
-    module _ {i at : ℕ} {l : List Head} (w : Loop z s n i at l) (h : n ≤ i) where
+    module _ {i at : ℕ} {l : List Head} (w : Loop (sizes_of v) s n i at l) (h : n ≤ i) where
       pub bundle-left : at < length s → Err (refusal bad_bytes1 0 0) ≡ read_bundle s
       bundle-left b =
           let e : eqb (length s - at) 0 ≡ false = ne_eqb (length s - at) 0 (λ e. omega arith) in
-          sym (rest_of ∙ rw (← loop-end w h, length-drop at s, e)) ∙ by-version
+          sym (o.rest ∙ rw (← loop-end w h, length-drop at s, e)) ∙ by-version
 
       bundle-got : length s ≤ at → Ok (map (array_at s) (take n l)) ≡ read_bundle s
       bundle-got b =
           let e : eqb (length s - at) 0 ≡ true = eq-eqb (length s - at) 0 (omega arith) in
-          sym (rest_of ∙ rw (← loop-end w h, length-drop at s, e)) ∙ by-version
+          sym (o.rest ∙ rw (← loop-end w h, length-drop at s, e)) ∙ by-version
 
-      pub bundle-read : length s ≤ at → ReadAll s (record { refusal = refusal 0 0 0; version = v; count = n; heads = l })
+      pub bundle-read : length s ≤ at → ReadAll s (Ok (record { version = v; count = n; heads = l }))
       unfolding reading
       bundle-read b =
           let d = all_done w h in
           let q = bundle-got b in
           let hs : List Head = take n l in
-          let lies : LiesFrom z (mark_bytes + 1) hs at = subst (λ (j : ℕ). LiesFrom z (mark_bytes + 1) (take j l) at) d w.lies in
+          let lies : LiesFrom (sizes_of v) (mark_bytes + 1) hs at = subst (λ (j : ℕ). LiesFrom (sizes_of v) (mark_bytes + 1) (take j l) at) d w.lies in
           let tidy : map head_of (map head_said hs) ≡ hs = subst (λ (j : ℕ). map head_of (map head_said (take j l)) ≡ take j l) d w.tidy in
           let blank : drop n l ≡ replicate (most_arrays - n) no_head =
           subst (λ (j : ℕ). drop j l ≡ replicate (most_arrays - j) no_head) d w.blank in
@@ -248,14 +230,16 @@ module _ {s : List ℕ} {v : Version} (ev : v ≡ version_in s) {n : ℕ} (o : O
           ∙ ap₂ (λ (a b : List Head). a ++ b) (sym tidy) (blank ∙ ap (λ (j : ℕ). replicate (most_arrays - j) no_head) c) in
           record {
             said =
-                ap Ok (lies-said z s (mark_bytes + 1) hs at lies)
+                ap Ok (lies-said (sizes_of v) s (mark_bytes + 1) hs at lies)
                 ∙ ap (λ (y : Version). Ok (lying_from (sizes_of y) (mark_bytes + 1) (map (array_at s) hs))) ev
                 ∙ ap (λ (m : Res (List Array)). m >>= (λ As. Ok (lying_from (sizes_in s) (mark_bytes + 1) As))) q;
-            tidy = λ j. record { refusal = refusal 0 0 0; version = ev j; count = c j; heads = x j };
-            version = λ o. ev;
+            tidy = λ j. Ok (record { version = ev j; count = c j; heads = x j });
             arrays = q;
-            room = omega (arith, w.few, w.long);
-            few = w.few;
-            fit = subst (λ (j : ℕ). AllFit s j l) d w.fit;
-            ranks = subst (λ (j : ℕ). AllRanked z j l) d w.ranks;
+            kept = record {
+              version = ev;
+              room = omega (arith, w.few, w.long);
+              few = w.few;
+              fit = subst (λ (j : ℕ). AllFit s j l) d w.fit;
+              ranks = subst (λ (j : ℕ). AllRanked (sizes_of v) j l) d w.ranks;
+            };
           }

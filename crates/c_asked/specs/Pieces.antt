@@ -1,7 +1,7 @@
 -- Bytes cut into pieces of one size: how many there are, and a loop that puts what each of them tells into an array, one after the
 -- other. Then what the bytes of a walking place and a total's number come to, each way out of the code by its tests.
 use Prim.Native.Nat.{ℕ, zero, suc, ◌+◌, ◌-◌, ◌*◌, ◌/◌, ◌%◌, ◌≤◌, ◌<◌}
-use Rattle.std.specs.Prelude.{◌≡◌, Bool, true, false, ◌&&◌, eqb, leb, take, drop, set, if◌then◌else◌, Some, Err}
+use Rattle.std.specs.Prelude.{◌≡◌, Bool, true, false, ◌&&◌, eqb, leb, take, drop, set, if◌then◌else◌, Some, Ok, Err}
 use Rattle.std.proofs.Math.Path.{refl}
 use Rattle.std.proofs.Common.{ap, ◌∙◌, div-mul-le_self, le_of_mul-le-mul_right, le_trans, add-one, eq-eqb, ne_eqb, le-leb, leb-true}
 use mathlib.Core.List.{List, [], ◌∷◌, ◌++◌, append_assoc, append-nil}
@@ -9,15 +9,16 @@ use native.Mathlib.Omega.{arith}
 use Rattle.std.proofs.lemmas.Bool.{lt-leb}
 use Rattle.std.proofs.Math.ListN.{length, length-set}
 use Rattle.std.proofs.Math.Seq.{drop-drop, take-suc-set}
+use Rattle.paper.specs.declared.Refusal.{Refusal}
 use Rattle.paper.specs.declared.Total.{Total}
 use Rattle.paper.specs.declared.Totalled.{Totalled}
 use Rattle.paper.specs.Limits.{limit_bytes}
 use Rattle.paper.specs.Refusals.{Res, refusal, unknown4}
 use Rattle.paper.specs.Numbers.{le_of, le_bytes, part, nth}
+use Rattle.paper.specs.Axes.{Array}
+use Rattle.paper.specs.Reference.{chosen}
 use Rattle.paper.specs.Totals.{totals}
 use Rattle.laws.specs.Lists.{nth_past}
-use Rattle.refer.specs.declared.Chosen.{Chosen}
-use Rattle.refer.specs.Chosen.{ChosenHead, its-refusal, its-array}
 use Rattle.c_asked.specs.Asked.{pieces, each_piece, all_totals, place_in, place_after, no_total, total_asked}
 
 -- ---- how many
@@ -108,17 +109,16 @@ module _ (bs : List ℕ) where
 
 -- ---- a total's number
 
-module _ {bs : List ℕ} {k : ℕ} {c : Chosen} (v : ChosenHead bs k c) where
-  -- the array's own refusal
-  pub no-total-refused : (c.refusal.number ≡ 0 → ⊥) → Err c.refusal ≡ no_total bs k
-  unfolding no_total
-  no-total-refused n = rw (← its-refusal v n) refl
-
-  pub no-total-known : c.refusal.number ≡ 0 → Err (refusal unknown4 k 0) ≡ no_total bs k
-  unfolding no_total
-  no-total-known y = rw (← its-array v y) refl
-
 module _ (bs : List ℕ) (k : ℕ) where
+  -- the array's own refusal
+  pub no-total-refused : {x : Refusal} → Err x ≡ chosen bs k → Err x ≡ no_total bs k
+  unfolding no_total
+  no-total-refused e = rw (← e) refl
+
+  pub no-total-known : {A : Array} → Ok A ≡ chosen bs k → Err (refusal unknown4 k 0) ≡ no_total bs k
+  unfolding no_total
+  no-total-known e = rw (← e) refl
+
   -- an answer that is a total's is what its number asks for
   pub total-at : {which n : ℕ} {t : Total} {r : Res Totalled} → r ≡ totals bs k t → which ≡ n → nth all_totals n ≡ Some t
       → r ≡ total_asked bs k which

@@ -161,11 +161,7 @@ pub fn walk_bytes(s: &[u8], k: u32, place: &mut [u8]) -> Result<Option<Cell>, Re
 fn no_total(s: &[u8], k: u32) -> Result<Totalled, Refusal>
     ensures { result ≡ no_total s.now k }
 {
-    let array = choose(s, k);
-    let refusal = array.refusal;
-    if refusal.number != 0 {
-        return Err(refusal);
-    }
+    choose(s, k)?;
     Err(refuse(4, k))
 }
 

@@ -1,6 +1,6 @@
 -- A byte place that four bytes have room for is told as it is, another as the largest number: the two ways out of the code, and that an
 -- answer whose ordinality fits is said as it stands.
-use Rattle.std.specs.Prelude.{ℕ, ◌≤◌, ◌<◌, ◌≡◌, Result, Ok, Err}
+use Rattle.std.specs.Prelude.{ℕ, ◌≤◌, ◌<◌, ◌≡◌, Result, Err}
 use Rattle.std.proofs.Common.{sym, ap, subst, le-leb}
 use Rattle.std.proofs.lemmas.Bool.{lt-leb}
 use Rattle.paper.specs.declared.Refusal.{Refusal}

@@ -1,16 +1,11 @@
 -- Replies: what one tells, and what is in the buffer once it is given; four numbers or a cell as a reply; and an answer that a reply tells,
 -- given, is what is spoken.
-use Rattle.std.specs.Prelude.{ℕ, ◌+◌, ◌*◌, ◌^◌, ◌≤◌, ◌<◌, ◌≡◌, length, take, drop, set, replicate, ℤ}
+use Rattle.std.specs.Prelude.{ℕ, ◌+◌, ◌*◌, ◌≤◌, ◌<◌, ◌≡◌, length, take, drop, set, replicate}
 use Rattle.std.proofs.Math.Path.{refl, ap, subst}
-use Rattle.std.proofs.Common.{sym, ◌∙◌, arith, take-take, take_all, to_z}
+use Rattle.std.proofs.Common.{sym, ◌∙◌, arith, take-take, take_all}
 use mathlib.Core.List.{List, [], ◌∷◌, ◌++◌}
 use Rattle.std.proofs.Math.ListN.{length-take}
-use Rattle.std.specs.Int.{w64}
-use Rattle.std.proofs.Math.Facts.{to_z_pos}
 use Rattle.paper.specs.declared.Cell.{Cell}
-use Rattle.paper.specs.declared.Cell.TheVariants.{Int}
-use Rattle.paper.specs.declared.Totalled.{Totalled}
-use Rattle.paper.specs.declared.Totalled.TheVariants.{Count}
 use Rattle.paper.specs.Limits.{limit_bytes, cell_bytes}
 use Rattle.paper.specs.Refusals.{Res}
 use Rattle.paper.specs.Numbers.{le_bytes, part, over}
@@ -18,7 +13,6 @@ use Rattle.paper.specs.Cells.{encode}
 use Rattle.laws.specs.Put.{put}
 use Rattle.c_told.specs.declared.Reply.{Reply}
 use Rattle.c_told.specs.Said.{numbers, told, Spoken, answered, spoken}
-use Rattle.c_told.specs.Given.{total_bytes}
 
 -- the number and the bytes that a reply tells
 pub record Tells (s : Spoken) (r : Reply) : Type 0 where
@@ -112,18 +106,6 @@ module _ (c : Cell) (w : List ℕ) where
       → Tells (record { number = 0; said = 1 ∷ encode c }) (record { number = 0; long = 1 + cell_bytes; bytes = w })
   unfolding encode le_bytes
   held-told e = record { number = refl; short = rw e (omega arith); bytes = ap (take (1 + cell_bytes)) e }
-
-pub end-told : Tells (record { number = 0; said = replicate (1 + cell_bytes) 0 })
-    (record { number = 0; long = 1 + cell_bytes; bytes = replicate most 0 })
-end-told = record { number = refl; short = omega arith; bytes = refl }
-
--- the INT cell of a count
-pub count-told : (n : ℕ) (t : Totalled) (r : Reply) → n < 2 ^ 63 → t ≡ Count n
-    → Tells (record { number = 0; said = encode (Int (to_z w64 n)) }) r
-    → Tells (record { number = 0; said = total_bytes t }) r
-count-told n t r h e =
-    subst (λ (bs : List ℕ). Tells (record { number = 0; said = bs }) r)
-    (ap (λ (z : ℤ). encode (Int z)) (to_z_pos w64 h) ∙ ap total_bytes (sym e))
 
 -- ---- an answer
 

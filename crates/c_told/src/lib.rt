@@ -2,7 +2,7 @@
 // Where the buffer is shorter, its bytes are the first of the answer's; where it is longer, the bytes after the answer stay.
 #![tactic(auto)]
 
-ghost use Rattle.std.specs.Prelude.{◌≡◌, ◌≤◌, length, Ok, Err};
+ghost use Rattle.std.specs.Prelude.{ℕ, List, ◌≡◌, ◌≤◌, length, Ok, Err};
 ghost use Rattle.paper.specs.Refusals.{refusal};
 ghost use Rattle.paper.specs.Cells.{encode};
 ghost use Rattle.paper.specs.Answers.{json_said};
@@ -72,20 +72,30 @@ pub fn refused(refusal: Refusal) -> Reply
     of_numbers(number, 2 * LIMIT_BYTES, place, refusal.ordinality, 0, 0)
 }
 
-// A count or a length.
-pub fn of_number(n: u32) -> Reply
-    ensures { Tells (answered number_bytes (Ok n)) result }
-{
-    of_numbers(0, LIMIT_BYTES, n, 0, 0, 0)
+// What a call answers with where it isn't refused, and its bytes: the reply that tells them, under number 0.
+pub trait Told {
+    ghost bytes: { Self → List ℕ };
+
+    fn told(self) -> Reply
+        ensures { Tells (answered bytes (Ok self)) result };
 }
 
-// Of packing, of writing JSON, of a run.
-pub fn of_counted(answer: Result<u32, Refusal>) -> Reply
-    ensures { Tells (answered number_bytes answer) result }
+// What a call answers: what it got, or the refusal.
+pub fn reply_of<T: Told>(answer: Result<T, Refusal>) -> Reply
+    ensures { Tells (answered T.bytes answer) result }
 {
     match answer {
-        Ok(n) => of_number(n),
+        Ok(got) => got.told(),
         Err(refusal) => refused(refusal),
+    }
+}
+
+// A count or a length.
+impl Told for u32 {
+    ghost bytes = { number_bytes };
+
+    fn told(self) -> Reply {
+        of_numbers(0, LIMIT_BYTES, self, 0, 0, 0)
     }
 }
 
@@ -130,109 +140,84 @@ pub fn of_json(answer: Result<u32, JsonRefusal>) -> Reply
     ensures { Tells (answered number_bytes (capped_in (json_said answer))) result }
 {
     match answer {
-        Ok(n) => of_number(n),
+        Ok(n) => n.told(),
         Err(refusal) => json_refused(refusal),
     }
 }
 
 // T, and the last result's type, axis count and number of cells.
-pub fn of_plan(answer: Result<Foreseen, Refusal>) -> Reply
-    ensures { Tells (answered foreseen_bytes answer) result }
-{
-    match answer {
-        Ok(plan) => of_numbers(0, MOST, plan.total, plan.kind as u32, plan.axes, plan.cells),
-        Err(refusal) => refused(refusal),
+impl Told for Foreseen {
+    ghost bytes = { foreseen_bytes };
+
+    fn told(self) -> Reply {
+        of_numbers(0, MOST, self.total, self.kind as u32, self.axes, self.cells)
     }
 }
 
 // Rows written, and where to go on.
-pub fn of_page(answer: Result<Listed, Refusal>) -> Reply
-    ensures { Tells (answered listed_bytes answer) result }
-{
-    match answer {
-        Ok(listed) => {
-            let next = listed.next;
-            of_numbers(0, 2 * LIMIT_BYTES, listed.written, next.0, 0, 0)
-        }
-        Err(refusal) => refused(refusal),
+impl Told for Listed {
+    ghost bytes = { listed_bytes };
+
+    fn told(self) -> Reply {
+        let next = self.next;
+        of_numbers(0, 2 * LIMIT_BYTES, self.written, next.0, 0, 0)
     }
 }
 
 // The side, and the bytes from and up to which the part lies.
-pub fn of_stretch(answer: Result<Part, Refusal>) -> Reply
-    ensures { Tells (answered part_bytes answer) result }
-{
-    match answer {
-        Ok(part) => match part {
+impl Told for Part {
+    ghost bytes = { part_bytes };
+
+    fn told(self) -> Reply {
+        match self {
             Part::Left(from, to) => of_numbers(0, 3 * LIMIT_BYTES, 1, from, to, 0),
             Part::Right(from, to) => of_numbers(0, 3 * LIMIT_BYTES, 2, from, to, 0),
-        },
-        Err(refusal) => refused(refusal),
+        }
     }
 }
 
 // ---- cells
 
-fn of_cell(cell: Cell) -> Reply
-    ensures { Tells (answered encode (Ok cell)) result }
-{
-    let mut bytes = [0u8; MOST];
-    write_cell(&mut bytes, 0, cell);
-    Reply {
-        number: 0,
-        long: CELL_BYTES,
-        bytes,
-    }
-}
+impl Told for Cell {
+    ghost bytes = { encode };
 
-pub fn of_reference(answer: Result<Cell, Refusal>) -> Reply
-    ensures { Tells (answered encode answer) result }
-{
-    match answer {
-        Ok(cell) => of_cell(cell),
-        Err(refusal) => refused(refusal),
+    fn told(self) -> Reply {
+        let mut bytes = [0u8; MOST];
+        write_cell(&mut bytes, 0, self);
+        Reply {
+            number: 0,
+            long: CELL_BYTES,
+            bytes,
+        }
     }
 }
 
 // A cell that a walk has seen, after a 1; at the end all zeros.
-pub fn of_walk(answer: Result<Option<Cell>, Refusal>) -> Reply
-    ensures { Tells (answered seen_bytes answer) result }
-{
-    let mut bytes = [0u8; MOST];
-    let long = SEEN;
-    let number = 0;
-    match answer {
-        Err(refusal) => return refused(refusal),
-        Ok(seen) => match seen {
-            None => {
-                return Reply {
-                    number,
-                    long,
-                    bytes,
-                };
-            }
-            Some(cell) => {
-                bytes[0] = 1;
-                write_cell(&mut bytes, 1, cell);
-                return Reply {
-                    number,
-                    long,
-                    bytes,
-                };
-            }
-        },
+impl Told for Option<Cell> {
+    ghost bytes = { seen_bytes };
+
+    fn told(self) -> Reply {
+        let mut bytes = [0u8; MOST];
+        if let Some(cell) = self {
+            bytes[0] = 1;
+            write_cell(&mut bytes, 1, cell);
+        }
+        Reply {
+            number: 0,
+            long: SEEN,
+            bytes,
+        }
     }
 }
 
 // The cell of a total; a count is one of an INT.
-pub fn of_total(answer: Result<Totalled, Refusal>) -> Reply
-    ensures { Tells (answered total_bytes answer) result }
-{
-    match answer {
-        Ok(total) => match total {
-            Totalled::Count(n) => of_cell(Cell::Int(n as i64)),
-            Totalled::Is(cell) => of_cell(cell),
-        },
-        Err(refusal) => refused(refusal),
+impl Told for Totalled {
+    ghost bytes = { total_bytes };
+
+    fn told(self) -> Reply {
+        match self {
+            Totalled::Count(n) => Cell::Int(n as i64).told(),
+            Totalled::Is(cell) => cell.told(),
+        }
     }
 }

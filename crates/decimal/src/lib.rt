@@ -240,14 +240,12 @@ pub fn put_row(rows: &[u8], from: usize, rank: usize, out: &mut [u8], at: usize)
     ensures { Wrote out.old at (line_at rows.now from rank) result out.new }
 {
     let mut end = put_decimal(out, at, half(rows, from) as u64);
-    let mut i = 0;
-    while i < rank {
+    for i in 0..rank {
         end = put_position(
             out,
             end,
             position_at(rows, from + LIMIT_BYTES + i * LIMIT_BYTES),
         );
-        i += 1;
     }
     put_byte(out, end, b'\n')
 }

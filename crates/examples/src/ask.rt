@@ -38,16 +38,14 @@ fn show_foreseen(
 fn show_last(rt: &impl Print, bundle: &[u8], steps: &[u8], work: &[u8]) -> io::Result<()> {
     let mut head = [0u8; WHOLE_HEAD];
     let _ = run::extent(bundle, steps, &mut head);
-    let answer = run::plan(bundle, steps);
-    match answer {
+    match run::plan(bundle, steps) {
         Ok(last) => show_foreseen(rt, version_of(bundle), &head, last, work),
         Err(r) => say_refusal(rt, r),
     }
 }
 
 pub fn show_run(rt: &impl Print, bundle: &[u8], steps: &[u8], work: &mut [u8]) -> io::Result<()> {
-    let answer = run::run(bundle, steps, work);
-    match answer {
+    match run::run(bundle, steps, work) {
         Ok(_) => show_last(rt, bundle, steps, work),
         Err(r) => {
             say_byte(rt, b' ')?;
@@ -64,35 +62,14 @@ pub fn show_area(rt: &impl Print, bundle: &[u8], steps: &[u8], work: &mut [u8]) 
     say_some(rt, b"done, ", number_of(rt, answer)?, b" cells\n")
 }
 
-// The j-th position, from 1, of the row that begins at byte `at`, where it has so many.
-fn say_position(
-    rt: &impl Print,
-    rows: &[u8; ROWS],
-    at: usize,
-    j: usize,
-    rank: usize,
-) -> io::Result<()> {
-    if j <= rank {
-        if j <= paper::AXES {
-            if at <= ROWS - ROW {
-                say_byte(rt, b' ')?;
-                say_signed(rt, half(rows, at + j * LIMIT_BYTES))?;
-            }
-        }
-    }
-    Ok(())
-}
-
-// The row that begins at byte `at`.
+// The row of so many positions that begins at byte `at`.
 fn say_row(rt: &impl Print, rows: &[u8; ROWS], at: usize, rank: usize) -> io::Result<()> {
     if at <= ROWS - ROW {
         say_count(rt, b", ", half(rows, at) as u64)?;
-        say_position(rt, rows, at, 1, rank)?;
-        say_position(rt, rows, at, 2, rank)?;
-        say_position(rt, rows, at, 3, rank)?;
-        say_position(rt, rows, at, 4, rank)?;
-        say_position(rt, rows, at, 5, rank)?;
-        say_position(rt, rows, at, 6, rank)?;
+        for j in 1..=at_most(rank, paper::AXES) {
+            say_byte(rt, b' ')?;
+            say_signed(rt, half(rows, at + j * LIMIT_BYTES))?;
+        }
     }
     Ok(())
 }
@@ -100,17 +77,8 @@ fn say_row(rt: &impl Print, rows: &[u8; ROWS], at: usize, rank: usize) -> io::Re
 // The first four of n rows of so many positions.
 fn say_rows(rt: &impl Print, rows: &[u8; ROWS], n: u32, rank: usize) -> io::Result<()> {
     let size = LIMIT_BYTES + at_most(rank, paper::AXES) * LIMIT_BYTES;
-    if 0 < n {
-        say_row(rt, rows, 0, rank)?;
-    }
-    if 1 < n {
-        say_row(rt, rows, size, rank)?;
-    }
-    if 2 < n {
-        say_row(rt, rows, 2 * size, rank)?;
-    }
-    if 3 < n {
-        say_row(rt, rows, 3 * size, rank)?;
+    for k in 0..at_most(n as usize, 4) {
+        say_row(rt, rows, k * size, rank)?;
     }
     Ok(())
 }
@@ -133,10 +101,8 @@ pub fn show_page(
     work: &mut [u8],
 ) -> io::Result<()> {
     let mut rows = [0u8; ROWS];
-    let paged = run::page_rows(bundle, steps, work, Ordinality(start), &mut rows);
-    let answer = paged.answer;
-    match answer {
-        Ok(listed) => say_listed(rt, &rows, listed, paged.axes),
+    match run::page_rows(bundle, steps, work, Ordinality(start), &mut rows) {
+        Ok(paged) => say_listed(rt, &rows, paged.listed, paged.axes),
         Err(r) => {
             say_byte(rt, b' ')?;
             say_refusal(rt, r)

@@ -24,7 +24,7 @@
 use crate::ask;
 use script::arrays::ask_array;
 use script::desk::Desk;
-use script::line::{ARGS, arg_length, arg32};
+use script::line::Words;
 use script::make::make;
 use script::parts::{first, first_lent};
 use script::say::say;
@@ -38,11 +38,8 @@ const WORK: usize = 900;
 
 // "TEXT: the line but for its first byte and its end.
 fn say_text(rt: &impl Print, rest: &[u8], line: usize) -> io::Result<()> {
-    if 2 <= line {
-        if line <= rest.len() {
-            let end = line - 1;
-            say(rt, &rest[1..end])?;
-        }
+    if 2 <= line && line <= rest.len() {
+        say(rt, &rest[1..line - 1])?;
     }
     Ok(())
 }
@@ -61,10 +58,10 @@ fn ask_recipe(
     command: u8,
     bundle: &[u8],
     steps: &[u8],
-    args: &[u64; ARGS],
+    words: &Words,
 ) -> io::Result<()> {
     let mut work = [0u8; WORK];
-    let room = arg_length(args, 1, WORK);
+    let room = words.length(1, WORK);
     match command {
         b'v' => ask::show_run(rt, bundle, steps, &mut work),
         b'u' => ask::show_area(rt, bundle, steps, first_lent(&mut work, room)),
@@ -72,7 +69,7 @@ fn ask_recipe(
             rt,
             bundle,
             steps,
-            arg32(args, 2),
+            words.value32(2),
             first_lent(&mut work, room),
         ),
         _ => Ok(()),
@@ -83,32 +80,28 @@ fn question(
     rt: &impl Print,
     command: u8,
     desk: Desk,
-    n: usize,
-    args: &[u64; ARGS],
-    kinds: &[u8; ARGS],
+    words: &Words,
     steps: &[u8],
     bundle: &[u8],
 ) -> io::Result<()> {
     let arrays = first(bundle, desk.bundle);
-    ask_array(rt, command, desk.version, arrays, n, args, kinds)?;
-    ask_recipe(rt, command, arrays, first(steps, desk.steps), args)?;
+    ask_array(rt, command, desk.version, arrays, words)?;
+    ask_recipe(rt, command, arrays, first(steps, desk.steps), words)?;
     if command == b'k' {
-        keep(rt, desk.version, arrays, args)?;
+        keep(rt, desk.version, arrays, words)?;
     }
     Ok(())
 }
 
 // ---- a line
 
-// A command, by its first byte: `rest` is the script from there on, of which the line has so many bytes and n words.
+// A command, by its first byte: `rest` is the script from there on, of which the line has so many bytes and these words.
 pub fn obey(
     rt: &impl Print,
     desk: Desk,
     rest: &[u8],
     line: usize,
-    n: usize,
-    args: &[u64; ARGS],
-    kinds: &[u8; ARGS],
+    words: &Words,
     heads: &mut [u8],
     cells: &mut [u8],
     steps: &mut [u8],
@@ -123,11 +116,9 @@ pub fn obey(
         return Ok(desk);
     }
     if command == b'h' {
-        hear(rt, desk.version, heads, line_of(rest, line), args)?;
+        hear(rt, desk.version, heads, line_of(rest, line), words)?;
         return Ok(desk);
     }
-    question(rt, command, desk, n, args, kinds, steps, bundle)?;
-    make(
-        rt, command, desk, n, args, kinds, heads, cells, steps, bundle,
-    )
+    question(rt, command, desk, words, steps, bundle)?;
+    make(rt, command, desk, words, heads, cells, steps, bundle)
 }

@@ -81,31 +81,31 @@ pub fn width_of(a: Axis) -> u64
     (a.hi as u64) + 1 - (a.lo as u64)
 }
 
-// The number of cells, or 0 where there are more than an array may have. From the last axis to the first.
-pub fn cells_of(e: Extent) -> usize
+// The number of cells, if an array may have so many. From the last axis to the first.
+pub fn cells_of(e: Extent) -> Option<usize>
     requires { Sound (axes_of e) }
-    ensures { (result ≡ few_cells (axes_of e)) × (result ≤ most_cells) }
+    ensures { result ≡ few_cells (axes_of e) }
 {
     let rank = rank_of(e);
     let mut n: u64 = 1;
     for i in (0..rank).rev() {
         n *= width_of(e.axes[i]);
         if CELLS < n {
-            return 0;
+            return None;
         }
     }
-    n as usize
+    Some(n as usize)
 }
 
-// The number of cells of a good extent; 0 for any other, since a good one has a cell.
-pub fn good_extent(names: [Name; AXES], e: Extent) -> usize
-    ensures { (result ≡ good_cells (names_for (axes_of e) names) (axes_of e)) × (result ≤ most_cells) }
+// The number of cells, if the extent is good.
+pub fn good_extent(names: [Name; AXES], e: Extent) -> Option<usize>
+    ensures { result ≡ good_cells (names_for (axes_of e) names) (axes_of e) }
 {
     if !good_names(names, rank_of(e)) {
-        return 0;
+        return None;
     }
     if !good_limits(e) {
-        return 0;
+        return None;
     }
     cells_of(e)
 }
@@ -155,13 +155,12 @@ pub fn covers_all(e: Extent, f: Extent) -> bool
     all_meet(e, f, axis_covers)
 }
 
-// The number of cells of a good extent that lies inside its maximum, or 0.
-pub fn extent_cells(names: [Name; AXES], e: Extent, maximum: Extent) -> usize
-    ensures { (result ≡ cells_within (names_for (axes_of e) names) (axes_of e) (axes_of maximum)) × (result ≤ most_cells) }
+// The number of cells, if the extent is good and lies inside its maximum.
+pub fn extent_cells(names: [Name; AXES], e: Extent, maximum: Extent) -> Option<usize>
+    ensures { result ≡ cells_within (names_for (axes_of e) names) (axes_of e) (axes_of maximum) }
 {
-    let n = good_extent(names, e);
     if !all_meet(e, maximum, axis_within) {
-        return 0;
+        return None;
     }
-    n
+    good_extent(names, e)
 }

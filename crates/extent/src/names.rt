@@ -54,8 +54,8 @@ fn name_fits(v: Version, n: Name) -> bool
     ensures { result ≡ zeros (drop (sizes_of v).name (letters_of n)) }
 {
     match v {
-        Version::One => return n.last == 0,
-        Version::Two => return true,
+        Version::One => n.last == 0,
+        Version::Two => true,
     }
 }
 

@@ -94,12 +94,10 @@ pub fn due_after(e: Extent, c: Cursor) -> Cursor
     ensures { Follows (axes_of e) c result }
 {
     let rank = rank_of(e);
-    let wanted = c.wanted;
-    let left = c.left;
-    match wanted {
-        Wanted::Nothing => return c,
-        Wanted::Opening => return due_inside(e, c.level, left),
-        Wanted::Closing => return due_next(rank, c.level - 1, left),
-        Wanted::Value => return due_next(rank, c.level, left),
+    match c.wanted {
+        Wanted::Nothing => c,
+        Wanted::Opening => due_inside(e, c.level, c.left),
+        Wanted::Closing => due_next(rank, c.level - 1, c.left),
+        Wanted::Value => due_next(rank, c.level, c.left),
     }
 }

@@ -5,7 +5,6 @@ use Rattle.std.proofs.Math.Path.{refl, ap}
 use Rattle.std.proofs.Common.{sym, ◌∙◌, subst, add-one}
 use Rattle.std.proofs.Math.Bool.{true, false}
 use mathlib.Core.List.{List, [], ◌∷◌, ◌++◌, map, append_assoc}
-use Rattle.std.proofs.Math.Option
 use native.Mathlib.Omega.{arith}
 use borrow.Author.Tests.{eqb-true, eq-eqb, ne_eqb, eqb-false}
 use Rattle.std.proofs.Math.Dec.{eqb}
@@ -372,9 +371,9 @@ object-begun d c b q =
       behind = tt;
     }
 
-pub object-none : (d c b : ℕ) → among blank b ≡ false → (b ≡ 123 → ⊥) → TurnedAt (parts_at Object d c) false d b (so Nothing Object 0 0)
+pub object-none : (d c b : ℕ) → among blank b ≡ false → (b ≡ 123 → ⊥) → TurnedAt (parts_at Object d c) false d b (so Nothing Object d c)
 unfolding settled optional move rules chosen
-object-none d c b h n = nothing-comes (parts_at Object d c) false d b 0 0 (rw (h, no_byte 123 b n))
+object-none d c b h n = nothing-comes (parts_at Object d c) false d b d c (rw (h, no_byte 123 b n))
 
 -- ---- what stands, by what may come
 

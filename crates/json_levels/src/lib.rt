@@ -54,171 +54,158 @@ pub struct Turn {
     pub levels: Levels,
 }
 
-// What the byte begins, and what may come behind it.
-fn begun_so(begun: Begun, next: Next, depth: u32, bits: u32) -> Turn
-    ensures { result ≡ so begun next depth bits }
+// A bracket, and so many levels open behind it.
+fn bracket(next: Next, depth: u32, bits: u32) -> Turn
+    ensures { result ≡ so Bracket next depth bits }
 {
     Turn {
-        begun,
+        begun: Begun::Bracket,
         levels: Levels { next, depth, bits },
     }
 }
 
-// A value that has no level of its own.
-fn plain(begun: Begun, depth: u32, bits: u32) -> Turn
-    ensures { result ≡ so begun More depth bits }
-{
-    begun_so(begun, Next::More, depth, bits)
-}
-
-// Nothing that may come.
-fn nothing(depth: u32, bits: u32) -> Turn
-    ensures { result ≡ so Nothing Object depth bits }
-{
-    begun_so(Begun::Nothing, Next::Object, depth, bits)
-}
-
-// The closing bracket of the innermost level.
-fn closed(depth: u32, bits: u32) -> Turn
-    requires { Open depth bits }
-    ensures { result ≡ so Bracket More (depth - 1) (bits / 2) }
-{
-    begun_so(Begun::Bracket, Next::More, depth - 1, bits / 2)
-}
-
-// An opening bracket, where a level is left.
-fn opened(depth: u32, bits: u32) -> Turn
-    ensures { result ≡ so Bracket First depth bits }
-{
-    begun_so(Begun::Bracket, Next::First, depth, bits)
-}
-
-// ---- one byte, by what may come
-
-// An array or an object, where a level is left for it.
-fn level_turn(depth: u32, bits: u32, b: u8) -> Turn
-    requires { Open depth bits × Other b }
-    ensures { TurnedAt (parts_at Value depth bits) (outermost Value depth bits) depth b result }
-{
-    if depth == LEVELS {
-        return nothing(depth, bits);
-    }
-    if b == b'[' {
-        return opened(depth + 1, bits * 2 + 1);
-    }
-    if b == b'{' {
-        return opened(depth + 1, bits * 2);
-    }
-    nothing(depth, bits)
-}
-
-// A value: a string, a number, a word, an array or an object.
-fn value_turn(depth: u32, bits: u32, b: u8) -> Turn
-    requires { Open depth bits × (among blank b ≡ false) }
-    ensures { TurnedAt (parts_at Value depth bits) (outermost Value depth bits) depth b result }
-{
-    if b == b'"' {
-        return plain(Begun::Text, depth, bits);
-    }
-    if b == b'-' {
-        return plain(Begun::Minus, depth, bits);
-    }
-    if b == b'0' {
-        return plain(Begun::Zero, depth, bits);
-    }
-    if is_digit(b) {
-        return plain(Begun::Digit, depth, bits);
-    }
-    if b == b't' {
-        return plain(Begun::True, depth, bits);
-    }
-    if b == b'f' {
-        return plain(Begun::False, depth, bits);
-    }
-    if b == b'n' {
-        return plain(Begun::Null, depth, bits);
-    }
-    level_turn(depth, bits, b)
-}
-
-// A name.
-fn name_turn(depth: u32, bits: u32, b: u8) -> Turn
-    requires { StandingAt Member depth bits × (among blank b ≡ false) }
-    ensures { TurnedAt (parts_at Member depth bits) (outermost Member depth bits) depth b result }
-{
-    if b == b'"' {
-        return begun_so(Begun::Name, Next::Value, depth, bits);
-    }
-    nothing(depth, bits)
-}
-
-// After an opening bracket: the closing one, or what the level holds.
-fn first_turn(depth: u32, bits: u32, b: u8) -> Turn
-    requires { Open depth bits × (among blank b ≡ false) }
-    ensures { TurnedAt (parts_at First depth bits) (outermost First depth bits) depth b result }
-{
-    if bits % 2 == 1 {
-        if b == b']' {
-            return closed(depth, bits);
+impl Levels {
+    // What the byte begins, and what may come behind it.
+    fn begun(self, begun: Begun, next: Next) -> Turn
+        ensures { result ≡ so begun next self.depth self.bits }
+    {
+        Turn {
+            begun,
+            levels: Levels { next, ..self },
         }
-        return value_turn(depth, bits, b);
     }
-    if b == b'}' {
-        return closed(depth, bits);
-    }
-    name_turn(depth, bits, b)
-}
 
-// After a value of an array, and of an object: a comma, or the closing bracket.
-fn more_items(depth: u32, bits: u32, b: u8) -> Turn
-    requires { Open depth bits × (array? bits ≡ true) × (among blank b ≡ false) }
-    ensures { TurnedAt (parts_at More depth bits) false depth b result }
-{
-    if b == b',' {
-        return begun_so(Begun::Comma, Next::Value, depth, bits);
+    // A value that has no level of its own.
+    fn plain(self, begun: Begun) -> Turn
+        ensures { result ≡ so begun More self.depth self.bits }
+    {
+        self.begun(begun, Next::More)
     }
-    if b == b']' {
-        return closed(depth, bits);
-    }
-    nothing(depth, bits)
-}
 
-fn more_members(depth: u32, bits: u32, b: u8) -> Turn
-    requires { Open depth bits × (array? bits ≡ false) × (among blank b ≡ false) }
-    ensures { TurnedAt (parts_at More depth bits) false depth b result }
-{
-    if b == b',' {
-        return begun_so(Begun::Comma, Next::Member, depth, bits);
+    // Nothing that may come.
+    fn nothing(self) -> Turn
+        ensures { result ≡ so Nothing Object self.depth self.bits }
+    {
+        self.begun(Begun::Nothing, Next::Object)
     }
-    if b == b'}' {
-        return closed(depth, bits);
-    }
-    nothing(depth, bits)
-}
 
-// After the object nothing may come.
-fn more_turn(depth: u32, bits: u32, b: u8) -> Turn
-    requires { StandingAt More depth bits × (among blank b ≡ false) }
-    ensures { TurnedAt (parts_at More depth bits) false depth b result }
-{
-    if depth == 0 {
-        return nothing(depth, bits);
+    // The closing bracket of the innermost level.
+    fn closed(self) -> Turn
+        requires { Open self.depth self.bits }
+        ensures { result ≡ so Bracket More (self.depth - 1) (self.bits / 2) }
+    {
+        bracket(Next::More, self.depth - 1, self.bits / 2)
     }
-    if bits % 2 == 1 {
-        return more_items(depth, bits, b);
-    }
-    more_members(depth, bits, b)
-}
 
-// Before the object.
-fn object_turn(depth: u32, bits: u32, b: u8) -> Turn
-    requires { among blank b ≡ false }
-    ensures { TurnedAt (parts_at Object depth bits) false depth b result }
-{
-    if b == b'{' {
-        return opened(1, 0);
+    // ---- one byte, by what may come
+
+    // An array or an object, where a level is left for it.
+    fn level_turn(self, b: u8) -> Turn
+        requires { Open self.depth self.bits × Other b }
+        ensures { TurnedAt (parts_at Value self.depth self.bits) (outermost Value self.depth self.bits) self.depth b result }
+    {
+        if self.depth == LEVELS {
+            return self.nothing();
+        }
+        match b {
+            b'[' => bracket(Next::First, self.depth + 1, self.bits * 2 + 1),
+            b'{' => bracket(Next::First, self.depth + 1, self.bits * 2),
+            _ => self.nothing(),
+        }
     }
-    nothing(0, 0)
+
+    // A value: a string, a number, a word, an array or an object.
+    fn value_turn(self, b: u8) -> Turn
+        requires { Open self.depth self.bits × (among blank b ≡ false) }
+        ensures { TurnedAt (parts_at Value self.depth self.bits) (outermost Value self.depth self.bits) self.depth b result }
+    {
+        match b {
+            b'"' => self.plain(Begun::Text),
+            b'-' => self.plain(Begun::Minus),
+            b'0' => self.plain(Begun::Zero),
+            b't' => self.plain(Begun::True),
+            b'f' => self.plain(Begun::False),
+            b'n' => self.plain(Begun::Null),
+            _ if is_digit(b) => self.plain(Begun::Digit),
+            _ => self.level_turn(b),
+        }
+    }
+
+    // A name.
+    fn name_turn(self, b: u8) -> Turn
+        requires { StandingAt Member self.depth self.bits × (among blank b ≡ false) }
+        ensures { TurnedAt (parts_at Member self.depth self.bits) (outermost Member self.depth self.bits) self.depth b result }
+    {
+        if b == b'"' {
+            return self.begun(Begun::Name, Next::Value);
+        }
+        self.nothing()
+    }
+
+    // After an opening bracket: the closing one, or what the level holds.
+    fn first_turn(self, b: u8) -> Turn
+        requires { Open self.depth self.bits × (among blank b ≡ false) }
+        ensures { TurnedAt (parts_at First self.depth self.bits) (outermost First self.depth self.bits) self.depth b result }
+    {
+        if self.bits % 2 == 1 {
+            if b == b']' {
+                return self.closed();
+            }
+            return self.value_turn(b);
+        }
+        if b == b'}' {
+            return self.closed();
+        }
+        self.name_turn(b)
+    }
+
+    // After a value of an array, and of an object: a comma, or the closing bracket.
+    fn more_items(self, b: u8) -> Turn
+        requires { Open self.depth self.bits × (array? self.bits ≡ true) × (among blank b ≡ false) }
+        ensures { TurnedAt (parts_at More self.depth self.bits) false self.depth b result }
+    {
+        match b {
+            b',' => self.begun(Begun::Comma, Next::Value),
+            b']' => self.closed(),
+            _ => self.nothing(),
+        }
+    }
+
+    fn more_members(self, b: u8) -> Turn
+        requires { Open self.depth self.bits × (array? self.bits ≡ false) × (among blank b ≡ false) }
+        ensures { TurnedAt (parts_at More self.depth self.bits) false self.depth b result }
+    {
+        match b {
+            b',' => self.begun(Begun::Comma, Next::Member),
+            b'}' => self.closed(),
+            _ => self.nothing(),
+        }
+    }
+
+    // After the object nothing may come.
+    fn more_turn(self, b: u8) -> Turn
+        requires { StandingAt More self.depth self.bits × (among blank b ≡ false) }
+        ensures { TurnedAt (parts_at More self.depth self.bits) false self.depth b result }
+    {
+        if self.depth == 0 {
+            return self.nothing();
+        }
+        if self.bits % 2 == 1 {
+            return self.more_items(b);
+        }
+        self.more_members(b)
+    }
+
+    // Before the object.
+    fn object_turn(self, b: u8) -> Turn
+        requires { among blank b ≡ false }
+        ensures { TurnedAt (parts_at Object self.depth self.bits) false self.depth b result }
+    {
+        if b == b'{' {
+            return bracket(Next::First, 1, 0);
+        }
+        self.nothing()
+    }
 }
 
 // What a byte that is no blank begins.
@@ -226,12 +213,11 @@ pub fn byte_turn(v: Levels, b: u8) -> Turn
     requires { Standing v × (among blank b ≡ false) }
     ensures { Turned v b result }
 {
-    let next = v.next;
-    match next {
-        Next::Object => return object_turn(v.depth, v.bits, b),
-        Next::First => return first_turn(v.depth, v.bits, b),
-        Next::More => return more_turn(v.depth, v.bits, b),
-        Next::Value => return value_turn(v.depth, v.bits, b),
-        Next::Member => return name_turn(v.depth, v.bits, b),
+    match v.next {
+        Next::Object => v.object_turn(b),
+        Next::First => v.first_turn(b),
+        Next::More => v.more_turn(b),
+        Next::Value => v.value_turn(b),
+        Next::Member => v.name_turn(b),
     }
 }

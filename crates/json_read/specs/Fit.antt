@@ -35,21 +35,21 @@ use Rattle.json_read.specs.Outcome.{before-other, wrong-other, within-over, with
 use Rattle.json_read.specs.Outcome.{wrong-data}
 
 -- the phase that a stage stands for
-unfoldable pub phase_by : List Axis → Stage → ℕ → Cursor → Phase
-phase_by E Before p c = before (due E)
-phase_by E Within p c = within (rest_of E c)
-phase_by E Wrong p c = wrong p
-phase_by E Stopped p c = twice p
+unfoldable pub phase_by : List Axis → Stage → Cursor → Phase
+phase_by E Before c = before (due E)
+phase_by E Within c = within (rest_of E c)
+phase_by E (Wrong p) c = wrong p
+phase_by E (Stopped p) c = twice p
 
 abbrev pub phase_of : List Axis → Fit → Phase
-phase_of E f = phase_by E f.stage f.place f.cursor
+phase_of E f = phase_by E f.stage f.cursor
 
 -- as many cells are still due as are not yet stored
 unfoldable pub Counts : List Axis → Stage → ℕ → Cursor → Type 0
 Counts E Before n c = n ≡ 0
 Counts E Within n c = n + cells_due (rest_of E c) ≡ cells E
-Counts E Wrong n c = Unit {0}
-Counts E Stopped n c = Unit {0}
+Counts E (Wrong p) n c = Unit {0}
+Counts E (Stopped p) n c = Unit {0}
 
 pub record Ready (E : List Axis) (f : Fit) (room : ℕ) : Type 0 where
   pub sound : Sound E
@@ -61,11 +61,11 @@ pub record Ready (E : List Axis) (f : Fit) (room : ℕ) : Type 0 where
   pub all_room : room ≡ most_cells * cell_bytes
 
 abbrev pub waiting : Fit
-waiting = record { stage = Before; place = 0; done = 0; cursor = first_due }
+waiting = record { stage = Before; done = 0; cursor = first_due }
 
 -- what ends it all, at byte i
 abbrev pub stopping : Fit → ℕ → Fit
-stopping f i = record { stage = Stopped; place = i + 1; done = f.done; cursor = f.cursor }
+stopping f i = record { stage = Stopped (i + 1); done = f.done; cursor = f.cursor }
 
 -- ---- promises
 
@@ -93,7 +93,7 @@ pub record TokenMet (t : ℕ) (E : List Axis) (s : List ℕ) (i : ℕ) (g : Begu
       → outcome t n (phase_of E f) (preceded ks R) ≡ with new (outcome t n (phase_of E r) R)
 
 abbrev pub misfitting : Fit → ℕ → Fit
-misfitting f i = record { stage = Wrong; place = i + 1; done = f.done; cursor = f.cursor }
+misfitting f i = record { stage = Wrong (i + 1); done = f.done; cursor = f.cursor }
 
 -- what was due came, and so many cells are stored
 pub record FitsOn (E : List Axis) (c : Cursor) (n : ℕ) (r : Fit) : Type 0 where
@@ -119,11 +119,11 @@ pub record ValueDue (E : List Axis) (f : Fit) (room : ℕ) : Type 0 where
   pub wanted : f.cursor.wanted ≡ Wanted.Value
 
 -- after a name `data`
-unfoldable pub after_by : Stage → Fit → ℕ → Fit
-after_by Before f i = record { stage = Within; place = 0; done = f.done; cursor = first_due }
+abbrev pub after_by : Stage → Fit → ℕ → Fit
+after_by Before f i = record { stage = Within; done = f.done; cursor = first_due }
 after_by Within f i = stopping f i
-after_by Wrong f i = stopping f i
-after_by Stopped f i = f
+after_by (Wrong p) f i = stopping f i
+after_by (Stopped p) f i = f
 
 abbrev pub after_data : Fit → ℕ → Fit
 after_data f i = after_by f.stage f i
@@ -131,7 +131,7 @@ after_data f i = after_by f.stage f i
 abbrev pub name_sign : ℕ → Bool → Sign
 name_sign d x = if eqb d 1 then (if x then Sign.Data else Sign.Other) else Sign.Other
 
-unfoldable pub sign_of : Begun → ℕ → Bool → Sign
+abbrev pub sign_of : Begun → ℕ → Bool → Sign
 sign_of Begun.Nothing d x = Sign.Nothing
 sign_of Begun.Comma d x = Sign.Comma
 sign_of Begun.Bracket d x = Sign.Other
@@ -204,7 +204,7 @@ within-counts E x n c e q = subst (λ (z : Stage). Counts E z n c) e q
 
 phase-within : (E : List Axis) (f : Fit) → f.stage ≡ Within → phase_of E f ≡ within (rest_of E f.cursor)
 unfolding phase_by
-phase-within E f e = ap (λ (z : Stage). phase_by E z f.place f.cursor) e
+phase-within E f e = ap (λ (z : Stage). phase_by E z f.cursor) e
 
 phase-wrong : (E : List Axis) (f : Fit) (i : ℕ) → phase_of E (misfitting f i) ≡ wrong (i + 1)
 unfolding phase_by
@@ -380,31 +380,31 @@ module _ (t : ℕ) (E : List Axis) (s : List ℕ) (i : ℕ) (f : Fit) (out : Lis
         new = [];
         stored = same-stored E f out y;
         goes = λ n k p x d R.
-            let q : phase_of E f ≡ before (due E) = ap (λ (z : Stage). phase_by E z f.place f.cursor) w in
+            let q : phase_of E f ≡ before (due E) = ap (λ (z : Stage). phase_by E z f.cursor) w in
             ap (λ (z : Phase). outcome t n z (preceded (k ∷ []) R)) q ∙ before-other t n k R d (due E)
             ∙ sym (ap (λ (z : Phase). outcome t n z R) q) ∙ with_none (outcome t n (phase_of E f) R);
       }
 
-  pub wrong-met : f.stage ≡ Wrong → Met t E s i f out f out
+  pub wrong-met : (p : ℕ) → f.stage ≡ Wrong p → Met t E s i f out f out
   unfolding phase_by
-  wrong-met w =
+  wrong-met j w =
       record {
         new = [];
         stored = same-stored E f out y;
         goes = λ n k p x d R.
-            let q : phase_of E f ≡ wrong f.place = ap (λ (z : Stage). phase_by E z f.place f.cursor) w in
-            ap (λ (z : Phase). outcome t n z (preceded (k ∷ []) R)) q ∙ wrong-other t n k R d f.place
+            let q : phase_of E f ≡ wrong j = ap (λ (z : Stage). phase_by E z f.cursor) w in
+            ap (λ (z : Phase). outcome t n z (preceded (k ∷ []) R)) q ∙ wrong-other t n k R d j
             ∙ sym (ap (λ (z : Phase). outcome t n z R) q) ∙ with_none (outcome t n (phase_of E f) R);
       }
 
-  pub stopped-met : f.stage ≡ Stopped → Met t E s i f out f out
+  pub stopped-met : (p : ℕ) → f.stage ≡ Stopped p → Met t E s i f out f out
   unfolding phase_by outcome
-  stopped-met w =
+  stopped-met j w =
       record {
         new = [];
         stored = same-stored E f out y;
         goes = λ n k p x d R.
-            let q : phase_of E f ≡ twice f.place = ap (λ (z : Stage). phase_by E z f.place f.cursor) w in
+            let q : phase_of E f ≡ twice j = ap (λ (z : Stage). phase_by E z f.cursor) w in
             ap (λ (z : Phase). outcome t n z (preceded (k ∷ []) R)) q
             ∙ sym (ap (λ (z : Phase). outcome t n z R) q) ∙ with_none (outcome t n (phase_of E f) R);
       }
@@ -428,7 +428,7 @@ name-signed false x g s i ks a = a
 pub signed_by : (g : Begun) (d : ℕ) (x : Bool) (s : List ℕ) (i : ℕ) (ks : List Token) → (g ≡ Begun.Nothing → ⊥)
     → TokensAt g (named_by g d x) s i ks
     → SignedBy (sign_of g d x) g s i ks
-unfolding SignedBy TokensAt named_by sign_of
+unfolding SignedBy TokensAt named_by
 signed_by Begun.Nothing d x s i ks n a = refl
 signed_by Begun.Comma d x s i ks n a = a
 signed_by Begun.Bracket d x s i ks n a = a
@@ -442,7 +442,6 @@ signed_by Begun.False d x s i ks n a = a
 signed_by Begun.Null d x s i ks n a = a
 
 from_nothing : (g : Begun) (d : ℕ) (x : Bool) → g ≡ Begun.Nothing → sign_of g d x ≡ Sign.Nothing
-unfolding sign_of
 from_nothing g d x e = ap (λ (z : Begun). sign_of z d x) e
 
 -- nothing, or another sign
@@ -500,7 +499,7 @@ module _ (t : ℕ) (E : List Axis) (s : List ℕ) (i : ℕ) (g : Begun) (d : ℕ
 
   -- `data`
   pub data-stored : (x : Stage) → f.stage ≡ x → Stored E f out [] (after_by x f i) out
-  unfolding after_by Counts concat
+  unfolding Counts concat
   data-stored Before w =
       let z : f.done ≡ 0 = subst (λ (q : Stage). Counts E q f.done f.cursor) w y.counts in
       let v = first-reached E y.some-axis in
@@ -520,17 +519,17 @@ module _ (t : ℕ) (E : List Axis) (s : List ℕ) (i : ℕ) (g : Begun) (d : ℕ
         held = sym (append-nil (take (f.done * cell_bytes) out));
       }
   data-stored Within w = stop-stored E f out y i
-  data-stored Wrong w = stop-stored E f out y i
-  data-stored Stopped w = same-stored E f out y
+  data-stored (Wrong q) w = stop-stored E f out y i
+  data-stored (Stopped q) w = same-stored E f out y
 
   pub data-goes : (x : Stage) → f.stage ≡ x → (n : ℕ) (k : Token) → k.place ≡ i + 1 → is_data k ≡ true → (R : Rest)
-      → outcome t n (phase_by E x f.place f.cursor) (preceded (k ∷ []) R) ≡ outcome t n (phase_of E (after_by x f i)) R
-  unfolding after_by phase_by outcome
+      → outcome t n (phase_by E x f.cursor) (preceded (k ∷ []) R) ≡ outcome t n (phase_of E (after_by x f i)) R
+  unfolding phase_by outcome
   data-goes Before w n k p a R = before-data t n k R a (due E)
       ∙ ap (λ (l : List Due). outcome t n (within l) R) (sym (first-reached E y.some-axis).rest)
   data-goes Within w n k p a R = within-data t n k R a (rest_of E f.cursor) ∙ ap (λ (z : ℕ). outcome t n (twice z) R) p
-  data-goes Wrong w n k p a R = wrong-data t n k R a f.place ∙ ap (λ (z : ℕ). outcome t n (twice z) R) p
-  data-goes Stopped w n k p a R = sym (ap (λ (x : Stage). outcome t n (phase_by E x f.place f.cursor) R) w)
+  data-goes (Wrong q) w n k p a R = wrong-data t n k R a q ∙ ap (λ (z : ℕ). outcome t n (twice z) R) p
+  data-goes (Stopped q) w n k p a R = sym (ap (λ (x : Stage). outcome t n (phase_by E x f.cursor) R) w)
 
 -- ---- way by way
 
@@ -562,81 +561,3 @@ module _ (t : ℕ) (E : List Axis) (s : List ℕ) (i : ℕ) where
         let n = rest-closing E f.cursor w.ready.stands e in
         bracket-done t E s i h f out w.ready w.stage closing 93 Wanted.Closing e (λ ds. refl) (λ ds. refl) (λ bs. refl) n.0
         n.1 r v
-
-module _ (f : Fit) (i : ℕ) where
-  after-as : (x : Stage) → f.stage ≡ x → after_data f i ≡ after_by x f i
-  after-as x e = ap (λ (z : Stage). after_by z f i) e
-
-  pub data-first : f.stage ≡ Before → (c : Cursor) → c ≡ first_due
-      → record { stage = Within; place = 0; done = f.done; cursor = c } ≡ after_data f i
-  unfolding after_by
-  data-first e c q = ap (λ (z : Cursor). record { stage = Within; place = 0; done = f.done; cursor = z }) q ∙ sym (after-as Before e)
-
-  pub data-within : f.stage ≡ Within → (r : Fit) → r ≡ stopping f i → r ≡ after_data f i
-  unfolding after_by
-  data-within e r q = q ∙ sym (after-as Within e)
-
-  pub data-wrong : f.stage ≡ Wrong → (r : Fit) → r ≡ stopping f i → r ≡ after_data f i
-  unfolding after_by
-  data-wrong e r q = q ∙ sym (after-as Wrong e)
-
-  pub data-stopped : f.stage ≡ Stopped → f ≡ after_data f i
-  unfolding after_by
-  data-stopped e = sym (after-as Stopped e)
-
-module _ (d : ℕ) (x : Bool) where
-  pub sign-inner : (d ≡ 1 → ⊥) → Sign.Other ≡ name_sign d x
-  sign-inner n = let q : eqb d 1 ≡ false = ne_eqb d 1 n in rw q
-
-  pub sign-data : d ≡ 1 → x ≡ true → Sign.Data ≡ name_sign d x
-  sign-data e q = let p : eqb d 1 ≡ true = eq-eqb d 1 e in rw (p, q)
-
-  pub sign-other : d ≡ 1 → x ≡ false → Sign.Other ≡ name_sign d x
-  sign-other e q = let p : eqb d 1 ≡ true = eq-eqb d 1 e in rw (p, q)
-
-pub sign-as : (g h : Begun) (d : ℕ) (x : Bool) → g ≡ h → sign_of g d x ≡ sign_of h d x
-sign-as g h d x e = ap (λ (z : Begun). sign_of z d x) e
-
-pub sign-comma : (d : ℕ) (x : Bool) → sign_of Begun.Comma d x ≡ Sign.Comma
-unfolding sign_of
-sign-comma d x = refl
-
-pub sign-bracket : (d : ℕ) (x : Bool) → sign_of Begun.Bracket d x ≡ Sign.Other
-unfolding sign_of
-sign-bracket d x = refl
-
-pub sign_text : (d : ℕ) (x : Bool) → sign_of Begun.Text d x ≡ Sign.Other
-unfolding sign_of
-sign_text d x = refl
-
-pub sign-minus : (d : ℕ) (x : Bool) → sign_of Begun.Minus d x ≡ Sign.Other
-unfolding sign_of
-sign-minus d x = refl
-
-pub sign_zero : (d : ℕ) (x : Bool) → sign_of Begun.Zero d x ≡ Sign.Other
-unfolding sign_of
-sign_zero d x = refl
-
-pub sign-digit : (d : ℕ) (x : Bool) → sign_of Begun.Digit d x ≡ Sign.Other
-unfolding sign_of
-sign-digit d x = refl
-
-pub sign-true : (d : ℕ) (x : Bool) → sign_of Begun.True d x ≡ Sign.Other
-unfolding sign_of
-sign-true d x = refl
-
-pub sign-false : (d : ℕ) (x : Bool) → sign_of Begun.False d x ≡ Sign.Other
-unfolding sign_of
-sign-false d x = refl
-
-pub sign-null : (d : ℕ) (x : Bool) → sign_of Begun.Null d x ≡ Sign.Other
-unfolding sign_of
-sign-null d x = refl
-
-pub sign-name : (d : ℕ) (x : Bool) → sign_of Begun.Name d x ≡ name_sign d x
-unfolding sign_of
-sign-name d x = refl
-
-pub sign-nothing : (d : ℕ) (x : Bool) → sign_of Begun.Nothing d x ≡ Sign.Nothing
-unfolding sign_of
-sign-nothing d x = refl

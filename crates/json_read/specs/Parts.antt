@@ -1,5 +1,5 @@
 -- The rest of what a byte began, and where blanks may stand.
-use Rattle.std.specs.Prelude.{ℕ, zero, suc, ◌+◌, ◌≤◌, ◌<◌, ◌≡◌, true, false, length, get_or, None, Some}
+use Rattle.std.specs.Prelude.{ℕ, zero, suc, ◌+◌, ◌≤◌, ◌<◌, ◌≡◌, true, length, get_or, Ok, Err, None, Some}
 use Rattle.std.proofs.Math.Path.{refl}
 use Rattle.std.proofs.Common.{sym, ap, ◌∙◌, subst, arith}
 use mathlib.Core.List.{List, [], ◌∷◌, ◌++◌}
@@ -9,12 +9,12 @@ use Rattle.paper.specs.Grammar.{after_zero, after_digit}
 use Rattle.paper.specs.Grammar.{value, items, more_items, object, members, member, more_members}
 use Rattle.paper.specs.Machine.{chosen, settled, move, step}
 use Rattle.paper.specs.JsonRead.{token_of}
-use Rattle.json_text.specs.declared.Ended.{Ended}
+use Rattle.json_text.specs.declared.Fault.{Fault}
 use Rattle.json_text.specs.Words.{letters}
 use Rattle.json_text.specs.Bytes.{not_byte}
 use Rattle.json_levels.specs.Tokens.{among-more, among_none}
-use Rattle.json_text.specs.Left.{left, reached, Ends, left_end, left-stops}
-use Rattle.json_text.specs.Numbers.{Moves, moved-left, Stays, PassedOver, NumberEnds, ended}
+use Rattle.json_text.specs.Left.{Ended, fault_at, byte_of, left, reached, Ends, left_end, left-stops}
+use Rattle.json_text.specs.Numbers.{Moves, moved-left, Stays, PassedOver, NumberEnds}
 use Rattle.json_levels.specs.declared.Begun.{Begun}
 use Rattle.json_levels.specs.declared.Begun.TheVariants.{Nothing, Comma, Bracket, Name, Text, Minus, Zero, Digit, True, False, Null}
 use Rattle.json_levels.specs.declared.Next.{Next}
@@ -23,8 +23,8 @@ use Rattle.json_levels.specs.Parts.{first_of, inside, more, around, parts_at, he
 
 -- what was begun ends so, before what is behind it
 pub record BegunEnds (s : List ℕ) (g : Begun) (i : ℕ) (e : Ended) : Type 0 where
-  pub within : e.at ≤ length s
-  pub onward : i ≤ e.at
+  pub within : byte_of e ≤ length s
+  pub onward : i ≤ byte_of e
   pub goes : (gs : List Part) → Behind g gs → left s (head_of g ++ gs) i ≡ reached s gs e
 
 -- ---- blanks
@@ -73,7 +73,7 @@ module _ (s : List ℕ) (i j : ℕ) (p : PassedOver blank s i j) where
   to-colon : (gs : List Part) → left s (colon ∷ gs) i ≡ left s (colon ∷ gs) j
   to-colon gs = p.over (colon ∷ gs) (colon-stays gs)
 
-  pub colon-missing : length s ≤ j → Ends s (colon ∷ []) i (ended j false)
+  pub colon-missing : length s ≤ j → Ends s (colon ∷ []) i (fault_at j)
   colon-missing h =
       record { within = p.within; onward = p.onward; goes = λ gs. to-colon gs ∙ left_end s (colon ∷ gs) j h refl }
 
@@ -82,7 +82,7 @@ module _ (s : List ℕ) (i j : ℕ) (p : PassedOver blank s i j) where
     unfolding settled optional move rules chosen
     colon-none n gs = rw (p.other h, not_byte 58 (get_or s j 0) [] n ∙ among_none (get_or s j 0)) refl
 
-    pub colon-other : (get_or s j 0 ≡ 58 → ⊥) → Ends s (colon ∷ []) i (ended j false)
+    pub colon-other : (get_or s j 0 ≡ 58 → ⊥) → Ends s (colon ∷ []) i (fault_at j)
     colon-other n =
         record {
           within = p.within;
@@ -94,7 +94,7 @@ module _ (s : List ℕ) (i j : ℕ) (p : PassedOver blank s i j) where
     unfolding settled optional move rules chosen among token_of
     colon-moves e gs = record { goes = rw e refl; quiet = λ k bs. refl }
 
-    pub colon-there : get_or s j 0 ≡ 58 → Ends s (colon ∷ []) i (ended (j + 1) true)
+    pub colon-there : get_or s j 0 ≡ 58 → Ends s (colon ∷ []) i (Ok (j + 1))
     colon-there e =
         record {
           within = omega arith;
@@ -104,22 +104,21 @@ module _ (s : List ℕ) (i j : ℕ) (p : PassedOver blank s i j) where
 
 -- ---- a name
 
-pub name-stops : (s : List ℕ) (i : ℕ) (e : Ended) → Ends s (chars ∷ []) i e → e.sound ≡ false → Ends s (chars ∷ colon ∷ []) i e
-name-stops s i e v q =
-    record { within = v.within; onward = v.onward; goes = λ gs. v.goes (colon ∷ gs) ∙ rw q refl }
+module _ (s : List ℕ) (i : ℕ) where
+  pub name-stops : (f : Fault) → Ends s (chars ∷ []) i (Err f) → Ends s (chars ∷ colon ∷ []) i (Err f)
+  name-stops f v = record { within = v.within; onward = v.onward; goes = λ gs. v.goes (colon ∷ gs) }
 
-pub name-then : (s : List ℕ) (i : ℕ) (e f : Ended) → Ends s (chars ∷ []) i e → e.sound ≡ true → Ends s (colon ∷ []) e.at f
-    → Ends s (chars ∷ colon ∷ []) i f
-name-then s i e f v q w =
-    record {
-      within = w.within;
-      onward = omega (arith, v.onward, w.onward);
-      goes = λ gs. v.goes (colon ∷ gs) ∙ rw q (w.goes gs);
-    }
+  pub name-then : (j : ℕ) (e : Ended) → Ends s (chars ∷ []) i (Ok j) → Ends s (colon ∷ []) j e → Ends s (chars ∷ colon ∷ []) i e
+  name-then j e v w =
+      record {
+        within = w.within;
+        onward = omega (arith, v.onward, w.onward);
+        goes = λ gs. v.goes (colon ∷ gs) ∙ w.goes gs;
+      }
 
 -- ---- each by what was begun
 
-pub nothing-more : (s : List ℕ) (g : Begun) (i : ℕ) → i ≤ length s → head_of g ≡ [] → BegunEnds s g i (ended i true)
+pub nothing-more : (s : List ℕ) (g : Begun) (i : ℕ) → i ≤ length s → head_of g ≡ [] → BegunEnds s g i (Ok i)
 nothing-more s g i h e =
     record { within = h; onward = omega arith; goes = λ gs b. ap (λ (l : List Part). left s (l ++ gs) i) e }
 
@@ -145,15 +144,15 @@ pub begun-as : (s : List ℕ) (g h : Begun) (i : ℕ) (e : Ended) → g ≡ h �
 begun-as s g h i e q v = subst (λ (x : Begun). BegunEnds s x i e) (sym q) v
 
 module _ (s : List ℕ) (i : ℕ) where
-  pub after_nothing : i ≤ length s → BegunEnds s Nothing i (ended i true)
+  pub after_nothing : i ≤ length s → BegunEnds s Nothing i (Ok i)
   unfolding head_of
   after_nothing h = nothing-more s Nothing i h refl
 
-  pub after-comma : i ≤ length s → BegunEnds s Comma i (ended i true)
+  pub after-comma : i ≤ length s → BegunEnds s Comma i (Ok i)
   unfolding head_of
   after-comma h = nothing-more s Comma i h refl
 
-  pub after-bracket : i ≤ length s → BegunEnds s Bracket i (ended i true)
+  pub after-bracket : i ≤ length s → BegunEnds s Bracket i (Ok i)
   unfolding head_of
   after-bracket h = nothing-more s Bracket i h refl
 

@@ -1,10 +1,13 @@
 -- The loop over a text: after each token, what reading comes to is what is left of it comes to, with the cells that are stored.
-use Rattle.std.specs.Prelude.{ℕ, zero, suc, ◌+◌, ◌*◌, ◌≤◌, ◌<◌, ◌≡◌, Bool, true, false, ◌⊎◌, eqb, length, take, drop, get_or, None, Some, Ok, Err}
+use Rattle.std.specs.Prelude.{ℕ, zero, suc, ◌+◌, ◌*◌, ◌≤◌, ◌<◌, ◌≡◌, Bool, true, false, ◌⊎◌, eqb, length, take, drop, get_or, Option, None, Some, Result, Ok, Err}
+use Rattle.std.proofs.lemmas.Option.{none-some, same_Some}
 use Rattle.std.proofs.Math.Path.{refl, ap, subst}
 use Rattle.std.proofs.Common.{sym, ◌∙◌, inl, inr, arith, eqb-true, length-append, drop_of_length-le}
 use mathlib.Core.List.{List, [], ◌∷◌, ◌++◌, append-nil, append_assoc}
 use Rattle.paper.specs.declared.Axis.{Axis}
 use Rattle.paper.specs.declared.Cell.{Cell}
+use Rattle.paper.specs.declared.JsonRefusal.{JsonRefusal}
+use Rattle.paper.specs.declared.JsonRefusal.TheVariants as Json
 use Rattle.paper.specs.Limits.{most_cells, cell_bytes}
 use Rattle.paper.specs.Refusals.{Res, ◌>>=◌, refusal, not_json15, misfit16}
 use Rattle.paper.specs.Numbers.{concat}
@@ -15,8 +18,8 @@ use Rattle.paper.specs.Machine.{complete, fault_from, settled, step}
 use Rattle.paper.specs.JsonRead.{token_of, tokens_from, data_of, Due, opening, closing, cell, due, fitted}
 use Rattle.laws.specs.Limits.{Sound}
 use Rattle.json_text.specs.Kinds.{no_true}
-use Rattle.json_text.specs.declared.Ended.{Ended}
-use Rattle.json_text.specs.Left.{Rest, left, reached, left_end, left-stops, left-token}
+use Rattle.json_text.specs.declared.Fault.{Fault}
+use Rattle.json_text.specs.Left.{Ended, Rest, left, reached, left_end, left-stops, left-token}
 use Rattle.json_text.specs.Numbers.{PassedOver}
 use Rattle.json_levels.specs.declared.Levels.{Levels}
 use Rattle.json_levels.specs.declared.Next.{Next}
@@ -31,20 +34,27 @@ use Rattle.json_due.specs.Due.{rest-value}
 use Rattle.json_read.specs.declared.fit.Stage.{Stage}
 use Rattle.json_read.specs.declared.fit.Stage.TheVariants.{Before, Within, Wrong, Stopped}
 use Rattle.json_read.specs.declared.fit.Fit.{Fit}
-use Rattle.json_read.specs.declared.scan.Found.{Found}
+use Rattle.json_read.specs.declared.scan.TextFault.{TextFault}
+use Rattle.json_read.specs.declared.scan.TextFault.TheVariants.{NotJson, Misfit}
 use Rattle.json_read.specs.Outcome.{before, within, outcome, with, Alive, all_left, with_none, with-more}
 use Rattle.json_read.specs.Outcome.{stopped}
 use Rattle.json_read.specs.Outcome.{done, done-before, done-over, done-short, done-wrong}
 use Rattle.json_read.specs.Parts.{BegunEnds, parts_stay}
 use Rattle.json_read.specs.Fit.{phase_by, phase_of, Counts, Ready, waiting, TokenMet}
 
-unfoldable pub stopped? : Stage → Bool
-stopped? Before = false
-stopped? Within = false
-stopped? Wrong = false
-stopped? Stopped = true
+-- the byte that ended it all
+abbrev pub stop_of : Stage → Option ℕ
+stop_of Before = None
+stop_of Within = None
+stop_of (Wrong p) = None
+stop_of (Stopped p) = Some p
 
-unfoldable pub ended_by : Next → ℕ → Bool
+-- what the caller is told
+abbrev pub refusal_of : TextFault → JsonRefusal
+refusal_of (NotJson i) = Json.NotJson i
+refusal_of (Misfit i) = Json.Misfit i
+
+abbrev pub ended_by : Next → ℕ → Bool
 ended_by Next.Object d = false
 ended_by Next.First d = false
 ended_by Next.More d = eqb d 0
@@ -54,19 +64,19 @@ ended_by Next.Member d = false
 abbrev pub ended? : Levels → Bool
 ended? v = ended_by v.next v.depth
 
-unfoldable pub due_found : Wanted → ℕ → Found
-due_found Wanted.Nothing n = Found.Cells n
-due_found Wanted.Opening n = Found.Misfit 0
-due_found Wanted.Closing n = Found.Misfit 0
-due_found Wanted.Value n = Found.Misfit 0
+abbrev pub due_found : Wanted → ℕ → Result ℕ TextFault
+due_found Wanted.Nothing n = Ok n
+due_found Wanted.Opening n = Err (Misfit 0)
+due_found Wanted.Closing n = Err (Misfit 0)
+due_found Wanted.Value n = Err (Misfit 0)
 
-unfoldable pub found_by : Stage → ℕ → Fit → Found
-found_by Before n f = Found.NotJson n
+abbrev pub found_by : Stage → ℕ → Fit → Result ℕ TextFault
+found_by Before n f = Err (NotJson n)
 found_by Within n f = due_found f.cursor.wanted f.done
-found_by Wrong n f = Found.Misfit f.place
-found_by Stopped n f = Found.NotJson f.place
+found_by (Wrong p) n f = Err (Misfit p)
+found_by (Stopped p) n f = Err (NotJson p)
 
-abbrev pub end_found : ℕ → Fit → Found
+abbrev pub end_found : ℕ → Fit → Result ℕ TextFault
 end_found n f = found_by f.stage n f
 
 -- ---- what a text comes to
@@ -88,10 +98,10 @@ pub record CellsFound (t : ℕ) (E : List Axis) (s out : List ℕ) (n : ℕ) : T
   pub full : n ≡ cells E
   pub held : take (n * cell_bytes) out ≡ cells_bytes found
 
-unfoldable pub ScanFound : ℕ → List Axis → List ℕ → List ℕ → Found → Type 0
-ScanFound t E s out (Found.Cells n) = CellsFound t E s out n
-ScanFound t E s out (Found.NotJson i) = whole_of t E s ≡ Err (refusal not_json15 0 i)
-ScanFound t E s out (Found.Misfit i) = whole_of t E s ≡ Err (refusal misfit16 0 i)
+unfoldable pub ScanFound : ℕ → List Axis → List ℕ → List ℕ → Result ℕ TextFault → Type 0
+ScanFound t E s out (Ok n) = CellsFound t E s out n
+ScanFound t E s out (Err (NotJson i)) = whole_of t E s ≡ Err (refusal not_json15 0 i)
+ScanFound t E s out (Err (Misfit i)) = whole_of t E s ≡ Err (refusal misfit16 0 i)
 
 -- ---- on the way
 
@@ -189,10 +199,10 @@ nothing-none : (g : Begun) (gs : List Part) → g ≡ Begun.Nothing → comes g 
 unfolding comes
 nothing-none g gs e = ap (λ (x : Begun). comes x gs) e
 
-twice-refused : (E : List Axis) (g : Fit) → g.stage ≡ Stopped → (t n : ℕ) (cs : List Cell) (R : Rest)
-    → with cs (outcome t n (phase_of E g) R) ≡ Err (refusal not_json15 0 g.place)
+twice-refused : (E : List Axis) (g : Fit) (p : ℕ) → g.stage ≡ Stopped p → (t n : ℕ) (cs : List Cell) (R : Rest)
+    → with cs (outcome t n (phase_of E g) R) ≡ Err (refusal not_json15 0 p)
 unfolding phase_by outcome
-twice-refused E g e t n cs R = ap (λ (x : Stage). with cs (outcome t n (phase_by E x g.place g.cursor) R)) e
+twice-refused E g p e t n cs R = ap (λ (x : Stage). with cs (outcome t n (phase_by E x g.cursor) R)) e
 
 cells-append : (cs ds : List Cell) → cells_bytes (cs ++ ds) ≡ cells_bytes cs ++ cells_bytes ds
 unfolding concat
@@ -201,28 +211,26 @@ cells-append (c ∷ cs) ds = ap (λ (l : List ℕ). encode c ++ l) (cells-append
     ∙ sym (append_assoc (encode c) (cells_bytes cs) (cells_bytes ds))
 
 -- no second `data` yet
-stage-alive : (E : List Axis) (x : Stage) (p : ℕ) (c : Cursor) → stopped? x ≡ false → Alive (phase_by E x p c)
-unfolding stopped? phase_by
-stage-alive E Before p c e = tt
-stage-alive E Within p c e = tt
-stage-alive E Wrong p c e = tt
-stage-alive E Stopped p c e = no_true (sym e)
+stage-alive : (E : List Axis) (x : Stage) (c : Cursor) → stop_of x ≡ None → Alive (phase_by E x c)
+unfolding phase_by
+stage-alive E Before c e = tt
+stage-alive E Within c e = tt
+stage-alive E (Wrong p) c e = tt
+stage-alive E (Stopped p) c e = absurd (none-some p (sym e))
 
-stage-stopped : (x : Stage) → stopped? x ≡ true → x ≡ Stopped
-unfolding stopped?
-stage-stopped Before e = no_true e
-stage-stopped Within e = no_true e
-stage-stopped Wrong e = no_true e
-stage-stopped Stopped e = refl
+stage-stopped : (x : Stage) (p : ℕ) → stop_of x ≡ Some p → x ≡ Stopped p
+stage-stopped Before p e = absurd (none-some p e)
+stage-stopped Within p e = absurd (none-some p e)
+stage-stopped (Wrong q) p e = absurd (none-some p e)
+stage-stopped (Stopped q) p e = ap Stopped (same_Some q p e)
 
 module _ (t : ℕ) (E : List Axis) (s : List ℕ) (v : Levels) (f : Fit) (i : ℕ) (out : List ℕ) (a : Along t E s v f i out) (h : i < length s)
     (r : Turn) (u : Turned v (get_or s i 0) r) (g : Fit) (after : List ℕ) (m : TokenMet t E s i r.begun v.depth f out g after) where
   abbrev past : ℕ
   past = length s + 1
 
-  not-nothing : stopped? g.stage ≡ false → r.begun ≡ Begun.Nothing → ⊥
-  unfolding stopped?
-  not-nothing e q = no_true (sym e ∙ ap (λ (x : Fit). stopped? x.stage) (m.stopped q))
+  not-nothing : stop_of g.stage ≡ None → r.begun ≡ Begun.Nothing → ⊥
+  not-nothing e q = none-some (i + 1) (sym e ∙ ap (λ (x : Fit). stop_of x.stage) (m.stopped q))
 
   to-rest : (r.begun ≡ Begun.Nothing → ⊥)
       → whole_of t E s ≡ with (a.had ++ m.new) (outcome t past (phase_of E g) (left s (head_of r.begun ++ parts_of r.levels) (i + 1)))
@@ -237,43 +245,44 @@ module _ (t : ℕ) (E : List Axis) (s : List ℕ) (v : Levels) (f : Fit) (i : �
       ∙ with-more a.had m.new (outcome t past (phase_of E g) R)))
 
   -- it ends there
-  pub turn_stopped : stopped? g.stage ≡ true → whole_of t E s ≡ Err (refusal not_json15 0 g.place)
-  turn_stopped e = by (nothing-or r.begun)
+  pub turn_stopped : (p : ℕ) → stop_of g.stage ≡ Some p → whole_of t E s ≡ Err (refusal not_json15 0 p)
+  turn_stopped p e = by (nothing-or r.begun)
     where
-      by : (r.begun ≡ Begun.Nothing) ⊎ (r.begun ≡ Begun.Nothing → ⊥) → whole_of t E s ≡ Err (refusal not_json15 0 g.place)
+      by : (r.begun ≡ Begun.Nothing) ⊎ (r.begun ≡ Begun.Nothing → ⊥) → whole_of t E s ≡ Err (refusal not_json15 0 p)
       by (inl q) =
           let z : step (parts_of v) (get_or s i 0) ≡ None = u.goes ∙ nothing-none r.begun (parts_of r.levels) q in
           a.comes-to
           ∙ (ap (λ (x : Rest). with a.had (outcome t past (phase_of E f) x)) (left-stops s (parts_of v) i h z)
           ∙ (ap (with a.had) (stopped t past i (phase_of E f) a.alive)
-          ∙ ap (λ (x : Fit). Err (refusal not_json15 0 x.place)) (sym (m.stopped q))))
-      by (inr n) = to-rest n ∙ twice-refused E g (stage-stopped g.stage e) t past (a.had ++ m.new)
+          ∙ ap (λ (n : ℕ). Err (refusal not_json15 0 n)) (same_Some (i + 1) p (ap (λ (x : Fit). stop_of x.stage) (sym (m.stopped q)) ∙ e))))
+      by (inr n) = to-rest n ∙ twice-refused E g p (stage-stopped g.stage p e) t past (a.had ++ m.new)
           (left s (head_of r.begun ++ parts_of r.levels) (i + 1))
 
-  module _ (e : stopped? g.stage ≡ false) (x : Ended) (b : BegunEnds s r.begun (i + 1) x) where
+  module _ (e : stop_of g.stage ≡ None) (x : Ended) (b : BegunEnds s r.begun (i + 1) x) where
     to-reached : whole_of t E s ≡ with (a.had ++ m.new) (outcome t past (phase_of E g) (reached s (parts_of r.levels) x))
     to-reached = to-rest (not-nothing e) ∙ ap (λ (y : Rest). with (a.had ++ m.new) (outcome t past (phase_of E g) y))
         (b.goes (parts_of r.levels) u.behind)
 
     -- what was begun stops being JSON
-    pub turn-unsound : x.sound ≡ false → whole_of t E s ≡ Err (refusal not_json15 0 (x.at + 1))
-    turn-unsound q =
-        to-reached ∙ (rw q (ap (with (a.had ++ m.new)) (stopped t past x.at (phase_of E g)
-        (stage-alive E g.stage g.place g.cursor e))))
+    pub turn-unsound : (y : Fault) → x ≡ Err y → whole_of t E s ≡ Err (refusal not_json15 0 (y.0 + 1))
+    turn-unsound y q =
+        to-reached ∙ (rw q (ap (with (a.had ++ m.new)) (stopped t past y.0 (phase_of E g)
+        (stage-alive E g.stage g.cursor e))))
 
     -- the next turn
-    pub turn-again : x.sound ≡ true → (j : ℕ) → PassedOver blank s x.at j → Along t E s r.levels g j after
-    turn-again q j p =
+    pub turn-again : (k : ℕ) → x ≡ Ok k → (j : ℕ) → PassedOver blank s k j → Along t E s r.levels g j after
+    turn-again k q j p =
         record {
           within_text = p.within;
           standing = u.stands;
           ready = m.stored.ready;
-          alive = stage-alive E g.stage g.place g.cursor e;
+          alive = stage-alive E g.stage g.cursor e;
           other = p.other;
           had = a.had ++ m.new;
           comes-to =
               to-reached
-              ∙ (rw q (ap (λ (y : Rest). with (a.had ++ m.new) (outcome t past (phase_of E g) y))
+              ∙ (ap (λ (y : Ended). with (a.had ++ m.new) (outcome t past (phase_of E g) (reached s (parts_of r.levels) y))) q
+              ∙ (ap (λ (y : Rest). with (a.had ++ m.new) (outcome t past (phase_of E g) y))
               (p.over (parts_of r.levels) (parts_stay r.levels.next r.levels.depth r.levels.bits))));
           number = m.stored.number ∙ (ap (λ (n : ℕ). n + length m.new) a.number ∙ sym (length-append a.had m.new));
           held = m.stored.held ∙ (ap (λ (l : List ℕ). l ++ cells_bytes m.new) a.held ∙ sym (cells-append a.had m.new));
@@ -282,7 +291,7 @@ module _ (t : ℕ) (E : List Axis) (s : List ℕ) (v : Levels) (f : Fit) (i : �
 -- ---- the end of the text
 
 parts-open : (x : Next) (d c : ℕ) → ended_by x d ≡ false → complete (parts_at x d c) ≡ false
-unfolding ended_by more
+unfolding more
 parts-open Next.Object d c e = refl
 parts-open Next.First d c e = refl
 parts-open Next.More zero c e = e
@@ -291,7 +300,7 @@ parts-open Next.Value d c e = refl
 parts-open Next.Member d c e = refl
 
 parts-over : (x : Next) (d c : ℕ) → ended_by x d ≡ true → parts_at x d c ≡ []
-unfolding ended_by more
+unfolding more
 parts-over Next.Object d c e = no_true e
 parts-over Next.First d c e = no_true e
 parts-over Next.More zero c e = refl
@@ -325,8 +334,8 @@ module _ (t : ℕ) (E : List Axis) (s : List ℕ) (v : Levels) (f : Fit) (i : �
         ∙ (ap (λ (x : Rest). with a.had (outcome t (length s + 1) (phase_of E f) x)) (left-done s i h)
         ∙ ap (λ (n : ℕ). with a.had (outcome t (n + 1) (phase_of E f) done)) (sym at-end)))
 
-    to-stage : (x : Stage) → f.stage ≡ x → whole_of t E s ≡ with a.had (outcome t (i + 1) (phase_by E x f.place f.cursor) done)
-    to-stage x q = to-done ∙ ap (λ (y : Stage). with a.had (outcome t (i + 1) (phase_by E y f.place f.cursor) done)) q
+    to-stage : (x : Stage) → f.stage ≡ x → whole_of t E s ≡ with a.had (outcome t (i + 1) (phase_by E x f.cursor) done)
+    to-stage x q = to-done ∙ ap (λ (y : Stage). with a.had (outcome t (i + 1) (phase_by E y f.cursor) done)) q
 
     short : (d : Due) (ds : List Due) → rest_of E f.cursor ≡ d ∷ ds → f.stage ≡ Within → whole_of t E s ≡ Err (refusal misfit16 0 0)
     unfolding phase_by
@@ -353,105 +362,23 @@ module _ (t : ℕ) (E : List Axis) (s : List ℕ) (v : Levels) (f : Fit) (i : �
         }
 
     found_within : (x : Wanted) → f.cursor.wanted ≡ x → f.stage ≡ Within → ScanFound t E s out (due_found x f.done)
-    unfolding due_found ScanFound
+    unfolding ScanFound
     found_within Wanted.Nothing q w = full-cells (rest-nothing E f.cursor a.ready.stands q) w
     found_within Wanted.Opening q w = let n = rest-opening E f.cursor a.ready.stands q in short opening n.0 n.1 w
     found_within Wanted.Closing q w = let n = rest-closing E f.cursor a.ready.stands q in short closing n.0 n.1 w
     found_within Wanted.Value q w = let n = rest-value E f.cursor a.ready.stands q in short cell n.0 n.1 w
 
     found-by : (x : Stage) → f.stage ≡ x → ScanFound t E s out (found_by x (i + 1) f)
-    unfolding found_by ScanFound phase_by outcome
+    unfolding ScanFound phase_by outcome
     found-by Before w = to-stage Before w ∙ ap (with a.had) (done-before t (i + 1) (due E))
     found-by Within w = found_within f.cursor.wanted refl w
-    found-by Wrong w = to-stage Wrong w ∙ ap (with a.had) (done-wrong t (i + 1) f.place)
-    found-by Stopped w = to-stage Stopped w
+    found-by (Wrong p) w = to-stage (Wrong p) w ∙ ap (with a.had) (done-wrong t (i + 1) p)
+    found-by (Stopped p) w = to-stage (Stopped p) w
 
-    pub end-closed : (r : Found) → r ≡ end_found (i + 1) f → ScanFound t E s out r
+    pub end-closed : (r : Result ℕ TextFault) → r ≡ end_found (i + 1) f → ScanFound t E s out r
     end-closed r q = subst (ScanFound t E s out) (sym q) (found-by f.stage refl)
 
 pub not-json : (t : ℕ) (E : List Axis) (s out : List ℕ) (i : ℕ) → whole_of t E s ≡ Err (refusal not_json15 0 i)
-    → ScanFound t E s out (Found.NotJson i)
+    → ScanFound t E s out (Err (NotJson i))
 unfolding ScanFound
 not-json t E s out i e = e
-
--- ---- way by way
-
-pub stage_is : (x y : Stage) (b : Bool) → y ≡ x → stopped? x ≡ b → b ≡ stopped? y
-stage_is x y b e q = sym (ap stopped? e ∙ q)
-
-pub stopped-before : stopped? Before ≡ false
-unfolding stopped?
-stopped-before = refl
-
-pub stopped-within : stopped? Within ≡ false
-unfolding stopped?
-stopped-within = refl
-
-pub stopped-wrong : stopped? Wrong ≡ false
-unfolding stopped?
-stopped-wrong = refl
-
-pub stopped-stopped : stopped? Stopped ≡ true
-unfolding stopped?
-stopped-stopped = refl
-
-pub ended_is : (x : Next) (v : Levels) (b : Bool) → v.next ≡ x → ended_by x v.depth ≡ b → b ≡ ended? v
-ended_is x v b e q = sym (ap (λ (y : Next). ended_by y v.depth) e ∙ q)
-
-pub ended-object : (d : ℕ) → ended_by Next.Object d ≡ false
-unfolding ended_by
-ended-object d = refl
-
-pub ended-first : (d : ℕ) → ended_by Next.First d ≡ false
-unfolding ended_by
-ended-first d = refl
-
-pub ended-value : (d : ℕ) → ended_by Next.Value d ≡ false
-unfolding ended_by
-ended-value d = refl
-
-pub ended-member : (d : ℕ) → ended_by Next.Member d ≡ false
-unfolding ended_by
-ended-member d = refl
-
-pub ended-more : (d : ℕ) → ended_by Next.More d ≡ eqb d 0
-unfolding ended_by
-ended-more d = refl
-
-pub due-is : (x w : Wanted) (n : ℕ) (r : Found) → w ≡ x → r ≡ due_found x n → r ≡ due_found w n
-due-is x w n r e q = q ∙ ap (λ (y : Wanted). due_found y n) (sym e)
-
-pub due-nothing : (n : ℕ) → Found.Cells n ≡ due_found Wanted.Nothing n
-unfolding due_found
-due-nothing n = refl
-
-pub due-opening : (n : ℕ) → Found.Misfit 0 ≡ due_found Wanted.Opening n
-unfolding due_found
-due-opening n = refl
-
-pub due-closing : (n : ℕ) → Found.Misfit 0 ≡ due_found Wanted.Closing n
-unfolding due_found
-due-closing n = refl
-
-pub due-value : (n : ℕ) → Found.Misfit 0 ≡ due_found Wanted.Value n
-unfolding due_found
-due-value n = refl
-
-pub found-is : (x : Stage) (n : ℕ) (f : Fit) (r : Found) → f.stage ≡ x → r ≡ found_by x n f → r ≡ end_found n f
-found-is x n f r e q = q ∙ ap (λ (y : Stage). found_by y n f) (sym e)
-
-pub found_before : (n : ℕ) (f : Fit) → Found.NotJson n ≡ found_by Before n f
-unfolding found_by
-found_before n f = refl
-
-pub found-within-is : (n : ℕ) (f : Fit) → due_found f.cursor.wanted f.done ≡ found_by Within n f
-unfolding found_by
-found-within-is n f = refl
-
-pub found-wrong : (n : ℕ) (f : Fit) → Found.Misfit f.place ≡ found_by Wrong n f
-unfolding found_by
-found-wrong n f = refl
-
-pub found-stopped : (n : ℕ) (f : Fit) → Found.NotJson f.place ≡ found_by Stopped n f
-unfolding found_by
-found-stopped n f = refl

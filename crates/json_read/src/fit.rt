@@ -16,20 +16,19 @@ use json_text::cells::cell_at;
 use json_text::names::is_data;
 use paper::{CELL_BYTES, Extent};
 
-// Before `data`; in its value or after it; after a misfit; after a byte that ends it all.
+// Before `data`; in its value or after it; after a misfit, by its place; after a byte that ends it all, by its place.
 #[derive(Clone, Copy)]
 pub enum Stage {
     Before,
     Within,
-    Wrong,
-    Stopped,
+    Wrong(usize),
+    Stopped(usize),
 }
 
-// That, the place of the misfit or of that byte, the number of cells stored, and what is due.
+// That, the number of cells stored, and what is due.
 #[derive(Clone, Copy)]
 pub struct Fit {
     pub stage: Stage,
-    pub place: usize,
     pub done: usize,
     pub cursor: Cursor,
 }
@@ -49,7 +48,6 @@ pub fn fit_first() -> Fit
 {
     Fit {
         stage: Stage::Before,
-        place: 0,
         done: 0,
         cursor: due_first(),
     }
@@ -62,12 +60,9 @@ fn misfit(fit: Fit, at: usize) -> Fit
     requires { at < 2 ^ 63 }
     ensures { result ≡ misfitting fit at }
 {
-    let cursor = fit.cursor;
     Fit {
-        stage: Stage::Wrong,
-        place: at + 1,
-        done: fit.done,
-        cursor,
+        stage: Stage::Wrong(at + 1),
+        ..fit
     }
 }
 
@@ -76,12 +71,10 @@ fn fitting(e: Extent, fit: Fit, done: usize) -> Fit
     requires { Sound (axes_of e) × Stands (axes_of e) fit.cursor }
     ensures { FitsOn (axes_of e) fit.cursor done result }
 {
-    let cursor = due_after(e, fit.cursor);
     Fit {
         stage: Stage::Within,
-        place: 0,
         done,
-        cursor,
+        cursor: due_after(e, fit.cursor),
     }
 }
 
@@ -101,13 +94,12 @@ fn value_met(s: &[u8], at: usize, kind: u8, e: Extent, fit: Fit, out: &mut [u8])
     requires { (at < length s.now) × ValueDue (axes_of e) fit (length out.old) }
     ensures { Met kind (axes_of e) s.now at fit out.old result out.new }
 {
-    let value = cell_at(s, at, kind);
-    match value {
+    match cell_at(s, at, kind) {
         Some(c) => {
             write_cell(out, fit.done * CELL_BYTES, c);
-            return fitting(e, fit, fit.done + 1);
+            fitting(e, fit, fit.done + 1)
         }
-        None => return misfit(fit, at),
+        None => misfit(fit, at),
     }
 }
 
@@ -116,13 +108,11 @@ fn within_met(s: &[u8], at: usize, kind: u8, e: Extent, fit: Fit, out: &mut [u8]
     requires { (at < length s.now) × WithinDue (axes_of e) fit (length out.old) }
     ensures { Met kind (axes_of e) s.now at fit out.old result out.new }
 {
-    let cursor = fit.cursor;
-    let wanted = cursor.wanted;
-    match wanted {
-        Wanted::Nothing => return fit,
-        Wanted::Opening => return bracket_met(s, at, b'[', e, fit),
-        Wanted::Closing => return bracket_met(s, at, b']', e, fit),
-        Wanted::Value => return value_met(s, at, kind, e, fit, out),
+    match fit.cursor.wanted {
+        Wanted::Nothing => fit,
+        Wanted::Opening => bracket_met(s, at, b'[', e, fit),
+        Wanted::Closing => bracket_met(s, at, b']', e, fit),
+        Wanted::Value => value_met(s, at, kind, e, fit, out),
     }
 }
 
@@ -131,12 +121,9 @@ fn other_met(s: &[u8], at: usize, kind: u8, e: Extent, fit: Fit, out: &mut [u8])
     requires { (at < length s.now) × Ready (axes_of e) fit (length out.old) }
     ensures { Met kind (axes_of e) s.now at fit out.old result out.new }
 {
-    let stage = fit.stage;
-    match stage {
-        Stage::Before => return fit,
-        Stage::Within => return within_met(s, at, kind, e, fit, out),
-        Stage::Wrong => return fit,
-        Stage::Stopped => return fit,
+    match fit.stage {
+        Stage::Within => within_met(s, at, kind, e, fit, out),
+        Stage::Before | Stage::Wrong(_) | Stage::Stopped(_) => fit,
     }
 }
 
@@ -147,12 +134,9 @@ fn stop(fit: Fit, at: usize) -> Fit
     requires { at < 2 ^ 63 }
     ensures { result ≡ stopping fit at }
 {
-    let cursor = fit.cursor;
     Fit {
-        stage: Stage::Stopped,
-        place: at + 1,
-        done: fit.done,
-        cursor,
+        stage: Stage::Stopped(at + 1),
+        ..fit
     }
 }
 
@@ -161,20 +145,14 @@ fn data_met(fit: Fit, at: usize) -> Fit
     requires { at < 2 ^ 63 }
     ensures { result ≡ after_data fit at }
 {
-    let stage = fit.stage;
-    match stage {
-        Stage::Before => {
-            let cursor = due_first();
-            return Fit {
-                stage: Stage::Within,
-                place: 0,
-                done: fit.done,
-                cursor,
-            };
-        }
-        Stage::Within => return stop(fit, at),
-        Stage::Wrong => return stop(fit, at),
-        Stage::Stopped => return fit,
+    match fit.stage {
+        Stage::Before => Fit {
+            stage: Stage::Within,
+            cursor: due_first(),
+            ..fit
+        },
+        Stage::Within | Stage::Wrong(_) => stop(fit, at),
+        Stage::Stopped(_) => fit,
     }
 }
 
@@ -185,13 +163,11 @@ fn name_sign(s: &[u8], at: usize, depth: u32) -> Sign
     requires { at < length s.now }
     ensures { result ≡ name_sign depth (spells (text "data") (drop (at + 1) s.now)) }
 {
-    if depth != 1 {
-        return Sign::Other;
+    if depth == 1 && is_data(s, at + 1) {
+        Sign::Data
+    } else {
+        Sign::Other
     }
-    if is_data(s, at + 1) {
-        return Sign::Data;
-    }
-    Sign::Other
 }
 
 fn sign_of(s: &[u8], at: usize, begun: Begun, depth: u32) -> Sign
@@ -199,17 +175,17 @@ fn sign_of(s: &[u8], at: usize, begun: Begun, depth: u32) -> Sign
     ensures { result ≡ sign_of begun depth (spells (text "data") (drop (at + 1) s.now)) }
 {
     match begun {
-        Begun::Nothing => return Sign::Nothing,
-        Begun::Comma => return Sign::Comma,
-        Begun::Bracket => return Sign::Other,
-        Begun::Name => return name_sign(s, at, depth),
-        Begun::Text => return Sign::Other,
-        Begun::Minus => return Sign::Other,
-        Begun::Zero => return Sign::Other,
-        Begun::Digit => return Sign::Other,
-        Begun::True => return Sign::Other,
-        Begun::False => return Sign::Other,
-        Begun::Null => return Sign::Other,
+        Begun::Nothing => Sign::Nothing,
+        Begun::Comma => Sign::Comma,
+        Begun::Name => name_sign(s, at, depth),
+        Begun::Bracket
+        | Begun::Text
+        | Begun::Minus
+        | Begun::Zero
+        | Begun::Digit
+        | Begun::True
+        | Begun::False
+        | Begun::Null => Sign::Other,
     }
 }
 
@@ -226,11 +202,10 @@ pub fn token_met(
     requires { (at < length s.now) × Ready (axes_of e) fit (length out.old) }
     ensures { TokenMet kind (axes_of e) s.now at begun depth fit out.old result out.new }
 {
-    let sign = sign_of(s, at, begun, depth);
-    match sign {
-        Sign::Nothing => return stop(fit, at),
-        Sign::Comma => return fit,
-        Sign::Data => return data_met(fit, at),
-        Sign::Other => return other_met(s, at, kind, e, fit, out),
+    match sign_of(s, at, begun, depth) {
+        Sign::Nothing => stop(fit, at),
+        Sign::Comma => fit,
+        Sign::Data => data_met(fit, at),
+        Sign::Other => other_met(s, at, kind, e, fit, out),
     }
 }

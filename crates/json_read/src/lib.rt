@@ -6,15 +6,14 @@ ghost use Rattle.std.specs.Prelude.{◌≡◌, length};
 ghost use Rattle.paper.specs.Limits.{sizes_of};
 ghost use Rattle.paper.specs.Answers.{axes_of, names_for, json_said, json_exact};
 ghost use Rattle.paper.specs.JsonRead.{cells_as, fill_with, read_json};
-ghost use Rattle.json_read.specs.Read.{FormJudged, HasCells, Filled};
+ghost use Rattle.json_read.specs.Read.{form_tests, HasCells, Filled};
 
 use cell::bytes::copy_bytes;
-use extent::names::names_fit;
-use extent::{good_extent, rank_of};
-use paper::{AXES, CELL_BYTES, Extent, FLOAT, JsonRefusal, Name, Refusal, TYPES, Version};
-use refusals::{in_range, none, refuse};
-use scan::{Found, scan};
-use versions::{sizes, version_told};
+use form::form_cells;
+use paper::{AXES, CELL_BYTES, Extent, FLOAT, JsonRefusal, Name, Refusal, Version};
+use refusals::refuse;
+use scan::scan;
+use versions::version_told;
 
 pub mod fit;
 pub mod parts;
@@ -24,39 +23,27 @@ pub mod scan;
 const MOST: usize = 4096 * CELL_BYTES;
 
 // What the caller names: 1 for the type or axis count, 2 for a name that is too long or the extent, 7 for FLOAT.
-fn form_refusal(v: Version, kind: u8, names: [Name; AXES], e: Extent) -> Refusal
-    ensures { FormJudged (sizes_of v) kind names e result }
+fn form_judged(v: Version, kind: u8, names: [Name; AXES], e: Extent) -> Result<(), Refusal>
+    ensures { result ≡ form_tests (sizes_of v) kind (names_for (axes_of e) names) (axes_of e) }
 {
-    if !in_range(kind as usize, TYPES) {
-        return refuse(1, 0);
-    }
-    let rank = rank_of(e);
-    if !in_range(rank, sizes(v).axes) {
-        return refuse(1, 0);
-    }
-    if !names_fit(v, names, rank) {
-        return refuse(2, 0);
-    }
-    if good_extent(names, e) == 0 {
-        return refuse(2, 0);
-    }
+    form_cells(v, kind, names, e, 0)?;
     if kind == FLOAT {
-        return refuse(7, 0);
+        return Err(refuse(7, 0));
     }
-    none()
+    Ok(())
 }
 
 // n cells from the reader's buffer into the caller's: 14 where that is too short.
-fn fill(found: &[u8], n: usize, cells: &mut [u8]) -> Result<u32, JsonRefusal>
+fn fill(found: &[u8], n: usize, cells: &mut [u8]) -> Result<(), Refusal>
     requires { HasCells (length found.now) n }
     ensures { Filled found.now n cells.old result cells.new }
 {
     let bytes = n * CELL_BYTES;
     if cells.len() < bytes {
-        return Err(JsonRefusal::Refused(refuse(14, 0)));
+        return Err(refuse(14, 0));
     }
     copy_bytes(found, 0, cells, 0, bytes);
-    Ok(n as u32)
+    Ok(())
 }
 
 // In a version: the number of cells, or the refusal; then `cells` is as it was.
@@ -73,17 +60,11 @@ pub fn read_as(
         × (cells.new ≡ (fill_with cells.old (cells_as (sizes_of v) kind (names_for (axes_of extent) names) (axes_of extent)
         text.now (length cells.old))).buffer) × json_exact result }
 {
-    let refusal = form_refusal(v, kind, names, extent);
-    if refusal.number != 0 {
-        return Err(JsonRefusal::Refused(refusal));
-    }
+    form_judged(v, kind, names, extent)?;
     let mut buffer = [0u8; MOST];
-    let found = scan(text, kind, extent, &mut buffer);
-    match found {
-        Found::Cells(n) => return fill(&buffer, n, cells),
-        Found::NotJson(i) => return Err(JsonRefusal::NotJson(i)),
-        Found::Misfit(i) => return Err(JsonRefusal::Misfit(i)),
-    }
+    let n = scan(text, kind, extent, &mut buffer)?;
+    fill(&buffer, n, cells)?;
+    Ok(n as u32)
 }
 
 // In the version told.

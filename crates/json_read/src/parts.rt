@@ -5,63 +5,45 @@ ghost use Rattle.json_text.specs.Left.{Ends};
 ghost use Rattle.json_read.specs.Parts.{BegunEnds};
 
 use json_levels::Begun;
-use json_text::Ended;
+use json_text::Fault;
 use json_text::numbers::{blanks_end, digit_end, minus_end, zero_end};
 use json_text::strings::chars_end;
 use json_text::words::word_end;
 
 // A name's colon, after blanks.
-fn colon_end(s: &[u8], at: usize) -> Ended
+fn colon_end(s: &[u8], at: usize) -> Result<usize, Fault>
     requires { at ≤ length s.now }
     ensures { Ends s.now (colon ∷ []) at result }
 {
     let i = blanks_end(s, at);
-    if i == s.len() {
-        return Ended {
-            at: i,
-            sound: false,
-        };
+    if i == s.len() || s[i] != b':' {
+        return Err(Fault(i));
     }
-    if s[i] != b':' {
-        return Ended {
-            at: i,
-            sound: false,
-        };
-    }
-    Ended {
-        at: i + 1,
-        sound: true,
-    }
+    Ok(i + 1)
 }
 
 // A name's characters and its colon.
-fn name_end(s: &[u8], at: usize) -> Ended
+fn name_end(s: &[u8], at: usize) -> Result<usize, Fault>
     requires { at ≤ length s.now }
     ensures { Ends s.now (chars ∷ colon ∷ []) at result }
 {
-    let name = chars_end(s, at);
-    if !name.sound {
-        return name;
-    }
-    colon_end(s, name.at)
+    colon_end(s, chars_end(s, at)?)
 }
 
 // What was begun, from the byte after its first on.
-pub fn begun_end(s: &[u8], at: usize, begun: Begun) -> Ended
+pub fn begun_end(s: &[u8], at: usize, begun: Begun) -> Result<usize, Fault>
     requires { at ≤ length s.now }
     ensures { BegunEnds s.now begun at result }
 {
     match begun {
-        Begun::Nothing => return Ended { at, sound: true },
-        Begun::Comma => return Ended { at, sound: true },
-        Begun::Bracket => return Ended { at, sound: true },
-        Begun::Name => return name_end(s, at),
-        Begun::Text => return chars_end(s, at),
-        Begun::Minus => return minus_end(s, at),
-        Begun::Zero => return zero_end(s, at),
-        Begun::Digit => return digit_end(s, at),
-        Begun::True => return word_end(s, at, b"rue"),
-        Begun::False => return word_end(s, at, b"alse"),
-        Begun::Null => return word_end(s, at, b"ull"),
+        Begun::Nothing | Begun::Comma | Begun::Bracket => Ok(at),
+        Begun::Name => name_end(s, at),
+        Begun::Text => chars_end(s, at),
+        Begun::Minus => minus_end(s, at),
+        Begun::Zero => zero_end(s, at),
+        Begun::Digit => digit_end(s, at),
+        Begun::True => word_end(s, at, b"rue"),
+        Begun::False => word_end(s, at, b"alse"),
+        Begun::Null => word_end(s, at, b"ull"),
     }
 }

@@ -1,32 +1,42 @@
 // The whole text, byte after byte: brackets opened and closed, tokens met, strings, numbers and words passed over.
 ghost use Rattle.std.specs.Prelude.{◌≡◌, ◌<◌, ◌^◌, length};
 ghost use Rattle.paper.specs.Answers.{axes_of};
-ghost use Rattle.json_read.specs.Scan.{stopped?, ended?, due_found, end_found, AllRoom, ScanFound};
+ghost use Rattle.json_read.specs.Scan.{stop_of, refusal_of, ended?, due_found, end_found, AllRoom, ScanFound};
 
 use crate::fit::{Fit, Stage, fit_first, token_met};
 use crate::parts::begun_end;
 use json_due::Wanted;
 use json_levels::{Levels, Next, byte_turn};
 use json_text::numbers::blanks_end;
-use paper::Extent;
+use paper::{Extent, JsonRefusal};
 
-// The number of cells that were stored; or the place of the byte that 15 or 16 names.
+// The place of the byte that 15 or 16 names.
 #[derive(Clone, Copy)]
-pub enum Found {
-    Cells(usize),
+pub enum TextFault {
     NotJson(usize),
     Misfit(usize),
 }
 
-// The stage ends it all.
-fn is_stopped(stage: Stage) -> bool
-    ensures { result ≡ stopped? stage }
+// What the caller is told.
+impl From<TextFault> for JsonRefusal {
+    ghost from_gives = { λ fault r. r ≡ refusal_of fault };
+
+    fn from(fault: TextFault) -> JsonRefusal {
+        match fault {
+            TextFault::NotJson(i) => JsonRefusal::NotJson(i),
+            TextFault::Misfit(i) => JsonRefusal::Misfit(i),
+        }
+    }
+}
+
+// The place of the byte that ended it all, if one did.
+fn stopped_at(stage: Stage) -> Option<usize>
+    ensures { result ≡ stop_of stage }
 {
     match stage {
-        Stage::Before => return false,
-        Stage::Within => return false,
-        Stage::Wrong => return false,
-        Stage::Stopped => return true,
+        Stage::Before | Stage::Within => None,
+        Stage::Wrong(_) => None,
+        Stage::Stopped(place) => Some(place),
     }
 }
 
@@ -34,45 +44,33 @@ fn is_stopped(stage: Stage) -> bool
 fn is_ended(v: Levels) -> bool
     ensures { result ≡ ended? v }
 {
-    let next = v.next;
-    match next {
-        Next::Object => return false,
-        Next::First => return false,
-        Next::More => return v.depth == 0,
-        Next::Value => return false,
-        Next::Member => return false,
-    }
+    matches!(v.next, Next::More) && v.depth == 0
 }
 
 // After `data`: its cells, if nothing is due any more.
-fn within_found(wanted: Wanted, done: usize) -> Found
+fn within_found(wanted: Wanted, done: usize) -> Result<usize, TextFault>
     ensures { result ≡ due_found wanted done }
 {
     match wanted {
-        Wanted::Nothing => return Found::Cells(done),
-        Wanted::Opening => return Found::Misfit(0),
-        Wanted::Closing => return Found::Misfit(0),
-        Wanted::Value => return Found::Misfit(0),
+        Wanted::Nothing => Ok(done),
+        Wanted::Opening | Wanted::Closing | Wanted::Value => Err(TextFault::Misfit(0)),
     }
 }
 
 // What was found, at the end of a whole object; `past` is the place one past the text's end.
-fn end_found(past: usize, fit: Fit) -> Found
+fn end_found(past: usize, fit: Fit) -> Result<usize, TextFault>
     ensures { result ≡ end_found past fit }
 {
-    let stage = fit.stage;
-    let cursor = fit.cursor;
-    let wanted = cursor.wanted;
-    match stage {
-        Stage::Before => return Found::NotJson(past),
-        Stage::Within => return within_found(wanted, fit.done),
-        Stage::Wrong => return Found::Misfit(fit.place),
-        Stage::Stopped => return Found::NotJson(fit.place),
+    match fit.stage {
+        Stage::Before => Err(TextFault::NotJson(past)),
+        Stage::Within => within_found(fit.cursor.wanted, fit.done),
+        Stage::Wrong(place) => Err(TextFault::Misfit(place)),
+        Stage::Stopped(place) => Err(TextFault::NotJson(place)),
     }
 }
 
-// The text's cells, stored in `out`; or where it is not what it should be.
-pub fn scan(s: &[u8], kind: u8, e: Extent, out: &mut [u8]) -> Found
+// The number of the text's cells, stored in `out`; or where it is not what it should be.
+pub fn scan(s: &[u8], kind: u8, e: Extent, out: &mut [u8]) -> Result<usize, TextFault>
     requires { AllRoom (axes_of e) (length out.old) }
     ensures { ScanFound kind (axes_of e) s.now out.new result }
 {
@@ -85,21 +83,18 @@ pub fn scan(s: &[u8], kind: u8, e: Extent, out: &mut [u8]) -> Found
     let mut at = blanks_end(s, 0);
     while at < s.len() {
         let turn = byte_turn(v, s[at]);
-        let begun = turn.begun;
-        fit = token_met(s, at, kind, e, begun, v.depth, fit, out);
-        let stage = fit.stage;
-        if is_stopped(stage) {
-            return Found::NotJson(fit.place);
+        fit = token_met(s, at, kind, e, turn.begun, v.depth, fit, out);
+        if let Some(place) = stopped_at(fit.stage) {
+            return Err(TextFault::NotJson(place));
         }
-        let end = begun_end(s, at + 1, begun);
-        if !end.sound {
-            return Found::NotJson(end.at + 1);
+        match begun_end(s, at + 1, turn.begun) {
+            Ok(end) => at = blanks_end(s, end),
+            Err(fault) => return Err(TextFault::NotJson(fault.0 + 1)),
         }
         v = turn.levels;
-        at = blanks_end(s, end.at);
     }
     if !is_ended(v) {
-        return Found::NotJson(at + 1);
+        return Err(TextFault::NotJson(at + 1));
     }
     end_found(at + 1, fit)
 }

@@ -1,12 +1,12 @@
 -- What is left of a text from byte i on (i from 0) while parts are still to come: where it stops being JSON, and its tokens. A reader of a
 -- part says how what is left with the part in front follows from what is left behind it.
-use Rattle.std.specs.Prelude.{◌≡◌, ℕ, ◌+◌, ◌<◌, ◌≤◌, false, List, [], ◌∷◌, ◌++◌, length, drop, slice_index, refl, if◌then◌else◌, Option, None, Some}
+use Rattle.std.specs.Prelude.{◌≡◌, ℕ, ◌+◌, ◌<◌, ◌≤◌, false, List, [], ◌∷◌, ◌++◌, length, drop, slice_index, refl, Result, Ok, Err, Option, None, Some}
 use Rattle.std.proofs.Common.{sym, ap, ◌∙◌, add-one, drop-cons}
 use Rattle.std.proofs.Math.ListN.{drop_of_length-le}
 use Rattle.paper.specs.Grammar.{Part}
 use Rattle.paper.specs.Machine.{settled, step, complete, fault_from}
 use Rattle.paper.specs.JsonRead.{Token, token_of, tokens_from}
-use Rattle.json_text.specs.declared.Ended.{Ended}
+use Rattle.json_text.specs.declared.Fault.{Fault}
 
 -- the fault and the tokens
 pub record Rest : Type 0 where
@@ -20,14 +20,27 @@ left s gs i = record { fault = fault_from gs (i + 1) (drop i s); tokens = tokens
 abbrev pub stops : ℕ → Rest
 stops i = record { fault = Some (i + 1); tokens = [] }
 
--- what is left where a reader of a part ended, with these parts to come: sound, or stopped there
+-- what a reader of a part answers: where it ends, or where the text stops being JSON
+abbrev pub Ended : Type 0
+Ended = Result ℕ Fault
+
+abbrev pub fault_at : ℕ → Ended
+fault_at i = Err (record { 0 = i })
+
+-- the byte where it stands then
+abbrev pub byte_of : Ended → ℕ
+byte_of (Ok i) = i
+byte_of (Err f) = f.0
+
+-- what is left there, with these parts to come
 abbrev pub reached : List ℕ → List Part → Ended → Rest
-reached s gs e = if e.sound then left s gs e.at else stops e.at
+reached s gs (Ok i) = left s gs i
+reached s gs (Err f) = stops f.0
 
 -- the parts ps from byte i on end so, whatever comes after them
 pub record Ends (s : List ℕ) (ps : List Part) (i : ℕ) (e : Ended) : Type 0 where
-  pub within : e.at ≤ length s
-  pub onward : i ≤ e.at
+  pub within : byte_of e ≤ length s
+  pub onward : i ≤ byte_of e
   pub goes : (gs : List Part) → left s (ps ++ gs) i ≡ reached s gs e
 
 -- ---- one byte

@@ -1,14 +1,14 @@
 -- Numbers from a byte on: digits passed over, a digit that is due, and how what is left after a number follows from its parts.
-use Rattle.std.specs.Prelude.{◌≡◌, ℕ, ◌+◌, ◌<◌, ◌≤◌, Bool, true, false, List, [], ◌∷◌, ◌++◌, length, drop, ◌≢◌, nat_le, slice_index, slice_index_or, refl, if◌then◌else◌, None, Some}
-use Rattle.std.proofs.Common.{sym, ap, ◌∙◌, leb-true, leb-false}
+use Rattle.std.specs.Prelude.{◌≡◌, ℕ, ◌+◌, ◌<◌, ◌≤◌, Bool, true, false, List, [], ◌∷◌, ◌++◌, length, drop, ◌≢◌, nat_le, slice_index, slice_index_or, refl, Ok, Err, IfOk, if◌then◌else◌, None, Some}
+use Rattle.std.proofs.Common.{sym, ap, subst, ◌∙◌, leb-true, leb-false}
 use native.Mathlib.Omega.{arith}
 use Rattle.paper.specs.Grammar.{Bytes, Part, Spot, Digits, Rule, among, digit, these, ends, optional, rules, fraction, power}
 use Rattle.paper.specs.Grammar.{one, number, at, unsigned, after_zero, after_digit, after_fraction, after_e}
 use Rattle.paper.specs.Grammar.{after_exponent}
 use Rattle.paper.specs.Machine.{given, chosen, settled, move, step, complete}
 use Rattle.paper.specs.JsonRead.{token_of}
-use Rattle.json_text.specs.declared.Ended.{Ended}
-use Rattle.json_text.specs.Left.{left, stops, reached, left_end, left-stops, left-byte, left-settled}
+use Rattle.json_text.specs.declared.Fault.{Fault}
+use Rattle.json_text.specs.Left.{left, Ended, fault_at, byte_of, reached, left_end, left-stops, left-byte, left-settled}
 use Rattle.json_text.specs.Bytes.{in-range, not_byte}
 use Rattle.json_text.specs.Kinds.{digit-from, digit-to, digit_not}
 
@@ -44,8 +44,10 @@ module _ (c : Bytes) (s : List ℕ) (i : ℕ) where
   passing h = record { within = h; onward = omega arith; over = λ gs t. refl }
 
   module _ (r : ℕ) (p : Passing c s i r) where
-    pub passed-end : length s ≤ r → PassedOver c s i r
-    passed-end h = record { within = p.within; onward = p.onward; over = p.over; other = λ j. absurd (omega arith) }
+    pub passed-end : length s ≤ r → PassedOver c s i (length s)
+    passed-end h = let e : r ≡ length s = omega (arith, p.within) in
+        subst (λ (n : ℕ). PassedOver c s i n) e
+        (record { within = p.within; onward = p.onward; over = p.over; other = λ j. absurd (omega arith) })
 
     module _ (h : r < length s) where
       pub passed-other : among c (slice_index s r) ≡ false → PassedOver c s i r
@@ -59,6 +61,10 @@ module _ (c : Bytes) (s : List ℕ) (i : ℕ) where
             over = λ gs t. p.over gs t ∙ moved-left s gs gs r h (t (slice_index s r) e);
           }
 
+-- a test tells the bytes c
+abbrev pub Tells : (ℕ → Bool → Type 0) → Bytes → Type 0
+Tells post c = (b : ℕ) (r : Bool) → post b r → r ≡ among c b
+
 -- ---- a digit that is due
 
 -- a digit moves gs on to hs; at byte i no other byte goes on
@@ -69,48 +75,41 @@ pub record DigitDue (s : List ℕ) (i : ℕ) (gs hs : List Part) : Type 0 where
 
 -- a digit and more from byte i on end so, and no digit follows
 pub record DigitsRead (s : List ℕ) (i : ℕ) (e : Ended) : Type 0 where
-  pub within : e.at ≤ length s
-  pub onward : i ≤ e.at
+  pub within : byte_of e ≤ length s
+  pub onward : i ≤ byte_of e
   pub goes : (gs hs : List Part) → DigitDue s i gs hs → Stays digit hs → left s gs i ≡ reached s hs e
-  pub other : e.sound ≡ true → e.at < length s → among digit (slice_index s e.at) ≡ false
-
-abbrev pub ended : ℕ → Bool → Ended
-ended i b = record { at = i; sound = b }
+  pub other : IfOk e (λ j. j < length s → among digit (slice_index s j) ≡ false)
 
 module _ (s : List ℕ) (i : ℕ) where
-  pub digits-missing : i ≤ length s → length s ≤ i → DigitsRead s i (ended i false)
+  pub digits-missing : i ≤ length s → length s ≤ i → DigitsRead s i (fault_at i)
   digits-missing h j =
       record {
         within = h;
         onward = omega arith;
         goes = λ gs hs d t. left_end s gs i j d.missing;
-        other = λ e k. absurd (omega arith);
+        other = tt;
       }
 
   module _ (h : i < length s) where
-    pub digits-none : among digit (slice_index s i) ≡ false → DigitsRead s i (ended i false)
+    pub digits-none : among digit (slice_index s i) ≡ false → DigitsRead s i (fault_at i)
     digits-none n =
         record {
           within = omega arith;
           onward = omega arith;
           goes = λ gs hs d t. left-stops s gs i h (d.by-other h n);
-          other = λ e k. n;
+          other = tt;
         }
 
-    pub digits-some : among digit (slice_index s i) ≡ true → (r : ℕ) → PassedOver digit s (i + 1) r → DigitsRead s i (ended r true)
+    pub digits-some : among digit (slice_index s i) ≡ true → (r : ℕ) → PassedOver digit s (i + 1) r → DigitsRead s i (Ok r)
     digits-some y r p =
         record {
           within = p.within;
           onward = omega (arith, p.onward);
           goes = λ gs hs d t. moved-left s gs hs i h (d.by-digit (slice_index s i) y) ∙ p.over hs t;
-          other = λ e k. p.other k;
+          other = p.other;
         }
 
 -- ---- a number's parts
-
-settled_at : (p : Spot) (n : ℕ) (gs : List Part) (b : ℕ) → settled (at p n ∷ gs) b ≡ at p n ∷ gs
-unfolding settled optional
-settled_at p n gs b = refl
 
 number-stays : (d : Digits) (gs ps : List Part) (b : ℕ) → chosen (rules (number d)) b ≡ Some ps → settled (number d ∷ gs) b ≡ number d ∷ gs
 unfolding settled optional
@@ -143,8 +142,8 @@ number-moves d gs ps b e = record { goes = moves e; quiet = λ i bs. silent i bs
 
 -- the number d from byte i on ends so, before what stands at a spot
 pub record NumberEnds (s : List ℕ) (d : Digits) (i : ℕ) (e : Ended) : Type 0 where
-  pub within : e.at ≤ length s
-  pub onward : i ≤ e.at
+  pub within : byte_of e ≤ length s
+  pub onward : i ≤ byte_of e
   pub goes : (p : Spot) (n : ℕ) (gs : List Part) → left s (number d ∷ at p n ∷ gs) i ≡ reached s (at p n ∷ gs) e
 
 -- at byte i it can go on by these rules alone, and can end
@@ -177,7 +176,7 @@ module _ (s : List ℕ) (i : ℕ) (d : Digits) (e : ends d ≡ true) where
           let k : i < length s = leb-false (length s) i h in
           left-settled s (number d ∷ at p n ∷ gs) (at p n ∷ gs) i k (over-settled d p n gs (slice_index s i) e (c k))
 
-  pub number-done : i ≤ length s → (i < length s → chosen (rules (number d)) (slice_index s i) ≡ None) → NumberEnds s d i (ended i true)
+  pub number-done : i ≤ length s → (i < length s → chosen (rules (number d)) (slice_index s i) ≡ None) → NumberEnds s d i (Ok i)
   number-done h c = record { within = h; onward = omega arith; goes = λ p n gs. number-over p n gs c }
 
 -- ---- an exponent
@@ -227,10 +226,10 @@ digits-stay gs = digit-stays after_digit gs (λ b e. rw e refl)
 
 -- after the e, from byte i on
 pub record PowerRead (s : List ℕ) (i : ℕ) (e : Ended) : Type 0 where
-  pub within : e.at ≤ length s
-  pub onward : i ≤ e.at
+  pub within : byte_of e ≤ length s
+  pub onward : i ≤ byte_of e
   pub goes : (gs : List Part) → left s (number after_e ∷ gs) i ≡ reached s (number after_exponent ∷ gs) e
-  pub other : e.sound ≡ true → e.at < length s → among digit (slice_index s e.at) ≡ false
+  pub other : IfOk e (λ j. j < length s → among digit (slice_index s j) ≡ false)
 
 one-due : (s : List ℕ) (i : ℕ) (gs : List Part) → DigitDue s i (one digit ∷ gs) gs
 unfolding settled optional move rules chosen token_of
@@ -252,15 +251,6 @@ e-due s i gs n =
     }
 
 module _ (s : List ℕ) (i : ℕ) where
-  pub power-missing : i ≤ length s → length s ≤ i → PowerRead s i (ended i false)
-  power-missing h j =
-      record {
-        within = h;
-        onward = omega arith;
-        goes = λ gs. left_end s (number after_e ∷ gs) i j refl;
-        other = λ e k. absurd (omega arith);
-      }
-
   module _ (h : i < length s) where
     sign-moves : among signs (slice_index s i) ≡ true → (gs : List Part)
         → Moves (number after_e ∷ gs) (slice_index s i) (one digit ∷ number after_exponent ∷ gs)
@@ -279,32 +269,28 @@ module _ (s : List ℕ) (i : ℕ) where
           other = r.other;
         }
 
-    pub power-plain : among signs (slice_index s i) ≡ false → (e : Ended) → DigitsRead s i e → PowerRead s i e
-    power-plain n e r =
-        record {
-          within = r.within;
-          onward = r.onward;
-          goes = λ gs. r.goes (number after_e ∷ gs) (number after_exponent ∷ gs) (e-due s i gs (λ k. n)) (exponent-stays gs);
-          other = r.other;
-        }
+  pub power-plain : (i < length s → among signs (slice_index s i) ≡ false) → (e : Ended) → DigitsRead s i e → PowerRead s i e
+  power-plain n e r =
+      record {
+        within = r.within;
+        onward = r.onward;
+        goes = λ gs. r.goes (number after_e ∷ gs) (number after_exponent ∷ gs) (e-due s i gs n) (exponent-stays gs);
+        other = r.other;
+      }
 
 -- an exponent that was read ends the number
 exponent-over : (s : List ℕ) (i : ℕ) (e : Ended) → PowerRead s i e → (p : Spot) (n : ℕ) (gs : List Part)
     → reached s (number after_exponent ∷ at p n ∷ gs) e ≡ reached s (at p n ∷ gs) e
 unfolding rules chosen ends
-exponent-over s i e r p n gs = by-sound e.sound refl
-  where
-    by-sound : (t : Bool) → e.sound ≡ t → (if t then left s (number after_exponent ∷ at p n ∷ gs) e.at else stops e.at) ≡
-        (if t then left s (at p n ∷ gs) e.at else stops e.at)
-    by-sound true q = number-over s e.at after_exponent refl p n gs (λ h. rw (r.other q h) refl)
-    by-sound false q = refl
+exponent-over s i (Ok j) r p n gs = number-over s j after_exponent refl p n gs (λ h. rw (r.other h) refl)
+exponent-over s i (Err f) r p n gs = refl
 
 module _ (s : List ℕ) (i : ℕ) (d : Digits) (g : Powered s i d) where
-  pub no-power-end : i ≤ length s → length s ≤ i → NumberEnds s d i (ended i true)
+  pub no-power-end : i ≤ length s → length s ≤ i → NumberEnds s d i (Ok i)
   no-power-end h j = number-done s i d g.can-end h (λ k. absurd (omega arith))
 
   module _ (h : i < length s) where
-    pub no_power : among e_e (slice_index s i) ≡ false → NumberEnds s d i (ended i true)
+    pub no_power : among e_e (slice_index s i) ≡ false → NumberEnds s d i (Ok i)
     no_power n = number-done s i d g.can-end (omega arith) (λ k. g.by k ∙ power-none (slice_index s i) n)
 
     pub with-power : among e_e (slice_index s i) ≡ true → (e : Ended) → PowerRead s (i + 1) e → NumberEnds s d i e
@@ -333,31 +319,30 @@ unfolding rules chosen ends
 fraction-powered s i n = record { can-end = refl; by = λ h. rw (n h) refl }
 
 module _ (s : List ℕ) (i : ℕ) (d : Digits) (g : Fractioned s i d) where
-  pub no-fraction-end : i ≤ length s → length s ≤ i → NumberEnds s d i (ended i true)
-  no-fraction-end h j = number-done s i d g.can-end h (λ k. absurd (omega arith))
-
   pub fraction-none : (i < length s → slice_index s i ≢ 46) → Powered s i d
   fraction-none n = record { can-end = g.can-end; by = λ h. g.by h ∙ no-point (slice_index s i) (n h) }
 
-  module _ (h : i < length s) (y : slice_index_or s i 0 ≡ 46) (e : Ended) (r : DigitsRead s (i + 1) e) where
-    to-fraction : (p : Spot) (n : ℕ) (gs : List Part) → left s (number d ∷ at p n ∷ gs) i ≡ reached s (number after_fraction ∷ at p n ∷ gs) e
-    to-fraction p n gs =
+  module _ (h : i < length s) (y : slice_index_or s i 0 ≡ 46) where
+    to-fraction : (e : Ended) → DigitsRead s (i + 1) e → (p : Spot) (n : ℕ) (gs : List Part)
+        → left s (number d ∷ at p n ∷ gs) i ≡ reached s (number after_fraction ∷ at p n ∷ gs) e
+    to-fraction e r p n gs =
         moved-left s (number d ∷ at p n ∷ gs) (one digit ∷ number after_fraction ∷ at p n ∷ gs) i h
         (number-moves d (at p n ∷ gs) (one digit ∷ number after_fraction ∷ []) (slice_index s i) (g.by h ∙ a_point (slice_index s i) y))
         ∙ r.goes (one digit ∷ number after_fraction ∷ at p n ∷ gs) (number after_fraction ∷ at p n ∷ gs)
         (one-due s (i + 1) (number after_fraction ∷ at p n ∷ gs)) (fraction-stays (at p n ∷ gs))
 
-    pub fraction-stops : e.sound ≡ false → NumberEnds s d i e
-    fraction-stops q =
-        record { within = r.within; onward = omega (arith, r.onward); goes = λ p n gs. to-fraction p n gs ∙ rw q refl }
+    pub fraction-stops : (f : Fault) → DigitsRead s (i + 1) (Err f) → NumberEnds s d i (Err f)
+    fraction-stops f r =
+        record { within = r.within; onward = omega (arith, r.onward); goes = λ p n gs. to-fraction (Err f) r p n gs }
 
-    pub fraction-then : e.sound ≡ true → (f : Ended) → ((x : Digits) → Powered s e.at x → NumberEnds s x e.at f) → NumberEnds s d i f
-    fraction-then q f m =
-        let v : NumberEnds s after_fraction e.at f = m after_fraction (fraction-powered s e.at (r.other q)) in
+    pub fraction-then : (j : ℕ) → DigitsRead s (i + 1) (Ok j) → (f : Ended) → ((x : Digits) → Powered s j x → NumberEnds s x j f)
+        → NumberEnds s d i f
+    fraction-then j r f m =
+        let v : NumberEnds s after_fraction j f = m after_fraction (fraction-powered s j r.other) in
         record {
           within = v.within;
           onward = omega (arith, r.onward, v.onward);
-          goes = λ p n gs. to-fraction p n gs ∙ (rw q (v.goes p n gs));
+          goes = λ p n gs. to-fraction (Ok j) r p n gs ∙ v.goes p n gs;
         }
 
 -- ---- the whole number, by its first digit
@@ -381,7 +366,7 @@ digits-then s i r e p m =
     }
 
 module _ (s : List ℕ) (i : ℕ) where
-  pub minus-missing : i ≤ length s → length s ≤ i → NumberEnds s unsigned i (ended i false)
+  pub minus-missing : i ≤ length s → length s ≤ i → NumberEnds s unsigned i (fault_at i)
   minus-missing h j = record { within = h; onward = omega arith; goes = λ p n gs. left_end s (number unsigned ∷ at p n ∷ gs) i j refl }
 
   module _ (h : i < length s) where
@@ -417,7 +402,7 @@ module _ (s : List ℕ) (i : ℕ) where
         above : (a b : ℕ) → a ≤ b → (b ≢ a) → a + 1 ≤ b
         above a b p q = omega arith
 
-    pub minus-none : among digit (slice_index s i) ≡ false → NumberEnds s unsigned i (ended i false)
+    pub minus-none : among digit (slice_index s i) ≡ false → NumberEnds s unsigned i (fault_at i)
     minus-none n = record {
       within = omega arith;
       onward = omega arith;

@@ -1,6 +1,6 @@
 -- A part that is neither left out nor the beginning of a token, at a byte: by the rule that has the byte, or by none. Which rule that
 -- is, is computed for all bytes from one to another at once.
-use Rattle.std.specs.Prelude.{◌≡◌, ℕ, ◌+◌, ◌<◌, ◌≤◌, Bool, true, false, ◌&&◌, ◌||◌, List, [], ◌∷◌, ◌++◌, length, drop, nat_le, nat_lt, slice_index, if◌then◌else◌, Option, None, Some}
+use Rattle.std.specs.Prelude.{◌≡◌, ℕ, ◌+◌, ◌<◌, ◌≤◌, Bool, true, false, ◌&&◌, ◌||◌, List, [], ◌∷◌, ◌++◌, length, drop, nat_le, nat_lt, slice_index, Ok, if◌then◌else◌, Option, None, Some}
 use Rattle.std.proofs.Math.Path.{refl}
 use Rattle.std.proofs.Common.{sym, subst, ◌∙◌, arith}
 use borrow.Author.Tests.{leb-true, ltb-true}
@@ -9,8 +9,7 @@ use Rattle.paper.specs.Grammar.{Part, Rule, Bytes, among, optional, rules, one}
 use Rattle.paper.specs.Machine.{chosen, settled, move}
 use Rattle.paper.specs.JsonRead.{token_of}
 use Rattle.laws.specs.Tests.{and_left, and_right, some_one, no_none}
-use Rattle.json_text.specs.declared.Ended.{Ended}
-use Rattle.json_text.specs.Left.{left, stops, Ends, left_end, left-stops, left-byte}
+use Rattle.json_text.specs.Left.{left, stops, Ended, fault_at, Ends, left_end, left-stops, left-byte}
 use Rattle.json_text.specs.Bytes.{in-range, below-range, above-range}
 
 -- ---- one part at a byte
@@ -59,21 +58,21 @@ module _ (s : List ℕ) (ps : List Part) (j : ℕ) where
     going-as e w = subst (λ (l : List Part). Going s ps j l i) e w
 
     -- all are read
-    pub all_read : Going s ps j [] i → Ends s ps j (record { at = i; sound = true })
+    pub all_read : Going s ps j [] i → Ends s ps j (Ok i)
     all_read w = record { within = w.within; onward = w.onward; goes = λ gs. sym (w.goes gs) }
 
     -- the text stops
     pub going-stops : (qs : List Part) → Going s ps j qs i → ((gs : List Part) → left s (qs ++ gs) i ≡ stops i)
-        → Ends s ps j (record { at = i; sound = false })
+        → Ends s ps j (fault_at i)
     going-stops qs w f = record { within = w.within; onward = w.onward; goes = λ gs. sym (w.goes gs) ∙ f gs }
 
     -- one of some bytes is next
     module _ (c : Bytes) (qs : List Part) (w : Going s ps j (one c ∷ qs) i) where
-      pub byte-missing : length s ≤ i → Ends s ps j (record { at = i; sound = false })
+      pub byte-missing : length s ≤ i → Ends s ps j (fault_at i)
       byte-missing h = going-stops (one c ∷ qs) w (λ gs. part_end s (one c) (qs ++ gs) i h)
 
       module _ (h : i < length s) where
-        pub byte-out : among c (slice_index s i) ≡ false → Ends s ps j (record { at = i; sound = false })
+        pub byte-out : among c (slice_index s i) ≡ false → Ends s ps j (fault_at i)
         byte-out e = going-stops (one c ∷ qs) w (λ gs. one_out s c (qs ++ gs) i h e)
 
         pub byte-in : among c (slice_index s i) ≡ true → Going s ps j qs (i + 1)
@@ -86,11 +85,11 @@ module _ (s : List ℕ) (ps : List Part) (j : ℕ) where
 -- ---- one part alone
 
 module _ (s : List ℕ) (g : Part) (i : ℕ) where
-  pub part-missing : i ≤ length s → length s ≤ i → Ends s (g ∷ []) i (record { at = i; sound = false })
+  pub part-missing : i ≤ length s → length s ≤ i → Ends s (g ∷ []) i (fault_at i)
   part-missing h k = going-stops s (g ∷ []) i i (g ∷ []) (going s (g ∷ []) i h) (λ gs. part_end s g gs i k)
 
   module _ (q : optional g ≡ false) (h : i < length s) where
-    pub part-refused : chosen (rules g) (slice_index s i) ≡ None → Ends s (g ∷ []) i (record { at = i; sound = false })
+    pub part-refused : chosen (rules g) (slice_index s i) ≡ None → Ends s (g ∷ []) i (fault_at i)
     part-refused e = going-stops s (g ∷ []) i i (g ∷ []) (going s (g ∷ []) i (omega arith)) (λ gs. part_out s g gs i q h e)
 
     -- its first byte, and then the parts of the rule

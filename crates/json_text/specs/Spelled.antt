@@ -1,15 +1,20 @@
 -- A name's letters, each as itself or escaped.
-use Rattle.std.specs.Prelude.{◌≡◌, ℕ, ◌+◌, ◌≤◌, Bool, true, false, ◌||◌, List, [], ◌∷◌, length, drop, ◌==◌, ◌≢◌, nat_eq, refl, if◌then◌else◌}
-use Rattle.std.proofs.Common.{sym, ap, ◌∙◌, arith, eq-eqb, ne_eqb, eqb-true, drop-drop}
+use Rattle.std.specs.Prelude.{◌≡◌, ℕ, ◌+◌, ◌≤◌, Bool, true, false, ◌||◌, List, [], ◌∷◌, length, drop, ◌==◌, ◌≢◌, nat_eq, refl, IfSome, Option, None, Some}
+use Rattle.std.proofs.Common.{sym, ap, ◌∙◌, arith, ne_eqb, eqb-true, drop-drop, drop_of_length-le}
 use Rattle.std.proofs.Math.ListN.{length-drop}
 use Rattle.paper.specs.Numbers.{text, alike}
 use Rattle.laws.specs.Tests.{and_left, and_right}
 use Rattle.paper.specs.JsonRead.{begins, escaped, spells}
 
--- from byte i on, n bytes spell the letter c, which is no backslash; none of them, it is not spelled there
-pub record Lettered (s : List ℕ) (i c n : ℕ) : Type 0 where
-  pub within : i + n ≤ length s
-  pub goes : (c ≢ 0x5c) → (cs : List ℕ) → spells (c ∷ cs) (drop i s) ≡ (if nat_eq n 0 then false else spells cs (drop (i + n) s))
+-- whether the letters cs are spelled behind a letter at byte i
+abbrev pub behind : List ℕ → ℕ → List ℕ → Option ℕ → Bool
+behind s i cs None = false
+behind s i cs (Some n) = spells cs (drop (i + n) s)
+
+-- from byte i on so many bytes spell the letter c, which is no backslash; or it is not spelled there
+pub record Lettered (s : List ℕ) (i c : ℕ) (o : Option ℕ) : Type 0 where
+  pub within : IfSome o (λ n. i + n ≤ length s)
+  pub goes : (c ≢ 0x5c) → (cs : List ℕ) → spells (c ∷ cs) (drop i s) ≡ behind s i cs o
 
 -- ---- a letter
 
@@ -34,7 +39,7 @@ not-escaped c n (b ∷ l) e =
     rw z
 
 module _ (s : List ℕ) (i c : ℕ) (h : i ≤ length s) where
-  pub letter-itself : begins (c ∷ []) (drop i s) ≡ true → Lettered s i c 1
+  pub letter-itself : begins (c ∷ []) (drop i s) ≡ true → Lettered s i c (Some 1)
   unfolding spells
   letter-itself e = record {
     within = let l = as_long (c ∷ []) (drop i s) e in omega (arith, length-drop i s);
@@ -42,26 +47,30 @@ module _ (s : List ℕ) (i c : ℕ) (h : i ≤ length s) where
   }
 
   module _ (e : begins (c ∷ []) (drop i s) ≡ false) where
-    pub letter-escaped : begins (escaped c) (drop i s) ≡ true → Lettered s i c 6
+    pub letter-escaped : begins (escaped c) (drop i s) ≡ true → Lettered s i c (Some 6)
     unfolding spells
     letter-escaped f = record {
       within = let l = as_long (escaped c) (drop i s) f in omega (arith, length-drop i s);
       goes = λ n cs. rw (e, f) (ap (spells cs) (drop-drop 6 i s));
     }
 
-    pub letter-none : begins (escaped c) (drop i s) ≡ false → Lettered s i c 0
+    pub letter-none : begins (escaped c) (drop i s) ≡ false → Lettered s i c None
     unfolding spells
-    letter-none f = record { within = omega arith; goes = λ n cs. rw (e, f) }
+    letter-none f = record { within = tt; goes = λ n cs. rw (e, f) }
 
 -- ---- the letters after it
 
--- whether the text from byte i on spells `data` hangs on whether it spells w from byte j on
-abbrev pub Rest : List ℕ → ℕ → List ℕ → ℕ → Type 0
-Rest s i w j = spells (text "data") (drop i s) ≡ spells w (drop j s)
+-- whether the text from byte `at` on spells the word hangs on whether it spells the letters from k on from byte i on
+pub record Spelling (w s : List ℕ) (at k i : ℕ) : Type 0 where
+  pub within : i ≤ length s
+  pub same-as : spells w (drop at s) ≡ spells (drop k w) (drop i s)
 
-module _ (s : List ℕ) (i c n : ℕ) (l : Lettered s i c n) (b : c ≡ 0x5c → ⊥) (cs : List ℕ) where
-  pub spells-none : n ≡ 0 → spells (c ∷ cs) (drop i s) ≡ false
-  spells-none e = let z : nat_eq n 0 ≡ true = eq-eqb n 0 e in l.goes b cs ∙ rw z
+module _ (w s : List ℕ) (at : ℕ) where
+  pub spelling : at ≤ length s → Spelling w s at 0 at
+  spelling h = record { within = h; same-as = refl }
 
-  pub spells-more : (n ≢ 0) → spells (c ∷ cs) (drop i s) ≡ spells cs (drop (i + n) s)
-  spells-more e = let z : nat_eq n 0 ≡ false = ne_eqb n 0 e in l.goes b cs ∙ rw z
+  module _ (k i : ℕ) (l : Spelling w s at k i) where
+    -- the quote is left
+    pub spells-last : length w ≤ k → begins (text "\"") (drop i s) ≡ spells w (drop at s)
+    unfolding spells
+    spells-last h = sym (l.same-as ∙ ap (λ (x : List ℕ). spells x (drop i s)) (drop_of_length-le w {i = k} h))

@@ -1,8 +1,8 @@
 -- Whole numbers read digit by digit, and cells from them. The reader counts no further than the cap, which is beyond any INT.
 use Rattle.std.specs.Prelude.{◌≡◌, ℕ, ◌+◌, ◌-◌, ◌*◌, ◌%◌, ◌^◌, ◌<◌, ◌≤◌, Bool, true, false, ◌&&◌, List, [], ◌∷◌, length, drop, ℤ, pos, neg_ℤ, ◌==◌, ◌≢◌, int_le, nat_eq, nat_le, nat_lt, slice_index, slice_index_or, refl, if◌then◌else◌, Option, None, Some}
-use Rattle.std.proofs.Common.{sym, ap, ◌∙◌, arith, add-one, drop_of_length-le, drop-cons, get_or-drop, to_z}
+use Rattle.std.proofs.Common.{sym, ap, subst, ◌∙◌, arith, add-one, drop_of_length-le, drop-cons, get_or-drop, to_z}
 use Rattle.std.specs.Option.{option_map}
-use borrow.Author.Tests.{eq-eqb, ne_eqb, eqb-true, eqb-false, ltb-true, ltb-false, leb-true, leb-false}
+use borrow.Author.Tests.{eq-eqb, ne_eqb, ltb-true, ltb-false, leb-true, leb-false}
 use Rattle.std.proofs.Math.ListN.{get_or-eq_default}
 use Rattle.std.proofs.Math.Seq.{drop-drop}
 use Rattle.std.specs.Int.{w64}
@@ -17,8 +17,6 @@ use Rattle.paper.specs.JsonRead.{begins, digits_of, number_of, natural, integer,
 use Rattle.laws.specs.Parts.{up, dn, one-part, neg-parts, parts-eq, yes_le, no_le, to_z-low, to_z-high}
 use Rattle.laws.specs.Tests.{some_one, no_none}
 use Rattle.json_text.specs.declared.cells.Digits.{Digits}
-use Rattle.json_text.specs.declared.cells.Natural.{Natural}
-use Rattle.json_text.specs.Bytes.{in-range, not_byte}
 use Rattle.json_text.specs.Kinds.{digit-to}
 
 -- ---- what is promised
@@ -39,9 +37,6 @@ pub record Counted (s : List ℕ) (at : ℕ) (d : Digits) : Type 0 where
   pub within : d.end ≤ length s
   pub ends : d.end ≡ at + length (digits_of (drop at s))
   pub number : d.n ≡ capped (number_of 0 (digits_of (drop at s)))
-
-abbrev pub counted : Natural → Option ℕ
-counted m = if m.whole then Some m.n else None
 
 -- a magnitude with its sign
 abbrev pub signed_of : Bool → ℕ → ℤ
@@ -99,8 +94,10 @@ module _ (s : List ℕ) (at : ℕ) where
   counting h = record { so_far = 0; within = h; is = omega arith; count = refl; number = refl }
 
   module _ (i n : ℕ) (k : Counting s at i n) where
-    pub text-over : length s ≤ i → Counted s at (record { end = i; n = n })
-    text-over h = none_left s at i n k (digits-over s i h)
+    pub text-over : length s ≤ i → Counted s at (record { end = length s; n = n })
+    text-over h =
+        let e : i ≡ length s = omega (arith, k.within) in
+        subst (λ (m : ℕ). Counted s at (record { end = m; n = n })) e (none_left s at i n k (digits-over s i h))
 
     module _ (h : i < length s) where
       pub no_more : among digit (slice_index s i) ≡ false → Counted s at (record { end = i; n = n })
@@ -118,26 +115,6 @@ module _ (s : List ℕ) (at : ℕ) where
           }
 
 -- ---- a fraction or an exponent
-
-last_byte : (k b : ℕ) (t : Bool) → (b == k) ≡ t → t ≡ among ((k, k) ∷ []) b
-unfolding among
-last_byte k b true h = let e = eqb-true b k h in sym (in-range k k b [] (omega arith) (omega arith))
-last_byte k b false h = sym (not_byte k b [] (eqb-false b k h))
-
-pub point-or-e : (k b : ℕ) → among (these ".eE") k ≡ true → b ≡ k → true ≡ among (these ".eE") b
-point-or-e k b e h = sym (ap (among (these ".eE")) h ∙ e)
-
-pub a_point : among (these ".eE") 46 ≡ true
-unfolding among
-a_point = refl
-
-pub an-e : among (these ".eE") 101 ≡ true
-unfolding among
-an-e = refl
-
-pub by-large-e : (b : ℕ) → (b ≢ 46) → (b ≢ 101) → (b == 69) ≡ among (these ".eE") b
-by-large-e b h i =
-    last_byte 69 b (b == 69) refl ∙ sym (not_byte 46 b ((101, 101) ∷ (69, 69) ∷ []) h ∙ not_byte 101 b ((69, 69) ∷ []) i)
 
 -- past its end a text has no such byte
 past_end : (s : List ℕ) (i : ℕ) → length s ≤ i → among (these ".eE") (slice_index s i) ≡ false
@@ -239,14 +216,14 @@ sized-none : (minus : Bool) (o : Option ℕ) → None ≡ option_map capped o �
 sized-none minus None e = refl
 sized-none minus (Some v) e = absurd (no_none (capped v) e)
 
-module _ (minus : Bool) (bs : List ℕ) (m : Natural) (k : counted m ≡ option_map capped (natural bs)) where
-  pub sized-yes : m.whole ≡ true → ranged (signed_of minus m.n) ≡ sized_in minus bs
+module _ (minus : Bool) (bs : List ℕ) where
+  pub sized-yes : (n : ℕ) → Some n ≡ option_map capped (natural bs) → ranged (signed_of minus n) ≡ sized_in minus bs
   unfolding sized_in
-  sized-yes e = sized-some minus m.n (natural bs) (rw e at k)
+  sized-yes n k = sized-some minus n (natural bs) k
 
-  pub sized-no : m.whole ≡ false → None ≡ sized_in minus bs
+  pub sized-no : None ≡ option_map capped (natural bs) → None ≡ sized_in minus bs
   unfolding sized_in
-  sized-no e = sized-none minus (natural bs) (rw e at k)
+  sized-no k = sized-none minus (natural bs) k
 
 module _ (s : List ℕ) (at : ℕ) where
   pub with-minus : begins (text "-") (drop at s) ≡ true → sized_in true (drop (at + 1) s) ≡ int_in (drop at s)

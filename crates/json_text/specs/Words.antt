@@ -1,7 +1,9 @@
--- A word at a place of a text, byte by byte: what is left of the word begins what is left of the text exactly if the whole did.
-use Rattle.std.specs.Prelude.{◌≡◌, ℕ, suc, ◌+◌, ◌-◌, ◌<◌, ◌≤◌, Bool, true, false, ◌&&◌, List, [], ◌∷◌, map, length, drop, ◌==◌, ◌≢◌, nat_eq, nat_le, slice_index, slice_index_or, refl}
+-- Words at a place of a text: whether it begins with one, and a word's bytes as parts.
+use Rattle.std.specs.Prelude.{◌≡◌, ℕ, ◌+◌, ◌<◌, ◌≤◌, Bool, true, false, List, [], ◌∷◌, map, length, take, drop, ◌≢◌, nat_eq, nat_le, slice_index, refl}
 use Rattle.std.proofs.Math.Path.{sym}
-use Rattle.std.proofs.Common.{ap, ap₂, ◌∙◌, arith, add-one, eq-eqb, ne_eqb, leb-true, leb-false, drop_of_length-le, drop-cons}
+use Rattle.std.proofs.Common.{ap, ◌∙◌, arith, add-one, eq-eqb, ne_eqb, eqb-true, leb-true, leb-false, drop_of_length-le, drop-cons}
+use Rattle.std.proofs.lemmas.Bool.{eqb-false}
+use Rattle.std.specs.Cmp.Lexicographic.{pointwise}
 use Rattle.paper.specs.Numbers.{alike}
 use Rattle.paper.specs.Grammar.{Part, among, one}
 use Rattle.paper.specs.JsonRead.{begins}
@@ -12,69 +14,32 @@ use Rattle.json_text.specs.Kinds.{no_true}
 abbrev pub letters : List ℕ → List Part
 letters w = map (λ b. one ((b, b) ∷ [])) w
 
-pub record Beginning (s : List ℕ) (at : ℕ) (w : List ℕ) (i : ℕ) : Type 0 where
-  pub within : i ≤ length w
-  pub room : at + i ≤ length s
-  pub same-as : begins (drop i w) (drop (at + i) s) ≡ begins w (drop at s)
+eqb-comm : (a b : ℕ) → nat_eq a b ≡ nat_eq b a
+eqb-comm a b = by-test (nat_eq a b) refl
+  where
+    by-test : (t : Bool) → nat_eq a b ≡ t → nat_eq a b ≡ nat_eq b a
+    by-test true h = h ∙ sym (eq-eqb b a (sym (eqb-true a b h)))
+    by-test false h = h ∙ sym (ne_eqb b a (λ e. eqb-false a b h (sym e)))
 
-module _ (s : List ℕ) (at : ℕ) (w : List ℕ) where
-  pub beginning : at ≤ length s → Beginning s at w 0
-  beginning h =
-      let e : at + 0 ≡ at = omega arith in
-      record { within = omega arith; room = omega arith; same-as = ap (λ (n : ℕ). begins w (drop n s)) e }
+-- the word's bytes against the first of the text
+like_begins : (w l : List ℕ) → pointwise nat_eq w l ≡ alike nat_eq l w
+unfolding alike
+like_begins [] [] = refl
+like_begins [] (b ∷ l) = refl
+like_begins (a ∷ w) [] = refl
+like_begins (a ∷ w) (b ∷ l) = rw (eqb-comm a b, like_begins w l)
 
-  module _ (i : ℕ) (b : Beginning s at w i) where
-    -- the word is at its end
-    pub all_there : length w ≤ i → true ≡ begins w (drop at s)
-    unfolding alike
-    all_there h = sym (ap (λ (l : List ℕ). begins l (drop (at + i) s)) (drop_of_length-le w {i = i} h)) ∙ b.same-as
-
-    module _ (h : i < length w) where
-      word_next : drop i w ≡ slice_index w i ∷ drop (i + 1) w
-      word_next = drop-cons w i 0 h ∙ ap (λ (n : ℕ). slice_index w i ∷ drop n w) (sym (add-one i))
-
-      -- the text is at its end
-      pub too_short : length s ≤ at + i → false ≡ begins w (drop at s)
-      unfolding alike
-      too_short k = sym (ap₂ begins word_next (drop_of_length-le s {i = at + i} k)) ∙ b.same-as
-
-      module _ (k : at + i < length s) where
-        text-next : drop (at + i) s ≡ slice_index s (at + i) ∷ drop (at + (i + 1)) s
-        text-next =
-            let e : suc (at + i) ≡ at + (i + 1) = omega arith in
-            drop-cons s (at + i) 0 k ∙ ap (λ (n : ℕ). slice_index s (at + i) ∷ drop n s) e
-
-        one_byte : (slice_index s (at + i) == slice_index w i && begins (drop (i + 1) w) (drop (at + (i + 1)) s)) ≡ begins w (drop at s)
-        unfolding alike
-        one_byte = sym (ap₂ begins word_next text-next) ∙ b.same-as
-
-        pub other_byte : (slice_index s (at + i) ≢ slice_index w i) → false ≡ begins w (drop at s)
-        other_byte n = let z : nat_eq (slice_index s (at + i)) (slice_index w i) ≡ false = ne_eqb _ _ n in sym (rw z) ∙ one_byte
-
-        pub same_byte : slice_index_or s (at + i) 0 ≡ slice_index w i → Beginning s at w (i + 1)
-        same_byte q =
-            let z : nat_eq (slice_index s (at + i)) (slice_index w i) ≡ true = eq-eqb _ _ q in
-            record { within = omega arith; room = omega arith; same-as = rw z at one_byte }
+pub begins-with : (w l : List ℕ) → pointwise nat_eq w (take (length w) l) ≡ begins w l
+begins-with w l = like_begins w (take (length w) l)
 
 -- ---- a word's bytes as parts
 
--- the last n bytes of a word
-abbrev pub last : ℕ → List ℕ → List ℕ
-last n w = drop (length w - n) w
-
-pub last-all : (w : List ℕ) → w ≡ last (length w) w
-last-all w = let e : length w - length w ≡ 0 = omega arith in rw e
-
-module _ (w : List ℕ) (n : ℕ) where
-  pub letters-none : n ≤ 0 → letters (last n w) ≡ []
-  letters-none h = let e : last n w ≡ [] = drop_of_length-le w {i = length w - n} (omega arith) in rw e
-
-  pub letters-next : 0 < n → n ≤ length w
-      → letters (last n w) ≡ one ((slice_index w (length w - n), slice_index w (length w - n)) ∷ []) ∷ letters (last (n - 1) w)
-  letters-next h k =
-      let q : suc (length w - n) ≡ length w - (n - 1) = omega arith in
-      let e : last n w ≡ slice_index w (length w - n) ∷ last (n - 1) w =
-      drop-cons w (length w - n) 0 (omega arith) ∙ ap (λ (m : ℕ). slice_index w (length w - n) ∷ drop m w) q in
+-- the bytes of a word from byte i on
+module _ (w : List ℕ) (i : ℕ) where
+  pub letters-next : i < length w → letters (drop i w) ≡ one ((slice_index w i, slice_index w i) ∷ []) ∷ letters (drop (i + 1) w)
+  letters-next h =
+      let e : drop i w ≡ slice_index w i ∷ drop (i + 1) w =
+      drop-cons w i 0 h ∙ ap (λ (n : ℕ). slice_index w i ∷ drop n w) (sym (add-one i)) in
       rw e
 
 module _ (b k : ℕ) where

@@ -3,7 +3,7 @@ ghost use Rattle.std.specs.Prelude.{◌≡◌, ◌≤◌, length, drop};
 ghost use Rattle.std.specs.Option.{option_map};
 ghost use Rattle.paper.specs.Grammar.{among, these};
 ghost use Rattle.paper.specs.JsonRead.{natural, cell_in};
-ghost use Rattle.json_text.specs.Whole.{Onward, Counted, capped, counted, signed_of, ranged, sized_in, int_in};
+ghost use Rattle.json_text.specs.Whole.{Onward, Counted, capped, signed_of, ranged, sized_in, int_in};
 
 use crate::bytes::is_digit;
 use crate::words::begins_with;
@@ -14,13 +14,6 @@ use paper::Cell;
 #[derive(Clone, Copy)]
 struct Digits {
     end: usize,
-    n: u64,
-}
-
-// Whether a whole number without fraction or exponent stands there, and if so the number; from CAP on, CAP.
-#[derive(Clone, Copy)]
-struct Natural {
-    whole: bool,
     n: u64,
 }
 
@@ -41,54 +34,37 @@ fn digits_at(s: &[u8], at: usize) -> Digits
     requires { at ≤ length s.now }
     ensures { Counted s.now at result }
 {
-    let mut i = at;
     let mut n: u64 = 0;
-    while i < s.len() {
+    for i in at..s.len() {
         let b = s[i];
         if !is_digit(b) {
             return Digits { end: i, n };
         }
         n = with_digit(n, b - b'0');
-        i += 1;
     }
-    Digits { end: i, n }
+    Digits { end: s.len(), n }
 }
 
 // The first byte of a fraction or an exponent.
+#[tactic(auto, unfolding(paper::specs::Grammar::among), using(std::proofs::lemmas::Bool::Decides::nat_tests))]
 fn goes_on(b: u8) -> bool
     ensures { result ≡ among (these ".eE") b }
 {
-    if b == b'.' {
-        return true;
-    }
-    if b == b'e' {
-        return true;
-    }
-    b == b'E'
+    matches!(b, b'.' | b'e' | b'E')
 }
 
-// The natural number from byte `at` on.
-fn natural_at(s: &[u8], at: usize) -> Natural
+// The number of the whole number from byte `at` on, if one without fraction or exponent stands there; from CAP on, CAP.
+fn natural_at(s: &[u8], at: usize) -> Option<u64>
     requires { at ≤ length s.now }
-    ensures { counted result ≡ option_map capped (natural (drop at s.now)) }
+    ensures { result ≡ option_map capped (natural (drop at s.now)) }
 {
     let d = digits_at(s, at);
-    let i = d.end;
-    if i == at {
-        return Natural { whole: false, n: 0 };
+    if d.end == at {
+        return None;
     }
-    if s.len() <= i {
-        return Natural {
-            whole: true,
-            n: d.n,
-        };
-    }
-    if goes_on(s[i]) {
-        return Natural { whole: false, n: 0 };
-    }
-    Natural {
-        whole: true,
-        n: d.n,
+    match s.get(d.end) {
+        Some(b) if goes_on(*b) => None,
+        _ => Some(d.n),
     }
 }
 
@@ -113,11 +89,7 @@ fn sized_at(s: &[u8], at: usize, minus: bool) -> Option<Cell>
     requires { at ≤ length s.now }
     ensures { result ≡ sized_in minus (drop at s.now) }
 {
-    let m = natural_at(s, at);
-    if m.whole {
-        return int_of(minus, m.n);
-    }
-    None
+    int_of(minus, natural_at(s, at)?)
 }
 
 // The INT from byte `at` on.

@@ -8,9 +8,6 @@ pub mod numbers;
 pub mod strings;
 pub mod words;
 
-// Where a part ends; or, not sound, the byte with which the text stops being JSON.
+// The byte with which the text stops being JSON.
 #[derive(Clone, Copy)]
-pub struct Ended {
-    pub at: usize,
-    pub sound: bool,
-}
+pub struct Fault(pub usize);

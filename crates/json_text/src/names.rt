@@ -6,14 +6,13 @@ ghost use Rattle.json_text.specs.Spelled.{Lettered};
 
 use crate::words::begins_with;
 
-// How many bytes spell the letter, from byte `at` on: 1 as itself, 6 as \u00 and its two digits, 0 if neither.
-fn letter_length(s: &[u8], at: usize, letter: u8) -> usize
+// How many bytes spell the letter, from byte `at` on: 1 as itself, 6 as \u00 and its two digits.
+fn letter_length(s: &[u8], at: usize, letter: u8) -> Option<usize>
     requires { at ≤ length s.now }
     ensures { Lettered s.now at letter result }
 {
-    let plain = [letter];
-    if begins_with(s, at, &plain) {
-        return 1;
+    if begins_with(s, at, &[letter]) {
+        return Some(1);
     }
     let escaped = [
         b'\\',
@@ -24,9 +23,9 @@ fn letter_length(s: &[u8], at: usize, letter: u8) -> usize
         b'0' + letter % 16,
     ];
     if begins_with(s, at, &escaped) {
-        return 6;
+        return Some(6);
     }
-    0
+    None
 }
 
 // The text from byte `at` on spells `data` and a quote.
@@ -34,21 +33,12 @@ pub fn is_data(s: &[u8], at: usize) -> bool
     requires { at ≤ length s.now }
     ensures { result ≡ spells (text "data") (drop at s.now) }
 {
-    let d = letter_length(s, at, b'd');
-    if d == 0 {
-        return false;
+    let mut i = at;
+    for letter in b"data" {
+        match letter_length(s, i, *letter) {
+            Some(n) => i += n,
+            None => return false,
+        }
     }
-    let a = letter_length(s, at + d, b'a');
-    if a == 0 {
-        return false;
-    }
-    let t = letter_length(s, at + d + a, b't');
-    if t == 0 {
-        return false;
-    }
-    let last = letter_length(s, at + d + a + t, b'a');
-    if last == 0 {
-        return false;
-    }
-    begins_with(s, at + d + a + t + last, b"\"")
+    begins_with(s, i, b"\"")
 }

@@ -5,167 +5,106 @@ ghost use Rattle.paper.specs.Machine.{chosen};
 ghost use Rattle.json_text.specs.Left.{Ends};
 ghost use Rattle.json_text.specs.Strings.{hexes, wide, leading, spanned, Plain, Passes};
 
-use crate::Ended;
+use crate::Fault;
+use crate::bytes::run_end;
 
 // 0 to 9, A to F, a to f.
+#[tactic(auto, unfolding(paper::specs::Grammar::among), using(std::proofs::lemmas::Bool::Decides::nat_tests))]
 fn is_hex(b: u8) -> bool
     ensures { result ≡ among hex_digit b }
 {
-    match b {
-        b'0'..=b'9' => return true,
-        b'A'..=b'F' => return true,
-        b'a'..=b'f' => return true,
-        _ => return false,
-    }
+    b.is_ascii_hexdigit()
 }
 
 // Four hex digits.
-fn hex_end(s: &[u8], at: usize) -> Ended
+fn hex_end(s: &[u8], at: usize) -> Result<usize, Fault>
     requires { at ≤ length s.now }
     ensures { Ends s.now (hexes 4) at result }
 {
-    let mut i = at;
-    let mut left: usize = 4;
-    while 0 < left {
-        if s.len() <= i {
-            return Ended {
-                at: i,
-                sound: false,
-            };
+    for i in at..at + 4 {
+        if s.len() <= i || !is_hex(s[i]) {
+            return Err(Fault(i));
         }
-        if !is_hex(s[i]) {
-            return Ended {
-                at: i,
-                sound: false,
-            };
-        }
-        left -= 1;
-        i += 1;
     }
-    Ended { at: i, sound: true }
+    Ok(at + 4)
 }
 
 // What follows a backslash.
-fn escape_end(s: &[u8], at: usize) -> Ended
+fn escape_end(s: &[u8], at: usize) -> Result<usize, Fault>
     requires { at ≤ length s.now }
     ensures { Ends s.now (escape ∷ []) at result }
 {
     if s.len() <= at {
-        return Ended {
-            at: at,
-            sound: false,
-        };
+        return Err(Fault(at));
     }
     match s[at] {
-        b'"' | b'\\' | b'/' | b'b' | b'f' | b'n' | b'r' | b't' => return Ended {
-            at: at + 1,
-            sound: true,
-        },
-        b'u' => return hex_end(s, at + 1),
-        _ => return Ended {
-            at: at,
-            sound: false,
-        },
+        b'"' | b'\\' | b'/' | b'b' | b'f' | b'n' | b'r' | b't' => Ok(at + 1),
+        b'u' => hex_end(s, at + 1),
+        _ => Err(Fault(at)),
     }
 }
 
-// How many bytes follow the first of a character, 0 if no character begins with it; and the next of them: from, to.
+// How many bytes follow the first of a character, and the next of them: from, to.
 #[derive(Clone, Copy)]
-struct Lead(usize, u8, u8);
+struct Lead(u8, u8, u8);
 
 // A character of several bytes, by its first.
-fn lead_of(b: u8) -> Lead
+fn lead_of(b: u8) -> Option<Lead>
     ensures { chosen wide b ≡ leading result }
 {
     match b {
-        0xc2..=0xdf => return Lead(1, 0x80, 0xbf),
-        0xe0 => return Lead(2, 0xa0, 0xbf),
-        0xe1..=0xec => return Lead(2, 0x80, 0xbf),
-        0xed => return Lead(2, 0x80, 0x9f),
-        0xee..=0xef => return Lead(2, 0x80, 0xbf),
-        0xf0 => return Lead(3, 0x90, 0xbf),
-        0xf1..=0xf3 => return Lead(3, 0x80, 0xbf),
-        0xf4 => return Lead(3, 0x80, 0x8f),
-        _ => return Lead(0, 0, 0),
+        0xc2..=0xdf => Some(Lead(1, 0x80, 0xbf)),
+        0xe0 => Some(Lead(2, 0xa0, 0xbf)),
+        0xe1..=0xec => Some(Lead(2, 0x80, 0xbf)),
+        0xed => Some(Lead(2, 0x80, 0x9f)),
+        0xee..=0xef => Some(Lead(2, 0x80, 0xbf)),
+        0xf0 => Some(Lead(3, 0x90, 0xbf)),
+        0xf1..=0xf3 => Some(Lead(3, 0x80, 0xbf)),
+        0xf4 => Some(Lead(3, 0x80, 0x8f)),
+        _ => None,
     }
 }
 
 // The bytes that follow the first.
-fn further_end(s: &[u8], at: usize, lead: Lead) -> Ended
+fn further_end(s: &[u8], at: usize, lead: Lead) -> Result<usize, Fault>
     requires { at ≤ length s.now }
     ensures { Ends s.now (spanned lead.0 lead.1 lead.2) at result }
 {
-    let mut i = at;
-    let mut left = lead.0;
-    let mut low = lead.1;
-    let mut high = lead.2;
-    while 0 < left {
-        if s.len() <= i {
-            return Ended {
-                at: i,
-                sound: false,
-            };
+    let Lead(further, mut low, mut high) = lead;
+    let end = at + usize::from(further);
+    for i in at..end {
+        if s.len() <= i || s[i] < low || high < s[i] {
+            return Err(Fault(i));
         }
-        let b = s[i];
-        if b < low {
-            return Ended {
-                at: i,
-                sound: false,
-            };
-        }
-        if high < b {
-            return Ended {
-                at: i,
-                sound: false,
-            };
-        }
-        left -= 1;
         low = 0x80;
         high = 0xbf;
-        i += 1;
     }
-    Ended { at: i, sound: true }
+    Ok(end)
 }
 
 // A character that is not plain, nor the closing quote.
-fn other_end(s: &[u8], at: usize) -> Ended
+fn other_end(s: &[u8], at: usize) -> Result<usize, Fault>
     requires { at ≤ length s.now }
     ensures { Passes s.now at result }
 {
     if s.len() <= at {
-        return Ended {
-            at: at,
-            sound: false,
-        };
+        return Err(Fault(at));
     }
-    let b = s[at];
-    if b == b'\\' {
+    if s[at] == b'\\' {
         return escape_end(s, at + 1);
     }
-    let l = lead_of(b);
-    if l.0 == 0 {
-        return Ended {
-            at: at,
-            sound: false,
-        };
+    match lead_of(s[at]) {
+        Some(lead) => further_end(s, at + 1, lead),
+        None => Err(Fault(at)),
     }
-    further_end(s, at + 1, l)
 }
 
 // A character of one byte that stands for itself: no control, no quote, no backslash.
+#[tactic(auto, unfolding(paper::specs::Grammar::among), using(std::proofs::lemmas::Bool::Decides::nat_tests))]
 fn is_plain(b: u8) -> bool
     ensures { result ≡ among plain b }
 {
-    if b == b'"' {
-        return false;
-    }
-    if b == b'\\' {
-        return false;
-    }
-    if b < 0x20 {
-        return false;
-    }
-    b <= 0x7f
+    matches!(b, 0x20..=0x21 | 0x23..=0x5b | 0x5d..=0x7f)
 }
 
 // The first byte from `at` on that is not plain, or the text's end.
@@ -173,37 +112,20 @@ fn plain_end(s: &[u8], at: usize) -> usize
     requires { at ≤ length s.now }
     ensures { Plain s.now at result }
 {
-    let mut i = at;
-    while i < s.len() {
-        if !is_plain(s[i]) {
-            return i;
-        }
-        i += 1;
-    }
-    i
+    run_end(s, at, is_plain)
 }
 
 // The characters of a string and its closing quote, from the byte after the opening quote on.
-pub fn chars_end(s: &[u8], at: usize) -> Ended
+pub fn chars_end(s: &[u8], at: usize) -> Result<usize, Fault>
     requires { at ≤ length s.now }
     ensures { Ends s.now (chars ∷ []) at result }
 {
     let mut i = plain_end(s, at);
     while i < s.len() {
         if s[i] == b'"' {
-            return Ended {
-                at: i + 1,
-                sound: true,
-            };
+            return Ok(i + 1);
         }
-        let e = other_end(s, i);
-        if !e.sound {
-            return e;
-        }
-        i = plain_end(s, e.at);
+        i = plain_end(s, other_end(s, i)?);
     }
-    Ended {
-        at: i,
-        sound: false,
-    }
+    Err(Fault(i))
 }

@@ -11,6 +11,7 @@ use Rattle.paper.specs.declared.Version.{Version}
 use Rattle.paper.specs.declared.Sizes.{Sizes}
 use Rattle.paper.specs.declared.Axis.{Axis}
 use Rattle.paper.specs.declared.Cell.{Cell}
+use Rattle.paper.specs.declared.Head.{Head}
 use Rattle.paper.specs.declared.Refusal.{Refusal}
 use Rattle.paper.specs.Limits.{FLOAT, most_axes, most_cells, cell_bytes, sizes_of}
 use Rattle.paper.specs.Refusals.{Res, refusal, present, unknown4, unfit7, small_output14}
@@ -29,8 +30,7 @@ use Rattle.roundtrip.specs.Valid.{Valid, EachValid}
 use Rattle.roundtrip.proofs.Reading.{bundle-read}
 use Rattle.extent.specs.Judged.{Small, good-small}
 use Rattle.bundle.specs.Read.{array_at}
-use Rattle.refer.specs.declared.Chosen.{Chosen}
-use Rattle.refer.specs.Chosen.{ChosenHead, its-refusal, its-array}
+use Rattle.refer.specs.Chosen.{ItsHead}
 use Rattle.json_write.specs.Stores.{Stored, stored-then}
 use Rattle.json_write.specs.Texts.{row_of, cell_on, axes_on, size_left, axis_left, text_left, text-one, text-more, size-one, size-more, all_left}
 use Rattle.json_write.specs.Lengths.{marks, cells_long, json-long, json-short}
@@ -189,38 +189,37 @@ its-axes u A v = let r = between-true (sizes_of u).axes (length A.shape.axes) v.
 abbrev pub Both : List ℕ → ℕ → List ℕ → Res ℕ → List ℕ → Type 0
 Both bs k out r last = (r ≡ (write_json bs k out).answer) × (last ≡ (write_json bs k out).buffer)
 
-module _ {bs : List ℕ} {k : ℕ} {c : Chosen} (v : ChosenHead bs k c) (out : List ℕ) where
-  -- the array's own refusal
-  pub own-refusal : (c.refusal.number ≡ 0 → ⊥) → Both bs k out (Err c.refusal) out
-  unfolding written put_into
-  own-refusal n = rw (← its-refusal v n) (refl, refl)
+-- the array's own refusal
+pub own-refusal : (bs : List ℕ) (k : ℕ) (out : List ℕ) {x : Refusal} → Err x ≡ chosen bs k → Both bs k out (Err x) out
+unfolding written put_into
+own-refusal bs k out e = rw (← e) (refl, refl)
 
-  module _ (y : c.refusal.number ≡ 0) where
-    abbrev its_text : List ℕ
-    its_text = json_at bs c.head.at c.head.form.kind (axes_of c.head.form.extent)
+module _ {bs : List ℕ} {k : ℕ} {h : Head} (v : ItsHead bs k h) (out : List ℕ) where
+  abbrev its_text : List ℕ
+  its_text = json_at bs h.at h.form.kind (axes_of h.form.extent)
 
-    pub float-refused : c.head.form.kind ≡ FLOAT → {x : Refusal} → x ≡ refusal unfit7 k 0 → Both bs k out (Err x) out
+  pub float-refused : h.form.kind ≡ FLOAT → {x : Refusal} → x ≡ refusal unfit7 k 0 → Both bs k out (Err x) out
+  unfolding written put_into array_at
+  float-refused e q = rw (← v.said, eq-eqb h.form.kind FLOAT e, q) (refl, refl)
+
+  module _ (f : h.form.kind ≡ FLOAT → ⊥) where
+    not_float : eqb h.form.kind FLOAT ≡ false
+    not_float = ne_eqb h.form.kind FLOAT f
+
+    pub small-refused : length out < length its_text → {x : Refusal} → x ≡ refusal small_output14 0 0 → Both bs k out (Err x) out
     unfolding written put_into array_at
-    float-refused e q = rw (← its-array v y, eq-eqb c.head.form.kind FLOAT e, q) (refl, refl)
+    small-refused l q = rw (← v.said, not_float, lt-leb (length its_text) (length out) l, q) (refl, refl)
 
-    module _ (f : c.head.form.kind ≡ FLOAT → ⊥) where
-      not_float : eqb c.head.form.kind FLOAT ≡ false
-      not_float = ne_eqb c.head.form.kind FLOAT f
+    pub text-got : {n r : ℕ} {last : List ℕ} → length its_text ≤ length out → n ≡ length its_text → Stored out 0 its_text r last
+        → Both bs k out (Ok n) last
+    unfolding written put_into array_at
+    text-got {n} {r} {last} l q s =
+        let e : last ≡ its_text ++ drop (length its_text) out = s.1 ∙ sets-eq its_text out 0 (omega arith) ∙ rw zero-add in
+        rw (← v.said, not_float, le-leb (length its_text) (length out) l) (ap Ok q, e)
 
-      pub small-refused : length out < length its_text → {x : Refusal} → x ≡ refusal small_output14 0 0 → Both bs k out (Err x) out
-      unfolding written put_into array_at
-      small-refused l q = rw (← its-array v y, not_float, lt-leb (length its_text) (length out) l, q) (refl, refl)
-
-      pub text-got : {n r : ℕ} {last : List ℕ} → length its_text ≤ length out → n ≡ length its_text → Stored out 0 its_text r last
-          → Both bs k out (Ok n) last
-      unfolding written put_into array_at
-      text-got {n} {r} {last} l q s =
-          let e : last ≡ its_text ++ drop (length its_text) out = s.1 ∙ sets-eq its_text out 0 (omega arith) ∙ rw zero-add in
-          rw (← its-array v y, not_float, le-leb (length its_text) (length out) l) (ap Ok q, e)
-
-    pub its-whole : Bytes bs → Whole bs c.head.at (axes_of c.head.form.extent)
-    unfolding array_at
-    its-whole b =
-        let w = chosen-valid bs k (array_at bs c.head) b (sym (its-array v y)) in
-        let r = its-axes (version_in bs) (array_at bs c.head) w in
-        record { small = good-small _ _ w.extent; some = r.0; rank = r.1; lies = (v.fit y).fits }
+  pub its-whole : Bytes bs → Whole bs h.at (axes_of h.form.extent)
+  unfolding array_at
+  its-whole b =
+      let w = chosen-valid bs k (array_at bs h) b (sym v.said) in
+      let r = its-axes (version_in bs) (array_at bs h) w in
+      record { small = good-small _ _ w.extent; some = r.0; rank = r.1; lies = v.fit.fits }

@@ -29,9 +29,7 @@ fn marks_of(e: Extent) -> u64
 {
     let rank = rank_of(e);
     let mut n: u64 = 0;
-    let mut i = rank;
-    while 0 < i {
-        i -= 1;
+    for i in (0..rank).rev() {
         let w = width_of(e.axes[i]);
         n = 1 + w + w * n;
     }
@@ -61,10 +59,8 @@ fn cells_length(s: &[u8], from: usize, kind: u8, n: usize) -> usize
     ensures { result ≡ cells_long (cell_by s.now from kind) 0 n }
 {
     let mut long = 0;
-    let mut i = 0;
-    while i < n {
+    for i in 0..n {
         long += cell_length(held_cell(s, from, kind, i));
-        i += 1;
     }
     long
 }
@@ -118,18 +114,17 @@ struct Pen {
     cell: usize,
 }
 
-// The cells of the last axis, which has so many more.
-fn put_cells(out: &mut [u8], pen: Pen, s: &[u8], from: usize, kind: u8, mut more: u64) -> Pen
-    requires { RowReady s.now from kind more pen.at pen.cell (length out.old) }
-    ensures { RowDrawn s.now from kind more pen.at pen.cell out.old
+// The cells of the last axis, which has so many positions.
+fn put_cells(out: &mut [u8], pen: Pen, s: &[u8], from: usize, kind: u8, width: u64) -> Pen
+    requires { RowReady s.now from kind width pen.at pen.cell (length out.old) }
+    ensures { RowDrawn s.now from kind width pen.at pen.cell out.old
         result.at result.cell out.new }
 {
     let mut at = pen.at;
     let mut cell = pen.cell;
     out[at] = b'[';
     at += 1;
-    while 0 < more {
-        more -= 1;
+    for more in (0..width).rev() {
         at = put_cell(out, at, held_cell(s, from, kind, cell));
         at = put_comma(out, at, more);
         cell += 1;
@@ -161,15 +156,14 @@ fn put_axes(
     ensures { Drawn s.now from kind (axes_of extent) left pen.at pen.cell out.old
         result.at result.cell out.new }
 {
-    let mut more = width_of(axis_left(extent, left));
+    let width = width_of(axis_left(extent, left));
     if left == 1 {
-        return put_cells(out, pen, s, from, kind, more);
+        return put_cells(out, pen, s, from, kind, width);
     }
     let begin = pen.at;
     out[begin] = b'[';
     pen.at = begin + 1;
-    while 0 < more {
-        more -= 1;
+    for more in (0..width).rev() {
         pen = put_axes(out, pen, s, from, kind, extent, left - 1);
         pen.at = put_comma(out, pen.at, more);
     }
@@ -197,30 +191,15 @@ pub fn write(s: &[u8], k: u32, out: &mut [u8]) -> Result<u32, Refusal>
     ensures { (result ≡ (write_json s.now k out.old).answer)
         × (out.new ≡ (write_json s.now k out.old).buffer) }
 {
-    let array = choose(s, k);
-    let refusal = array.refusal;
-    if refusal.number != 0 {
-        return Err(refusal);
-    }
-    if array.head.form.kind == FLOAT {
+    let head = choose(s, k)?;
+    let kind = head.form.kind;
+    if kind == FLOAT {
         return Err(refuse(7, k));
     }
-    let long = json_length(
-        s,
-        array.head.at,
-        array.head.form.kind,
-        array.head.form.extent,
-        array.head.cells,
-    );
+    let long = json_length(s, head.at, kind, head.form.extent, head.cells);
     if out.len() < long {
         return Err(refuse(14, 0));
     }
-    put_json(
-        out,
-        s,
-        array.head.at,
-        array.head.form.kind,
-        array.head.form.extent,
-    );
+    put_json(out, s, head.at, kind, head.form.extent);
     Ok(long as u32)
 }

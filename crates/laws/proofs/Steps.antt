@@ -3,7 +3,6 @@
 use Rattle.std.specs.Prelude.{ℕ, ◌-◌, ◌^◌, ◌<◌, ◌≡◌, refl, true, List, eqb, get_or, Option, None, Some, Ok}
 use Rattle.std.specs.Option.{unwrap_or}
 use Rattle.std.proofs.Common.{subst}
-use Rattle.std.proofs.Math.Option
 use Rattle.paper.specs.Numbers.{position_at}
 use Rattle.paper.specs.Axes.{Array, inside, at, without}
 use Rattle.paper.specs.Cells.{is_type, filled}

@@ -1,29 +1,18 @@
 -- The answers of the callable parts: two answers with the same figures are equal, so that a promise about the figures fixes the answer.
 -- A reading is a struct with room for the most arrays and axes: it is fixed where nothing stands past the last of each.
 use Rattle.std.specs.Prelude.{ℕ, ◌-◌, ◌≤◌, ◌≡◌, refl, Bool, true, false, List, [], ◌++◌, map, leb, length, replicate, if◌then◌else◌, Ok, Err}
-use Rattle.std.proofs.Common.{ap, ◌∙◌, arith, eq-eqb, ne_eqb, le-leb, leb-true, length-take, take_at}
+use Rattle.std.proofs.Common.{ap, ◌∙◌, arith, le-leb, leb-true, length-take, take_at}
 use Rattle.paper.specs.declared.Version.{Version}
-use Rattle.paper.specs.declared.Version.TheVariants.{One}
 use Rattle.paper.specs.declared.Name.{Name}
 use Rattle.paper.specs.declared.Axis.{Axis}
 use Rattle.paper.specs.declared.Extent.{Extent}
 use Rattle.paper.specs.declared.Form.{Form}
 use Rattle.paper.specs.declared.Head.{Head}
 use Rattle.paper.specs.declared.Reading.{Reading}
-use Rattle.paper.specs.declared.Refusal.{Refusal}
 use Rattle.paper.specs.Limits.{most_axes, most_arrays}
-use Rattle.paper.specs.Refusals.{Res, refusal}
+use Rattle.paper.specs.Refusals.{Res}
 use Rattle.paper.specs.Axes.{no_name, cells, no_axis, Shape, shaped}
-use Rattle.paper.specs.Answers.{axis_count, axes_of, names_for, extent_of, names_of, shape_of, unless}
-
--- ---- answers that are structs: number 0 stands for no refusal
-
-module _ {A : Type 0} (x : Refusal) (a : A) where
-  pub unless-refused : (x.number ≡ 0 → ⊥) → unless x a ≡ Err x
-  unless-refused h = rw (ne_eqb x.number 0 h)
-
-  pub unless-got : x.number ≡ 0 → unless x a ≡ Ok a
-  unless-got h = rw (eq-eqb x.number 0 h)
+use Rattle.paper.specs.Answers.{axis_count, axes_of, names_for, extent_of, names_of, shape_of}
 
 -- ---- extents and readings
 
@@ -73,7 +62,6 @@ abbrev pub no_head : Head
 no_head = record { form = form_of (shaped 0 [] [] []); at = 0; cells = 0 }
 
 -- a refusal stands alone: the version is then no matter
-abbrev pub reading_of : Version → Res (List (Shape × ℕ)) → Reading
-reading_of v (Ok l) =
-    record { refusal = refusal 0 0 0; version = v; count = length l; heads = map head_of l ++ replicate (most_arrays - length l) no_head }
-reading_of v (Err r) = record { refusal = r; version = One; count = 0; heads = replicate most_arrays no_head }
+abbrev pub reading_of : Version → Res (List (Shape × ℕ)) → Res Reading
+reading_of v (Ok l) = Ok (record { version = v; count = length l; heads = map head_of l ++ replicate (most_arrays - length l) no_head })
+reading_of v (Err x) = Err x

@@ -26,10 +26,7 @@ fn is_true(s: &[u8], at: usize) -> bool
     requires { at + cell_bytes ≤ length s.now }
     ensures { result ≡ is_true (or_empty (cell_of BOOLEAN (part at cell_bytes s.now))) }
 {
-    if s[at] != 1 {
-        return false;
-    }
-    word(s, at + 1) == 1
+    s[at] == 1 && word(s, at + 1) == 1
 }
 
 // The first n positions of a coordinate, four bytes each, from `at` on.
@@ -37,10 +34,8 @@ fn put_positions(d: &mut [u8], at: usize, n: usize, p: Coordinate)
     requires { (n ≤ most_axes) × (at + n * limit_bytes ≤ length d.old) }
     ensures { d.new ≡ paste d.old at (positions_bytes (take n p.at)) (n * limit_bytes) }
 {
-    let mut i = 0;
-    while i < n {
+    for i in 0..n {
         put4(d, at + i * LIMIT_BYTES, bits_of(p.at[i]));
-        i += 1;
     }
 }
 
@@ -48,10 +43,7 @@ fn put_positions(d: &mut [u8], at: usize, n: usize, p: Coordinate)
 fn last_axis(rank: usize) -> usize
     ensures { result ≡ rank - 1 }
 {
-    if rank == 0 {
-        return 0;
-    }
-    rank - 1
+    rank.saturating_sub(1)
 }
 
 // The row of an ordinality, from `at` on: the ordinality, the positions of p on the axes before the last, and x on the last.

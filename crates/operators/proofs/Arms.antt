@@ -20,14 +20,15 @@ use Rattle.paper.specs.contracts.Two as Two'
 use Rattle.paper.specs.declared.PairOp.{PairOp}
 use Rattle.paper.specs.declared.PairOp.TheVariants.{Lt, Le, Gt, Ge}
 
--- the arm of what the two cells are
-pub arm : (o : PairOp) (a b : Cell) {r t : Two} → r ≡ two a b → r ≡ t → applied o t a b ≡ pair_cell o a b
-arm o a b e h = ap (λ (t : Two). applied o t a b) (sym h ∙ e)
+-- the arm of two numbers or two truth values, of which an operator's part gave n
+module _ {X : Type 0} (made : Two → X) {r t : Two} where
+  pub arm : {n : X} {u : Two} → n ≡ made u → r ≡ u → r ≡ t → n ≡ made t
+  arm g h e = g ∙ ap made (sym h ∙ e)
 
--- the arm of two INT cells, whose numbers the code has from their bits
-pub ints-arm : (o : PairOp) (a b : Cell) {r : Two} {n : Answer} {x y : ℤ} → r ≡ two a b → r ≡ Ints x y → n ≡ applied o (Ints (to_z w64 (of_z w64 x)) (to_z w64 (of_z w64 y))) a b
-    → SFits w64 x → SFits w64 y → n ≡ pair_cell o a b
-ints-arm o a b e h g f k = g ∙ ap₂ (λ (x y : ℤ). applied o (Ints x y) a b) (to_z-of_z f) (to_z-of_z k) ∙ arm o a b e h
+  -- of two INT cells, whose numbers the code has from their bits
+  pub ints-arm : {n : X} {x y : ℤ} → n ≡ made (Ints (to_z w64 (of_z w64 x)) (to_z w64 (of_z w64 y))) → r ≡ Ints x y → r ≡ t
+      → SFits w64 x → SFits w64 y → n ≡ made t
+  ints-arm g h e f k = g ∙ ap₂ (λ (x y : ℤ). made (Ints x y)) (to_z-of_z f) (to_z-of_z k) ∙ ap made (sym h ∙ e)
 
 -- the last arm, of all kinds of two cells that no arm before it has
 module _ (f : ℤ → ℤ → Answer) where
@@ -39,14 +40,6 @@ module _ (f : ℤ → ℤ → Answer) where
   worked-last g (Truths x y) k = refl
   worked-last g OneEmpty k = refl
   worked-last g Unlike k = refl
-
-  pub modulo-last : (t : Two) → OneOf (1 ∷ 2 ∷ 3 ∷ 4 ∷ []) (tag_of Two'.the_type t) → Ok Empty ≡ worked f (λ x y. Ok Empty) t
-  unfolding worked
-  modulo-last (Ints x y) k = absurd (miss (1 ∷ 2 ∷ 3 ∷ 4 ∷ []) 0 tt k)
-  modulo-last (Floats x y) k = refl
-  modulo-last (Truths x y) k = refl
-  modulo-last OneEmpty k = refl
-  modulo-last Unlike k = refl
 
 pub compared-last : (f : ℤ → ℤ → Bool) (g : Ieee.Float → Ieee.Float → Bool) (h : Bool → Bool → Bool) (t : Two)
     → OneOf (3 ∷ 4 ∷ []) (tag_of Two'.the_type t) → Ok Empty ≡ compared f g h t

@@ -4,28 +4,15 @@ ghost use Rattle.paper.specs.Operators.{two};
 
 use paper::{Cell, Two};
 
+#[tactic(auto, unfolding(paper::specs::Operators::two))]
 pub fn both(a: Cell, b: Cell) -> Two
     ensures { result ≡ two a b }
 {
-    match a {
-        Cell::Empty => return Two::OneEmpty,
-        Cell::Int(x) => match b {
-            Cell::Empty => return Two::OneEmpty,
-            Cell::Int(y) => return Two::Ints(x, y),
-            Cell::Float(_) => return Two::Unlike,
-            Cell::Truth(_) => return Two::Unlike,
-        },
-        Cell::Float(x) => match b {
-            Cell::Empty => return Two::OneEmpty,
-            Cell::Int(_) => return Two::Unlike,
-            Cell::Float(y) => return Two::Floats(x, y),
-            Cell::Truth(_) => return Two::Unlike,
-        },
-        Cell::Truth(x) => match b {
-            Cell::Empty => return Two::OneEmpty,
-            Cell::Int(_) => return Two::Unlike,
-            Cell::Float(_) => return Two::Unlike,
-            Cell::Truth(y) => return Two::Truths(x, y),
-        },
+    match (a, b) {
+        (Cell::Empty, _) | (_, Cell::Empty) => Two::OneEmpty,
+        (Cell::Int(x), Cell::Int(y)) => Two::Ints(x, y),
+        (Cell::Float(x), Cell::Float(y)) => Two::Floats(x, y),
+        (Cell::Truth(x), Cell::Truth(y)) => Two::Truths(x, y),
+        _ => Two::Unlike,
     }
 }

@@ -5,23 +5,16 @@ ghost use Rattle.paper.specs.Operators.{takes, gives, takes_one, gives_one};
 use crate::numbers::{pair_number, single_number};
 use paper::{BOOLEAN, INT, PairOp, SingleOp};
 
+#[tactic(auto, unfolding(paper::specs::Operators::takes))]
 pub fn takes_pair(op: PairOp, kind: u8) -> bool
     ensures { result ≡ takes op kind }
 {
     match op {
-        PairOp::Add => kind != BOOLEAN,
-        PairOp::Sub => kind != BOOLEAN,
-        PairOp::Mul => kind != BOOLEAN,
-        PairOp::Div => kind != BOOLEAN,
+        PairOp::Add | PairOp::Sub | PairOp::Mul | PairOp::Div => kind != BOOLEAN,
         PairOp::Mod => INT == kind,
-        PairOp::Eq => true,
-        PairOp::Ne => true,
-        PairOp::Lt => kind != BOOLEAN,
-        PairOp::Le => kind != BOOLEAN,
-        PairOp::Gt => kind != BOOLEAN,
-        PairOp::Ge => kind != BOOLEAN,
-        PairOp::And => BOOLEAN == kind,
-        PairOp::Or => BOOLEAN == kind,
+        PairOp::Eq | PairOp::Ne => true,
+        PairOp::Lt | PairOp::Le | PairOp::Gt | PairOp::Ge => kind != BOOLEAN,
+        PairOp::And | PairOp::Or => BOOLEAN == kind,
     }
 }
 

@@ -28,6 +28,16 @@ pub enum Origin {
     FromB(usize),
 }
 
+// A step that moves cells: its move, its bytes, the extents of its operands a and b and of its result t.
+#[derive(Clone, Copy)]
+pub struct MovedStep {
+    pub m: Move,
+    pub step: StepHead,
+    pub a: Extent,
+    pub b: Extent,
+    pub t: Extent,
+}
+
 // ---- by coordinate
 
 // Where the coordinate of cell k of an extent is found in another: so many cells after the first, or nowhere.
@@ -50,8 +60,8 @@ fn in_first(t: Extent, k: usize, e: Extent) -> Origin
 {
     let found = found_at(t, k, e);
     match found {
-        Some(j) => return Origin::FromA(j),
-        None => return Origin::Nowhere,
+        Some(j) => Origin::FromA(j),
+        None => Origin::Nowhere,
     }
 }
 
@@ -62,8 +72,8 @@ fn laid_over(t: Extent, k: usize, f: Extent, j: usize) -> Origin
 {
     let found = found_at(t, k, f);
     match found {
-        Some(i) => return Origin::FromB(i),
-        None => return Origin::FromA(j),
+        Some(i) => Origin::FromB(i),
+        None => Origin::FromA(j),
     }
 }
 
@@ -164,31 +174,23 @@ pub fn in_turns(m: usize, n: usize, j: usize) -> Origin
 
 // ---- by move
 
-// Where cell k of a step's result comes from; a and b are the extents of its operands, t that of its result.
-pub fn origin_of(
-    m: Move,
-    step: StepHead,
-    a: Extent,
-    b: Extent,
-    t: Extent,
-    k: usize,
-    s: &[u8],
-) -> Origin
-    requires holds { Holds step.at (detail_of step) s.now }
-    requires moving { Moving m (step_in s.now step) (axes_of a) (axes_of b) (axes_of t) }
-    requires k_bound { k < cells (axes_of t) }
-    ensures { result ≡ comes m (step_in s.now step) (axes_of a) (axes_of b) (axes_of t) k }
+// Where cell k of the step's result comes from.
+pub fn origin_of(w: &MovedStep, k: usize, s: &[u8]) -> Origin
+    requires holds { Holds w.now.step.at (detail_of w.now.step) s.now }
+    requires moving { Moving w.now.m (step_in s.now w.now.step) (axes_of w.now.a) (axes_of w.now.b) (axes_of w.now.t) }
+    requires k_bound { k < cells (axes_of w.now.t) }
+    ensures { result ≡ comes w.now.m (step_in s.now w.now.step) (axes_of w.now.a) (axes_of w.now.b) (axes_of w.now.t) k }
 {
-    let at = step.at;
-    let axis = AxisIndex(step.axis as u32);
-    match m {
-        Move::Trim => return in_first(t, k, a),
-        Move::Slice => return sliced(a, axis, position_at(s, at), k),
-        Move::Reshape => return in_first(t, k, a),
-        Move::Shift => return Origin::FromA(k),
-        Move::Rename => return Origin::FromA(k),
-        Move::Update => return laid_over(t, k, b, k),
-        Move::Put => return laid_over(t, k, patch_of(b, axis, position_at(s, at)), k),
-        Move::Glue => return in_turns(block_of(a, axis), block_of(b, axis), k),
+    let at = w.step.at;
+    let axis = AxisIndex(w.step.axis as u32);
+    match w.m {
+        Move::Trim => in_first(w.t, k, w.a),
+        Move::Slice => sliced(w.a, axis, position_at(s, at), k),
+        Move::Reshape => in_first(w.t, k, w.a),
+        Move::Shift => Origin::FromA(k),
+        Move::Rename => Origin::FromA(k),
+        Move::Update => laid_over(w.t, k, w.b, k),
+        Move::Put => laid_over(w.t, k, patch_of(w.b, axis, position_at(s, at)), k),
+        Move::Glue => in_turns(block_of(w.a, axis), block_of(w.b, axis), k),
     }
 }

@@ -1,5 +1,5 @@
 -- Forms judged one after the other: what is known of one, the loop as a record with a law for each event, and what is known of all.
-use Rattle.std.specs.Prelude.{ℕ, ◌+◌, ◌-◌, ◌*◌, ◌≤◌, ◌<◌, ◌≡◌, refl, Bool, true, false, List, [], ◌∷◌, map, length, get_or, take, Err}
+use Rattle.std.specs.Prelude.{ℕ, ◌+◌, ◌-◌, ◌*◌, ◌≤◌, ◌<◌, ◌≡◌, refl, Bool, true, false, List, [], ◌∷◌, map, length, get_or, take, Ok, Err}
 use Rattle.std.proofs.Math.Path.{sym, ap}
 use Rattle.std.proofs.Common.{ap₂, ◌∙◌, add-one, arith, ne_eqb, length-drop, drop-drop}
 use Rattle.std.proofs.Math.ListN.{drop, length-append, drop_of_length-le}
@@ -7,40 +7,36 @@ use Rattle.paper.specs.declared.Sizes.{Sizes}
 use Rattle.paper.specs.declared.Form.{Form}
 use Rattle.paper.specs.declared.Refusal.{Refusal}
 use Rattle.paper.specs.Limits.{most_arrays, most_axes, type_bytes, cell_bytes}
-use Rattle.paper.specs.Refusals.{refusal, between, bad_bytes1, bad_extent2}
+use Rattle.paper.specs.Refusals.{Res, refusal, between, bad_bytes1, bad_extent2}
 use Rattle.paper.specs.Numbers.{none?}
 use Rattle.paper.specs.Cells.{is_type}
 use Rattle.paper.specs.Bundle.{mark_bytes, names_fit, pack_array, pack_arrays, packed}
 use Rattle.paper.specs.Answers.{shape_of}
-use Rattle.laws.specs.Answers.{unless-refused}
 use Rattle.laws.specs.Loops.{length-first, drop-first-cons}
 use Rattle.laws.specs.Sizes.{Fits}
 use Rattle.laws.specs.Tests.{between-true}
 use Rattle.extent.specs.Rank.{Rank}
 use Rattle.bundle.specs.Axes.{axes-small}
-use Rattle.bundle.specs.Read.{head_at, JudgedArray}
+use Rattle.bundle.specs.Read.{JudgedArray}
 use Rattle.pack.specs.declared.judge.FormJudged.{FormJudged}
-use Rattle.pack.specs.declared.judge.Verdict.{Verdict}
 use Rattle.pack.specs.Put.{names-full}
 use Rattle.pack.specs.Laid.{shapes_of, shapes-length, shapes-few, cell_room, form_bytes, most_bytes, FormPassed}
 use Rattle.pack.specs.Laid.{ready-packed, ready-small, ready-long, AllReady, laid_bytes, rest_of, packed-left}
 
 -- ---- one form
 
--- the answers that are a refusal
-abbrev pub stopped : Refusal → FormJudged
-stopped x = record { refusal = x; end = 0; long = 0 }
-
-abbrev pub over : Refusal → Verdict
-over x = record { refusal = x; long = 0 }
-
-pub record JudgedForm (z : Sizes) (bs : List ℕ) (from k : ℕ) (form : Form) (r : FormJudged) : Type 0 where
-  pub no : (r.refusal.number ≡ 0 → ⊥) → pack_array z k (shape_of form) (drop from bs) ≡ Err r.refusal
-  pub ready : r.refusal.number ≡ 0 → FormPassed z form (drop from bs)
-  pub end : r.refusal.number ≡ 0 → r.end ≡ from + cell_room form
-  pub long : r.refusal.number ≡ 0 → r.long ≡ length (form_bytes z form (drop from bs))
+-- a form that was judged good: its cells end there, and it has so many bytes in the bundle
+pub record FormGot (z : Sizes) (bs : List ℕ) (from : ℕ) (form : Form) (r : FormJudged) : Type 0 where
+  pub ready : FormPassed z form (drop from bs)
+  pub end : r.end ≡ from + cell_room form
+  pub long : r.long ≡ length (form_bytes z form (drop from bs))
   pub few : r.long ≤ most_bytes
   pub room : r.end ≤ length bs
+
+-- the same, or the refusal
+abbrev pub JudgedForm : Sizes → List ℕ → ℕ → ℕ → Form → Res FormJudged → Type 0
+JudgedForm z bs from k form (Ok r) = FormGot z bs from form r
+JudgedForm z bs from k form (Err x) = Err x ≡ pack_array z k (shape_of form) (drop from bs)
 
 -- n is the number of axes
 module _ (z : Sizes) (form : Form) {n : ℕ} (r : Rank form.extent n) where
@@ -52,37 +48,31 @@ module _ (z : Sizes) (form : Form) {n : ℕ} (r : Rank form.extent n) where
   names-are e = ap (λ (m : ℕ). names_fit z (take m form.names)) (sym r.number) ∙ e
 
 -- each way out of the judging of one
-module _ {z : Sizes} (fits : Fits z) {bs : List ℕ} {from k : ℕ} {form : Form} where
-  form-refused : {x : Refusal} → (x.number ≡ 0 → ⊥) → pack_array z k (shape_of form) (drop from bs) ≡ Err x
-      → JudgedForm z bs from k form (stopped x)
-  form-refused h q =
-      record { no = λ f. q; ready = λ f. search; end = λ f. search; long = λ f. search; few = omega arith; room = omega arith }
-
-  pub form_type : is_type form.kind ≡ false → JudgedForm z bs from k form (stopped (refusal bad_bytes1 k 0))
+module _ {z : Sizes} (fits : Fits z) (bs : List ℕ) (from k : ℕ) (form : Form) where
+  pub form_type : is_type form.kind ≡ false → JudgedForm z bs from k form (Err (refusal bad_bytes1 k 0))
   unfolding pack_array
-  form_type t = form-refused (λ y. omega arith) (rw t)
+  form_type t = rw t
 
   module _ (t : is_type form.kind ≡ true) {n : ℕ} (r : Rank form.extent n) where
-    pub form-count : between 1 z.axes n ≡ false → JudgedForm z bs from k form (stopped (refusal bad_bytes1 k 0))
+    pub form-count : between 1 z.axes n ≡ false → JudgedForm z bs from k form (Err (refusal bad_bytes1 k 0))
     unfolding pack_array
-    form-count b = form-refused (λ y. omega arith) (rw (t, ← r.number, b))
+    form-count b = rw (t, ← r.number, b)
 
     module _ (b : between 1 z.axes n ≡ true) where
-      pub form-long : names_fit z (take n form.names) ≡ false → JudgedForm z bs from k form (stopped (refusal bad_extent2 k 0))
+      pub form-long : names_fit z (take n form.names) ≡ false → JudgedForm z bs from k form (Err (refusal bad_extent2 k 0))
       unfolding pack_array
-      form-long e = form-refused (λ y. omega arith) (rw (t, counted z form r b, names-are z form r e))
+      form-long e = rw (t, counted z form r b, names-are z form r e)
 
-      module _ (e : names_fit z (take n form.names) ≡ true) {c : ℕ} {x : Refusal} (j : JudgedArray bs k (head_at form from c) x) where
-        pub form-bad : (x.number ≡ 0 → ⊥) → JudgedForm z bs from k form (stopped x)
+      module _ (e : names_fit z (take n form.names) ≡ true) where
+        pub form-bad : {x : Refusal} → JudgedArray bs k form from (Err x) → JudgedForm z bs from k form (Err x)
         unfolding pack_array
-        form-bad f = form-refused f (rw (t, counted z form r b, names-are z form r e) (sym j.said ∙ unless-refused x _ f))
+        form-bad j = rw (t, counted z form r b, names-are z form r e) j
 
         -- an array that was read is ready to be packed
-        pub form-got : length form.names ≡ most_axes → x.number ≡ 0
-            → JudgedForm z bs from k form
-            (record { refusal = x; end = from + c * cell_bytes; long = type_bytes + n * z.axis + c * cell_bytes })
-        form-got m y =
-            let f = j.fit y in
+        pub form-got : length form.names ≡ most_axes → {c : ℕ} → JudgedArray bs k form from (Ok c)
+            → JudgedForm z bs from k form (Ok (record { end = from + c * cell_bytes; long = type_bytes + n * z.axis + c * cell_bytes }))
+        form-got m {c} j =
+            let f = j.1 in
             let l : cell_room form ≤ length (drop from bs) = omega (arith, length-drop from bs, f.fits) in
             let v : FormPassed z form (drop from bs) =
             record {
@@ -97,10 +87,9 @@ module _ {z : Sizes} (fits : Fits z) {bs : List ℕ} {from k : ℕ} {form : Form
             let p : c * cell_bytes ≡ cell_room form = ap (λ (i : ℕ). i * cell_bytes) f.counted in
             let s = axes-small z fits n (between-true z.axes n b).1 in
             record {
-              no = λ f. absurd (f y);
-              ready = λ f. v;
-              end = λ f. ap (λ (i : ℕ). from + i) p;
-              long = λ f. ap₂ (λ (i j : ℕ). type_bytes + i * z.axis + j) r.number p ∙ sym (ready-long fits v);
+              ready = v;
+              end = ap (λ (i : ℕ). from + i) p;
+              long = ap₂ (λ (i j : ℕ). type_bytes + i * z.axis + j) r.number p ∙ sym (ready-long fits v);
               few = omega (arith, s, (ready-small fits v).few);
               room = omega (arith, p, f.fits);
             }
@@ -112,8 +101,8 @@ pub record Judging (z : Sizes) (fs : List Form) (bs : List ℕ) (at long i : ℕ
   pub turns : i ≤ length fs
   pub few : long ≤ mark_bytes + 1 + i * most_bytes
   pub room : at ≤ length bs
-  pub no : (x : Refusal) → pack_arrays z (i + 1) (map shape_of (drop i fs)) (drop at bs) ≡ Err x
-      → pack_arrays z 1 (map shape_of fs) bs ≡ Err x
+  pub no : (x : Refusal) → Err x ≡ pack_arrays z (i + 1) (map shape_of (drop i fs)) (drop at bs)
+      → Err x ≡ pack_arrays z 1 (map shape_of fs) bs
   pub ready : AllReady z (drop i fs) (drop at bs) → AllReady z fs bs
   pub rest : rest_of (drop i fs) (drop at bs) ≡ rest_of fs bs
   pub size : long + length (laid_bytes z (drop i fs) (drop at bs)) ≡ mark_bytes + 1 + length (laid_bytes z fs bs)
@@ -123,34 +112,40 @@ judging-start z fs bs =
     record { turns = omega arith; few = omega arith; room = omega arith; no = λ x e. e; ready = λ v. v; rest = refl; size = refl }
 
 module _ {z : Sizes} (fits : Fits z) {fs : List Form} {bs : List ℕ} {at long i : ℕ} (v : Judging z fs bs at long i)
-    {f : Form} (e : drop i fs ≡ f ∷ drop (i + 1) fs) {r : FormJudged} (j : JudgedForm z bs at (i + 1) f r) where
-  judging-refused : (r.refusal.number ≡ 0 → ⊥) → pack_arrays z 1 (map shape_of fs) bs ≡ Err r.refusal
+    {f : Form} (e : drop i fs ≡ f ∷ drop (i + 1) fs) where
+  judging-refused : {x : Refusal} → JudgedForm z bs at (i + 1) f (Err x) → Err x ≡ pack_arrays z 1 (map shape_of fs) bs
   unfolding pack_arrays
-  judging-refused h = v.no r.refusal (rw (e, j.no h))
+  judging-refused {x} j = v.no x (rw (e, ← j))
 
-  pub judging-more : r.refusal.number ≡ 0 → i < length fs → Judging z fs bs r.end (long + r.long) (i + 1)
+  pub judging-more : {r : FormJudged} → JudgedForm z bs at (i + 1) f (Ok r) → i < length fs
+      → Judging z fs bs r.end (long + r.long) (i + 1)
   unfolding pack_arrays laid_bytes rest_of
-  judging-more y h =
-      let g : drop (cell_room f) (drop at bs) ≡ drop r.end bs = rw (j.end y, drop-drop) in
+  judging-more {r} j h =
+      let g : drop (cell_room f) (drop at bs) ≡ drop r.end bs = rw (j.end, drop-drop) in
       record {
         turns = omega arith;
         few = omega (arith, v.few, j.few);
         room = j.room;
-        no = λ x q. v.no x (rw (e, ready-packed fits (j.ready y) (i + 1), g, q));
-        ready = λ a. v.ready (rw e (j.ready y, rw g a));
+        no = λ x q. v.no x (rw (e, ready-packed fits j.ready (i + 1), g, ← q));
+        ready = λ a. v.ready (rw e (j.ready, rw g a));
         rest = ap (rest_of (drop (i + 1) fs)) (sym g) ∙ (rw e at v.rest);
-        size = omega (arith, rw (e, g, length-append (form_bytes z f (drop at bs))) at v.size, j.long y);
+        size = omega (arith, rw (e, g, length-append (form_bytes z f (drop at bs))) at v.size, j.long);
       }
 
 -- ---- all of them
 
-pub record JudgedAll (z : Sizes) (count : ℕ) (forms : List Form) (bs : List ℕ) (r : Verdict) : Type 0 where
-  pub no : (r.refusal.number ≡ 0 → ⊥) → (room : ℕ) → packed z (shapes_of count forms) bs room ≡ Err r.refusal
-  pub counted : r.refusal.number ≡ 0 → between 1 most_arrays count ≡ true
-  pub ready : r.refusal.number ≡ 0 → AllReady z (take count forms) bs
-  pub rest : r.refusal.number ≡ 0 → rest_of (take count forms) bs ≡ []
-  pub long : r.refusal.number ≡ 0 → r.long ≡ mark_bytes + 1 + length (laid_bytes z (take count forms) bs)
-  pub few : r.long ≤ mark_bytes + 1 + most_arrays * most_bytes
+-- every one was judged good, no cell bytes are left over, and the bundle has n bytes
+pub record AllGot (z : Sizes) (count : ℕ) (forms : List Form) (bs : List ℕ) (n : ℕ) : Type 0 where
+  pub counted : between 1 most_arrays count ≡ true
+  pub ready : AllReady z (take count forms) bs
+  pub rest : rest_of (take count forms) bs ≡ []
+  pub long : n ≡ mark_bytes + 1 + length (laid_bytes z (take count forms) bs)
+  pub few : n ≤ mark_bytes + 1 + most_arrays * most_bytes
+
+-- the same, or the refusal, whatever room the output has
+abbrev pub JudgedAll : Sizes → ℕ → List Form → List ℕ → Res ℕ → Type 0
+JudgedAll z count forms bs (Ok n) = AllGot z count forms bs n
+JudgedAll z count forms bs (Err x) = (room : ℕ) → Err x ≡ packed z (shapes_of count forms) bs room
 
 -- so many forms, from 1 to the most, and they are there
 pub record Counted (count : ℕ) (forms : List Form) : Type 0 where
@@ -158,15 +153,10 @@ pub record Counted (count : ℕ) (forms : List Form) : Type 0 where
   pub full : length forms ≡ most_arrays
 
 -- each way out
-module _ {z : Sizes} (fits : Fits z) {count : ℕ} {forms : List Form} where
-  all-refused : {bs : List ℕ} {x : Refusal} → (x.number ≡ 0 → ⊥) → ((room : ℕ) → packed z (shapes_of count forms) bs room ≡ Err x)
-      → JudgedAll z count forms bs (over x)
-  all-refused h q =
-      record { no = λ f. q; counted = λ f. search; ready = λ f. search; rest = λ f. search; long = λ f. search; few = omega arith }
-
-  pub all-count : {bs : List ℕ} → between 1 most_arrays count ≡ false → JudgedAll z count forms bs (over (refusal bad_bytes1 0 0))
+module _ {z : Sizes} (fits : Fits z) (count : ℕ) (forms : List Form) where
+  pub all-count : (bs : List ℕ) → between 1 most_arrays count ≡ false → JudgedAll z count forms bs (Err (refusal bad_bytes1 0 0))
   unfolding packed
-  all-count b = all-refused (λ y. omega arith) (λ room. rw (shapes-length count forms, b))
+  all-count bs b = λ room. rw (shapes-length count forms, b)
 
   module _ (n : Counted count forms) where
     count-few : count ≤ length forms
@@ -179,11 +169,10 @@ module _ {z : Sizes} (fits : Fits z) {count : ℕ} {forms : List Form} where
     next-form i d h = rw add-one (drop-first-cons forms count count-few i d h)
 
     module _ {bs : List ℕ} {at long i : ℕ} (v : Judging z (take count forms) bs at long i) where
-      pub all-bad : {f : Form} → drop i (take count forms) ≡ f ∷ drop (i + 1) (take count forms) → {r : FormJudged}
-          → JudgedForm z bs at (i + 1) f r → (r.refusal.number ≡ 0 → ⊥) → JudgedAll z count forms bs (over r.refusal)
+      pub all-bad : {f : Form} → drop i (take count forms) ≡ f ∷ drop (i + 1) (take count forms) → {x : Refusal}
+          → JudgedForm z bs at (i + 1) f (Err x) → JudgedAll z count forms bs (Err x)
       unfolding packed
-      all-bad g j h =
-          all-refused h (λ room. rw (shapes-length count forms, n.range, shapes-few count forms count-few, judging-refused fits v g j h))
+      all-bad g j = λ room. rw (shapes-length count forms, n.range, shapes-few count forms count-few, ← judging-refused fits v g j)
 
       -- none are left
       module _ (h : count ≤ i) where
@@ -197,20 +186,18 @@ module _ {z : Sizes} (fits : Fits z) {count : ℕ} {forms : List Form} where
         unfolding rest_of
         its-rest = rw none_left at v.rest
 
-        pub all_left : at < length bs → JudgedAll z count forms bs (over (refusal bad_bytes1 0 0))
+        pub all_left : at < length bs → JudgedAll z count forms bs (Err (refusal bad_bytes1 0 0))
         all_left g =
             let y : none? (drop at bs) ≡ false = rw (length-drop at bs) (ne_eqb (length bs - at) 0 (λ e. omega arith)) in
-            all-refused (λ y. omega arith)
-            (λ room. packed-left z fits count forms bs room count-few n.range all-ready (rw its-rest at y))
+            λ room. sym (packed-left z fits count forms bs room count-few n.range all-ready (rw its-rest at y))
 
-        pub all-got : length bs ≤ at → JudgedAll z count forms bs (record { refusal = refusal 0 0 0; long = long })
+        pub all-got : length bs ≤ at → JudgedAll z count forms bs (Ok long)
         unfolding laid_bytes
         all-got g =
             record {
-              no = λ f. absurd (f refl);
-              counted = λ f. n.range;
-              ready = λ f. all-ready;
-              rest = λ f. sym its-rest ∙ drop_of_length-le bs {i = at} g;
-              long = λ f. omega (arith, rw none_left at v.size);
+              counted = n.range;
+              ready = all-ready;
+              rest = sym its-rest ∙ drop_of_length-le bs {i = at} g;
+              long = omega (arith, rw none_left at v.size);
               few = omega (arith, v.few, v.turns, count-first, count-few);
             }

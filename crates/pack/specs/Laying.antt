@@ -1,6 +1,7 @@
 -- Arrays written one after the other: an array's parts as the code puts them, the loop over the arrays as a record with a law for each
 -- event, and packing as a whole.
 use Rattle.std.specs.Prelude.{ℕ, ◌+◌, ◌*◌, ◌≤◌, ◌<◌, ◌≡◌, List, [], ◌∷◌, ◌++◌, leb, take, drop, Ok, Err}
+use Rattle.std.specs.Option.{unwrap_or}
 use Rattle.std.proofs.Math.Path.{refl, sym, ap}
 use Rattle.std.proofs.Common.{◌∙◌, le-leb, drop_of_length-le}
 use native.Mathlib.Omega.{arith}
@@ -11,7 +12,7 @@ use Rattle.paper.specs.declared.Sizes.{Sizes}
 use Rattle.paper.specs.declared.Form.{Form}
 use Rattle.paper.specs.declared.Refusal.{Refusal}
 use Rattle.paper.specs.Limits.{most_arrays, most_cells, cell_bytes}
-use Rattle.paper.specs.Refusals.{Res, ◌>>=◌, ◌>>◌, refusal, ensure, bad_bytes1, small_output14}
+use Rattle.paper.specs.Refusals.{Res, ◌>>=◌, ◌>>◌, refusal, ensure, small_output14}
 use Rattle.paper.specs.Numbers.{le_bytes, part}
 use Rattle.paper.specs.Axes.{Shape}
 use Rattle.paper.specs.Bundle.{mark, mark_bytes, version_told, packed, After, put_into, pack}
@@ -21,12 +22,11 @@ use Rattle.laws.specs.Sizes.{Fits}
 use Rattle.laws.specs.Tests.{between-true}
 use Rattle.extent.specs.Judged.{few_cells}
 use Rattle.bundle.specs.Read.{cells_in}
-use Rattle.pack.specs.declared.judge.Verdict.{Verdict}
 use Rattle.pack.specs.declared.put.Ends.{Ends}
 use Rattle.laws.specs.Put.{put, put-none, length-put, after}
 use Rattle.pack.specs.Heads.{head_of, HeadRoom, HeadPut, its-long, head-kept}
 use Rattle.pack.specs.Laid.{shapes_of, cell_room, form_bytes, FormPassed, ready-small, ready-alike, ready-long, AllReady, laid_bytes, bundle_of, packed-ready}
-use Rattle.pack.specs.Judging.{JudgedAll}
+use Rattle.pack.specs.Judging.{AllGot}
 
 -- ---- an array
 
@@ -44,7 +44,7 @@ pub record ArrayPut (z : Sizes) (form : Form) (bs : List ℕ) (from : ℕ) (d : 
 
 module _ {z : Sizes} (fits : Fits z) {form : Form} {bs : List ℕ} {from : ℕ} {d : List ℕ} {at : ℕ} (q : ArrayRoom z form bs from d at)
     {m : ℕ}
-    (em : m ≡ few_cells (axes_of form.extent)) where
+    (em : m ≡ unwrap_or (few_cells (axes_of form.extent)) 0) where
   its-cells : m ≡ cells_in form
   its-cells = em ∙ rw (le-leb (cells_in form) most_cells (ready-small fits q.ready).few)
 
@@ -141,47 +141,46 @@ pub record PackedAs (z : Sizes) (ss : List Shape) (bs out : List ℕ) (r : Res �
   pub said : r ≡ (put_into out (packed z ss bs (length out))).answer
   pub wrote : y ≡ (put_into out (packed z ss bs (length out))).buffer
 
-pub pack-refused : (z : Sizes) (ss : List Shape) (bs out : List ℕ) (x : Refusal) → packed z ss bs (length out) ≡ Err x
+pub pack-refused : (z : Sizes) (ss : List Shape) (bs out : List ℕ) (x : Refusal) → Err x ≡ packed z ss bs (length out)
     → PackedAs z ss bs out (Err x) out
 unfolding put_into
-pack-refused z ss bs out x e = record { said = rw e; wrote = rw e }
+pack-refused z ss bs out x e = record { said = rw (← e); wrote = rw (← e) }
 
-module _ {z : Sizes} (fits : Fits z) {count : ℕ} {forms : List Form} {bs : List ℕ} {r : Verdict} (j : JudgedAll z count forms bs r)
-    (y : r.refusal.number ≡ 0) where
+module _ {z : Sizes} (fits : Fits z) {count : ℕ} {forms : List Form} {bs : List ℕ} {n : ℕ} (j : AllGot z count forms bs n) where
   abbrev bundle : List ℕ
   bundle = bundle_of z count (take count forms) bs
 
   pub count-least : (1 ≤ count) × (count ≤ most_arrays)
-  count-least = between-true most_arrays count (j.counted y)
+  count-least = between-true most_arrays count j.counted
 
-  its-length : length bundle ≡ r.long
+  its-length : length bundle ≡ n
   unfolding le_bytes
-  its-length = omega (arith, j.long y)
+  its-length = omega (arith, j.long)
 
   -- the mark is written
-  pub all_room : (out : List ℕ) → r.long ≤ length out → (x : List ℕ) → x ≡ put out 0 (mark z ++ (count ∷ [])) → AllRoom z count forms bs x
+  pub all_room : (out : List ℕ) → n ≤ length out → (x : List ℕ) → x ≡ put out 0 (mark z ++ (count ∷ [])) → AllRoom z count forms bs x
   unfolding le_bytes
   all_room out h x p =
-      let e : length x ≡ length out = ap length p ∙ length-put out 0 (mark z ++ (count ∷ [])) (omega (arith, j.long y)) in
-      record { few = count-least.1; ready = j.ready y; room = omega (arith, j.long y) }
+      let e : length x ≡ length out = ap length p ∙ length-put out 0 (mark z ++ (count ∷ [])) (omega (arith, j.long)) in
+      record { few = count-least.1; ready = j.ready; room = omega (arith, j.long) }
 
   module _ (l : length forms ≡ most_arrays) (g : Bytes bs) (out : List ℕ) where
     by-room : packed z (shapes_of count forms) bs (length out) ≡ (ensure (leb (length bundle) (length out)) small_output14 0 >> Ok bundle)
-    by-room = packed-ready z fits count forms bs (length out) (omega (arith, count-least)) (j.counted y) (j.ready y) (j.rest y) g
+    by-room = packed-ready z fits count forms bs (length out) (omega (arith, count-least)) j.counted j.ready j.rest g
 
-    pub pack-small : length out < r.long → PackedAs z (shapes_of count forms) bs out (Err (refusal small_output14 0 0)) out
-    pack-small h = pack-refused z _ bs out _ (rw (lt-leb (length bundle) (length out) (omega (arith, its-length))) at by-room)
+    pub pack-small : length out < n → PackedAs z (shapes_of count forms) bs out (Err (refusal small_output14 0 0)) out
+    pack-small h = pack-refused z _ bs out _ (sym (rw (lt-leb (length bundle) (length out) (omega (arith, its-length))) at by-room))
 
-    pub pack-got : r.long ≤ length out → (x w : List ℕ) → x ≡ put out 0 (mark z ++ (count ∷ []))
-        → w ≡ put x (mark_bytes + 1) (laid_bytes z (take count forms) bs) → PackedAs z (shapes_of count forms) bs out (Ok r.long) w
+    pub pack-got : n ≤ length out → (x w : List ℕ) → x ≡ put out 0 (mark z ++ (count ∷ []))
+        → w ≡ put x (mark_bytes + 1) (laid_bytes z (take count forms) bs) → PackedAs z (shapes_of count forms) bs out (Ok n) w
     unfolding put_into le_bytes
     pack-got h x w p q =
         let e : packed z (shapes_of count forms) bs (length out) ≡ Ok bundle =
         rw (le-leb (length bundle) (length out) (omega (arith, its-length))) at by-room in
         let u =
-        after out 0 (mark z ++ (count ∷ [])) (laid_bytes z (take count forms) bs) x w (mark_bytes + 1) (omega (arith, j.long y)) refl p q in
-        let n : 0 + length bundle ≡ length bundle = omega arith in
-        record { said = rw (e, its-length); wrote = rw e (rw n at u) }
+        after out 0 (mark z ++ (count ∷ [])) (laid_bytes z (take count forms) bs) x w (mark_bytes + 1) (omega (arith, j.long)) refl p q in
+        let b : 0 + length bundle ≡ length bundle = omega arith in
+        record { said = rw (e, its-length); wrote = rw e (rw b at u) }
 
 -- ---- by the version told
 

@@ -26,12 +26,7 @@ pub fn pack_as(
 ) -> Result<u32, Refusal>
     ensures { PackedAs (sizes_of v) (shapes_of count forms) cells.now out.old result out.new }
 {
-    let verdict = judged(v, count, forms, cells);
-    let refusal = verdict.refusal;
-    if refusal.number != 0 {
-        return Err(refusal);
-    }
-    let long = verdict.long;
+    let long = judged(v, count, forms, cells)?;
     if out.len() < long {
         return Err(refuse(14, 0));
     }

@@ -114,7 +114,7 @@ fn put_array(v: Version, form: Form, cells: &[u8], from: usize, d: &mut [u8], at
     requires { ArrayRoom (sizes_of v) form cells.now from d.old at }
     ensures { ArrayPut (sizes_of v) form cells.now from d.old at result d.new }
 {
-    let long = cells_of(form.extent) * CELL_BYTES;
+    let long = cells_of(form.extent).unwrap_or(0) * CELL_BYTES;
     let begin = put_head(v, form, d, at);
     copy_bytes(cells, from, d, begin, long);
     Ends {

@@ -1,21 +1,15 @@
 -- The answers of the callable parts: a call answers a Result, what was got or the refusal, as the paper has it. Where the engine answers
 -- with more (a struct, a byte place), the answer as the paper's values or its refusal, for every case.
-use Rattle.std.specs.Prelude.{Result, ℕ, ◌+◌, ◌-◌, ◌*◌, ◌≡◌, List, [], ◌∷◌, ◌++◌, map, eqb, leb, take, length, replicate, if◌then◌else◌, Ok, Err, Option}
+use Rattle.std.specs.Prelude.{Result, ℕ, ◌+◌, ◌-◌, ◌*◌, ◌≡◌, List, [], ◌∷◌, ◌++◌, map, leb, take, length, replicate, if◌then◌else◌, Ok, Err}
 use Rattle.paper.specs.declared.Sizes.{Sizes}
 use Rattle.paper.specs.declared.Name.{Name}
 use Rattle.paper.specs.declared.Axis.{Axis}
 use Rattle.paper.specs.declared.Extent.{Extent}
 use Rattle.paper.specs.declared.Form.{Form}
-use Rattle.paper.specs.declared.Cell.{Cell}
-use Rattle.paper.specs.declared.Refusal.{Refusal}
 use Rattle.paper.specs.declared.Reading.{Reading}
 use Rattle.paper.specs.declared.JsonRefusal.{JsonRefusal}
 use Rattle.paper.specs.declared.JsonRefusal.TheVariants as Json
-use Rattle.paper.specs.declared.Foreseen.{Foreseen}
 use Rattle.paper.specs.declared.Walk.{Walk}
-use Rattle.paper.specs.declared.Totalled.{Totalled}
-use Rattle.paper.specs.declared.Listed.{Listed}
-use Rattle.paper.specs.declared.Part.{Part}
 use Rattle.paper.specs.Limits.{most_axes, type_bytes, cell_bytes}
 use Rattle.paper.specs.Refusals.{Res, ◌>>=◌, refusal, not_json15, misfit16}
 use Rattle.paper.specs.Axes.{no_name, cells, no_axis, Shape, Array, shaped}
@@ -65,12 +59,9 @@ reading bs = do
   As ← read_bundle bs
   Ok (lying_from (sizes_in bs) (mark_bytes + 1) As)
 
--- number 0 stands for no refusal
-abbrev pub unless : {A : Type 0} → Refusal → A → Res A
-unless r a = if eqb r.number 0 then Ok a else Err r
-
-abbrev pub read_said : Reading → Res (List (Shape × ℕ))
-read_said r = unless r.refusal (map (λ h. (shape_of h.form, h.at)) (take r.count r.heads))
+abbrev pub read_said : Res Reading → Res (List (Shape × ℕ))
+read_said (Ok r) = Ok (map (λ h. (shape_of h.form, h.at)) (take r.count r.heads))
+read_said (Err x) = Err x
 
 -- ---- the other answers
 

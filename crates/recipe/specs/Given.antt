@@ -8,11 +8,11 @@ use Rattle.laws.specs.Tests.{and_left}
 use Rattle.laws.specs.Answers.{no_head}
 use Rattle.laws.specs.Lists.{get_d_any}
 use Rattle.extent.specs.Judged.{good-small}
-use Rattle.bundle.specs.Read.{array_at, ReadAll}
+use Rattle.bundle.specs.Read.{array_at, Kept}
 use Rattle.recipe.specs.Operands.{shape_in}
 use Rattle.recipe.specs.Whole.{GoodArrays}
 
-pub read-good : (bs : List ℕ) (r : Reading) → ReadAll bs r → GoodArrays r
+pub read-good : (bs : List ℕ) (r : Reading) → Kept bs r → GoodArrays r
 read-good bs r v = record {
   room = v.room;
   few = v.few;

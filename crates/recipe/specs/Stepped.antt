@@ -1,5 +1,5 @@
 -- One step's answer in the paper's terms: the step planned or the refusal, and what is kept of its result.
-use Rattle.std.specs.Prelude.{ℕ, ◌+◌, ◌-◌, ◌≤◌, ◌<◌, ◌≡◌, refl, Bool, true, false, not, List, [], ◌∷◌, take, drop, get_or, if◌then◌else◌, Some, Ok, Err, None, Option}
+use Rattle.std.specs.Prelude.{ℕ, ◌+◌, ◌-◌, ◌≤◌, ◌<◌, ◌≡◌, refl, Bool, true, false, not, List, [], ◌∷◌, take, drop, get_or, if◌then◌else◌, Some, Ok, Err, None}
 use Rattle.std.proofs.Math.Path.{sym, ap, subst}
 use Rattle.std.proofs.Common.{ap₂, ◌∙◌, le_refl, le_of_eq, arith, ne_eqb, length-append, length-take, length-drop, get_or-take, get_or-drop, take_all, length-take-le}
 use Rattle.std.proofs.Math.Nat.{le_trans}
@@ -21,13 +21,13 @@ use Rattle.paper.specs.Refusals.{Res, refusal, unknown4, bad_result9}
 use Rattle.paper.specs.Numbers.{part, none?, signed_at, position_at, moved}
 use Rattle.paper.specs.Axes.{width, cells, limited, axis_at, Shape}
 use Rattle.paper.specs.Recipe.{Step, Planned, operation, step_of, operand, no_shape, uses, axis_in, glued, result_names, result_axes, result_of, good_result, step_tests, step_result, step_over, plan_step}
-use Rattle.paper.specs.Answers.{axes_of, names_for, shape_of, unless}
+use Rattle.paper.specs.Answers.{axes_of, names_for, shape_of}
 use Rattle.laws.specs.Sizes.{fits}
-use Rattle.laws.specs.Answers.{no_head, extent-axes, unless-refused, unless-got}
+use Rattle.laws.specs.Answers.{no_head, extent-axes}
 use Rattle.laws.specs.Tests.{and_none, between-true}
 use Rattle.laws.specs.Passed.{operand_b, tests-passed}
 use Rattle.positions.specs.Runs.{Holds, part-part}
-use Rattle.extent.specs.Judged.{Small, good_cells, good-zero, good-some, good-small}
+use Rattle.extent.specs.Judged.{Small, good_cells, good-none, good-some, good-small}
 use Rattle.shape.specs.Built.{few-without}
 use Rattle.shape.specs.Renewed.{length-anew}
 use Rattle.step.specs.declared.StepHead.{StepHead}
@@ -49,16 +49,9 @@ fitting-none v = record { small = small-none; few = rw (extent-axes [] (omega ar
 abbrev pub no_step : StepHead
 no_step = record { operation = Moves Trim; a = 0; b = 0; axis = 0; at = 0; version = One }
 
-abbrev pub stopped : Refusal → Stepped
-stopped x = record { refusal = x; step = no_step; result = no_head }
-
 -- a step planned in a recipe's bytes, with its result
 abbrev pub planned_of : List ℕ → StepHead → Head → Planned
 planned_of bs h r = record { step = step_in bs h; shape = shape_in r }
-
--- it, or the refusal
-abbrev pub stepped_said : List ℕ → Stepped → Res Planned
-stepped_said bs r = unless r.refusal (planned_of bs r.step r.result)
 
 -- the step is of that version, its result is good, these are its cells, they begin at that byte, and the step's detail lies in the recipe
 pub record ResultLaid (v : Version) (bs : List ℕ) (at : ℕ) (h : StepHead) (r : Head) : Type 0 where
@@ -69,18 +62,10 @@ pub record ResultLaid (v : Version) (bs : List ℕ) (at : ℕ) (h : StepHead) (r
   pub from : r.at ≡ at
   pub detail : Holds h.at (detail_of h) bs
 
--- an answer, and what is kept where it is no refusal
-pub record Answered (v : Version) (bs : List ℕ) (at : ℕ) (r : Stepped) (m : Res Planned) : Type 0 where
-  pub said : stepped_said bs r ≡ m
-  pub kept : r.refusal.number ≡ 0 → ResultLaid v bs at r.step r.result
-
--- a refusal is one
-pub answer-refused : (v : Version) (bs : List ℕ) (at : ℕ) (r : Stepped) (m : Res Planned) (x : Refusal) → r ≡ stopped x
-    → (x.number ≡ 0 → ⊥)
-    → Err x ≡ m → Answered v bs at r m
-answer-refused v bs at r m x e h q =
-    subst (λ (r : Stepped). Answered v bs at r m) (sym e)
-    (record { said = unless-refused x (planned_of bs no_step no_head) h ∙ q; kept = λ z. absurd (h z) })
+-- an answer: the step planned, and what is kept of its result; or the refusal
+abbrev pub Answered : Version → List ℕ → ℕ → Res Stepped → Res Planned → Type 0
+Answered v bs at (Ok r) m = (Ok (planned_of bs r.step r.result) ≡ m) × ResultLaid v bs at r.step r.result
+Answered v bs at (Err x) m = Err x ≡ m
 
 -- ---- the result judged
 
@@ -118,7 +103,7 @@ pub record Finishing (bs : List ℕ) (step : StepHead) (a b : Form) : Type 0 whe
   pub detail : Detailed bs step (axes_of a.extent)
   pub axis : axis_in (uses step.operation) (length (axes_of a.extent)) step.axis ≡ true
 
-abbrev pub Finished : List ℕ → StepHead → Form → Form → ℕ → ℕ → Stepped → Type 0
+abbrev pub Finished : List ℕ → StepHead → Form → Form → ℕ → ℕ → Res Stepped → Type 0
 Finished bs step a b at k r = Answered step.version bs at r
     (step_result (sizes_of step.version) k (step_in bs step) (shape_of a) (shape_of b))
 
@@ -130,47 +115,43 @@ names_after bs step a = result_names (sizes_of step.version).name step.operation
 abbrev pub axes_after : List ℕ → StepHead → Form → Form → List Axis
 axes_after bs step a b = result_axes step.operation (step_in bs step) (axes_of a.extent) (axes_of b.extent)
 
-module _ (bs : List ℕ) (step : StepHead) (a b : Form) (at k : ℕ) (r : Stepped) where
+module _ (bs : List ℕ) (step : StepHead) (a b : Form) (at k : ℕ) where
   abbrev axes : List Axis
   axes = axes_after bs step a b
 
   abbrev names : List Name
   names = names_after bs step a
 
-  finish-no : r ≡ stopped (refusal bad_result9 k 0) → good_result names axes ≡ false → Finished bs step a b at k r
+  finish-no : good_result names axes ≡ false → Finished bs step a b at k (Err (refusal bad_result9 k 0))
   unfolding step_result
-  finish-no e h = answer-refused step.version bs at r _ (refusal bad_result9 k 0) e (λ z. omega arith) (rw h)
+  finish-no h = rw h
 
-  pub finish-bad : r ≡ stopped (refusal bad_result9 k 0) → good_cells names axes ≡ 0 → Finished bs step a b at k r
-  finish-bad e h = finish-no e (rw (good-zero names axes h) (and_none (not (none? axes))))
+  pub finish-bad : None ≡ good_cells names axes → Finished bs step a b at k (Err (refusal bad_result9 k 0))
+  finish-bad h = finish-no (rw (good-none names axes (sym h)) (and_none (not (none? axes))))
 
-  pub finish-none : r ≡ stopped (refusal bad_result9 k 0) → length axes ≡ 0 → Finished bs step a b at k r
-  finish-none e h = finish-no e (rw h)
+  pub finish-none : length axes ≡ 0 → Finished bs step a b at k (Err (refusal bad_result9 k 0))
+  finish-none h = finish-no (rw h)
 
-  pub finish-good : (x : Refusal) (h : Head) → r ≡ record { refusal = x; step = step; result = h } → x ≡ refusal 0 0 0 → h.at ≡ at
+  pub finish-good : (h : Head) → h.at ≡ at
       → Finishing bs step a b → shape_in h ≡ result_of (sizes_of step.version).name (step_in bs step) (shape_of a) (shape_of b)
-      → h.cells ≡ good_cells names axes → (h.cells ≡ 0 → ⊥)
-      → (length axes ≡ 0 → ⊥) → Finished bs step a b at k r
+      → Some h.cells ≡ good_cells names axes
+      → (length axes ≡ 0 → ⊥) → Finished bs step a b at k (Ok (record { step = step; result = h }))
   unfolding step_result
-  finish-good x h e z i d q c n w =
-      let g = good-some names axes (λ z. n (c ∙ z)) in
-      let f : axes_of h.form.extent ≡ axes = ap (λ (s : Shape). s.axes) q in
-      subst (λ (r : Stepped). Finished bs step a b at k r) (sym e)
-      (record {
-        said =
-            unless-got x (planned_of bs step h) (ap (λ (x : Refusal). x.number) z)
-            ∙ rw (ne_eqb (length axes) 0 w, g.0) (ap (λ (s : Shape). Ok (record { step = step_in bs step; shape = s })) q);
-        kept = λ o. record {
+  finish-good h i d q c w =
+      let g = good-some names axes c in
+      let f : axes_of h.form.extent ≡ axes = ap (λ (s : Shape). s.axes) q in (
+        rw (ne_eqb (length axes) 0 w, g.0) (ap (λ (s : Shape). Ok (record { step = step_in bs step; shape = s })) q),
+        record {
           version = refl;
           small = subst Small (sym f) (good-small names axes g.0);
           few = le_trans (le_of_eq (ap length f))
               (le_trans (result-few step.operation (step_in bs step) (axes_of a.extent) (axes_of b.extent) d.axis)
               d.detail.few);
-          count = c ∙ sym g.1 ∙ ap cells (sym f);
+          count = sym g.1 ∙ ap cells (sym f);
           from = i;
           detail = d.detail.holds;
-        };
-      })
+        },
+      )
 
 -- the names told are the result's
 pub names-after : (bs : List ℕ) (step : StepHead) (a b : Form) (new : List Name) (e : Extent)
@@ -189,7 +170,7 @@ names-after bs step a b new e t q l h =
 -- ---- the operands found
 
 -- over arrays and earlier results of which these are what the step's numbers name
-pub record Judged (bs : List ℕ) (step : StepHead) (a b : Operand) (at k : ℕ) (r : Stepped) : Type 0 where
+pub record Judged (bs : List ℕ) (step : StepHead) (a b : Operand) (at k : ℕ) (r : Res Stepped) : Type 0 where
   pub over : (arrays earlier : List Shape) → operand arrays earlier step.a ≡ found_shape a
       → operand arrays earlier step.b ≡ found_shape b
       → Answered step.version bs at r (step_over (sizes_of step.version) k arrays earlier (step_in bs step))
@@ -207,23 +188,22 @@ second-small step b s = by (uses step.operation).b
     by false = small-none
 
 -- the result is judged of a step that passed its tests
-pub finishing : (bs : List ℕ) (step : StepHead) (a b : Operand) (k : ℕ) (x : Refusal)
-    → unless x tt ≡ step_tests (sizes_of step.version) k (step_in bs step) (shape_in a.head) (shape_in (second_of step b).head)
-    → x.number ≡ 0 → Fitting step.version (axes_of a.head.form.extent) → Fitting step.version (axes_of b.head.form.extent)
+pub finishing : (bs : List ℕ) (step : StepHead) (a b : Operand) (k : ℕ)
+    → Ok tt ≡ step_tests (sizes_of step.version) k (step_in bs step) (shape_in a.head) (shape_in (second_of step b).head)
+    → Fitting step.version (axes_of a.head.form.extent) → Fitting step.version (axes_of b.head.form.extent)
     → Holds step.at (detail_of step) bs
     → Finishing bs step a.head.form (second_of step b).head.form
-finishing bs step a b k x t h p q d =
+finishing bs step a b k t p q d =
     let A = shape_in a.head in
     let B = shape_in (second_of step b).head in
-    let e : step_tests (sizes_of step.version) k (step_in bs step) A B ≡ Ok tt = sym t ∙ unless-got {A = Unit {0}} x tt h in
     record {
       first = p.small;
       second = second-small step b q;
       detail = record { holds = d; few = p.few };
-      axis = (tests-passed {C = Unit {0}} (sizes_of step.version) k (step_in bs step) A B (Ok tt) tt (rw e)).0.axis;
+      axis = (tests-passed {C = Unit {0}} (sizes_of step.version) k (step_in bs step) A B (Ok tt) tt (rw (← t))).0.axis;
     }
 
-module _ (bs : List ℕ) (step : StepHead) (a b : Operand) (at k : ℕ) (r : Stepped) where
+module _ (bs : List ℕ) (step : StepHead) (a b : Operand) (at k : ℕ) where
   abbrev st : Step
   st = step_in bs step
 
@@ -235,37 +215,31 @@ module _ (bs : List ℕ) (step : StepHead) (a b : Operand) (at k : ℕ) (r : Ste
       by true = e
       by false = sym (ap Some no-shape)
 
-  pub no-a : r ≡ stopped (refusal unknown4 k 0) → a.found ≡ false → Judged bs step a b at k r
+  pub no-a : a.found ≡ false → Judged bs step a b at k (Err (refusal unknown4 k 0))
   unfolding step_over
-  no-a e h = record {
-    over = λ arrays earlier p q. answer-refused step.version bs at r _ (refusal unknown4 k 0) e (λ z. omega arith) (rw (p, h));
-  }
+  no-a h = record { over = λ arrays earlier p q. rw (p, h) }
 
   module _ (f : a.found ≡ true) where
-    pub no-b : r ≡ stopped (refusal unknown4 k 0) → (second_of step b).found ≡ false → Judged bs step a b at k r
+    pub no-b : (second_of step b).found ≡ false → Judged bs step a b at k (Err (refusal unknown4 k 0))
     unfolding step_over
-    no-b e h = record {
-      over = λ arrays earlier p q. answer-refused step.version bs at r _ (refusal unknown4 k 0) e (λ z. omega arith)
-          (rw (p, f, second-found arrays earlier q, h));
-    }
+    no-b h = record { over = λ arrays earlier p q. rw (p, f, second-found arrays earlier q, h) }
 
-    module _ (g : (second_of step b).found ≡ true) (x : Refusal)
-        (t : unless x tt ≡ step_tests (sizes_of step.version) k st (shape_in a.head) (shape_in (second_of step b).head)) where
-      pub test-failed : r ≡ stopped x → (x.number ≡ 0 → ⊥) → Judged bs step a b at k r
-      unfolding step_over
-      test-failed e h = record {
-        over = λ arrays earlier p q.
-            answer-refused step.version bs at r _ x e h
-            (rw (p, f, second-found arrays earlier q, g, ← t, unless-refused {A = Unit {0}} x tt h));
-      }
+    module _ (g : (second_of step b).found ≡ true) where
+      abbrev tests : Res (Unit {0})
+      tests = step_tests (sizes_of step.version) k st (shape_in a.head) (shape_in (second_of step b).head)
 
-      pub tests-held : Finished bs step a.head.form (second_of step b).head.form at k r → x.number ≡ 0 → Judged bs step a b at k r
+      pub test-failed : {x : Refusal} → Err x ≡ tests → Judged bs step a b at k (Err x)
       unfolding step_over
-      tests-held v h = record {
+      test-failed t = record { over = λ arrays earlier p q. rw (p, f, second-found arrays earlier q, g, ← t) }
+
+      pub tests-held : Ok tt ≡ tests → (r : Res Stepped) → Finished bs step a.head.form (second_of step b).head.form at k r
+          → Judged bs step a b at k r
+      unfolding step_over
+      tests-held t r v = record {
         over = λ arrays earlier p q.
             let e : step_result (sizes_of step.version) k st (shape_in a.head) (shape_in (second_of step b).head) ≡ step_over
             (sizes_of step.version) k arrays earlier st
-            = rw (p, f, second-found arrays earlier q, g, ← t, unless-got {A = Unit {0}} x tt h) in
+            = rw (p, f, second-found arrays earlier q, g, ← t) in
             subst (Answered step.version bs at r) e v;
       }
 
@@ -313,26 +287,26 @@ module _ (s : List ℕ) (base : ℕ) (v : Version) where
       ap₂ operation (ap (λ (j : ℕ). get_or s j 0) (sym z) ∙ byte-there 0 (omega (arith, long))) (byte-there head_bytes (omega (arith, long)))
 
   -- over arrays and earlier results of which these are what its numbers name
-  pub record PlannedAs (a b : Operand) (at k : ℕ) (r : Stepped) : Type 0 where
+  pub record PlannedAs (a b : Operand) (at k : ℕ) (r : Res Stepped) : Type 0 where
     pub over : (arrays earlier : List Shape) → operand arrays earlier (get_or s (base + 1) 0) ≡ found_shape a
         → operand arrays earlier (get_or s (base + 2) 0) ≡ found_shape b
         → Answered v s at r (plan_step z k arrays earlier (part base z.step s))
 
-  module _ (a b : Operand) (at k : ℕ) (r : Stepped) (g : Option Operation)
-      (e : g ≡ operation (get_or s base 0) (get_or s (base + head_bytes) 0)) where
-    pub step-unknown : g ≡ None → r ≡ stopped (refusal unknown4 k 0) → PlannedAs a b at k r
+  module _ (a b : Operand) (at k : ℕ) where
+    pub step-unknown : None ≡ operation (get_or s base 0) (get_or s (base + head_bytes) 0) → PlannedAs a b at k (Err (refusal unknown4 k 0))
     unfolding plan_step
-    step-unknown q w =
-        let o = sym (sym op-there ∙ sym e ∙ q) in
-        record { over = λ arrays earlier x y. answer-refused v s at r _ (refusal unknown4 k 0) w (λ z. omega arith) (rw (← o)) }
+    step-unknown e =
+        let o = sym op-there ∙ sym e in
+        record { over = λ arrays earlier x y. rw o }
 
-    pub step-known : (op : Operation) → g ≡ Some op → Judged s (head_at op) a b at k r → PlannedAs a b at k r
+    pub step-known : (op : Operation) → Some op ≡ operation (get_or s base 0) (get_or s (base + head_bytes) 0) → (r : Res Stepped)
+        → Judged s (head_at op) a b at k r → PlannedAs a b at k r
     unfolding plan_step
-    step-known op q w =
-        let o = sym (sym op-there ∙ sym e ∙ q) in
+    step-known op e r w =
+        let o = sym op-there ∙ sym e in
         record {
           over = λ arrays earlier x y.
               let f : step_over z k arrays earlier (step_in s (head_at op)) ≡ plan_step z k arrays earlier (part base z.step s)
-              = rw (← o) (ap (step_over z k arrays earlier) (step-there op)) in
+              = rw o (ap (step_over z k arrays earlier) (step-there op)) in
               subst (Answered v s at r) f (w.over arrays earlier x y);
         }

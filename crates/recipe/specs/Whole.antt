@@ -6,7 +6,6 @@ use Rattle.std.proofs.lemmas.List.{map-append, length-map, length-replicate, dro
 use Rattle.std.proofs.lemmas.Bool.{eqb-false}
 use Rattle.std.proofs.Math.ListN.{length}
 use Rattle.paper.specs.declared.Version.{Version}
-use Rattle.paper.specs.declared.Version.TheVariants.{One}
 use Rattle.paper.specs.declared.Sizes.{Sizes}
 use Rattle.paper.specs.declared.Head.{Head}
 use Rattle.paper.specs.declared.Reading.{Reading}
@@ -15,9 +14,9 @@ use Rattle.paper.specs.Limits.{most_arrays, most_steps, most_cells, cell_bytes, 
 use Rattle.paper.specs.Refusals.{Res, refusal, unknown4, between}
 use Rattle.paper.specs.Numbers.{part, total}
 use Rattle.paper.specs.Recipe.{Planned, plan_step, plan_steps, plan_recipe, cells_of_all}
-use Rattle.paper.specs.Answers.{axes_of, unless}
+use Rattle.paper.specs.Answers.{axes_of}
 use Rattle.paper.specs.Axes.{cells}
-use Rattle.laws.specs.Answers.{no_head, unless-refused, unless-got}
+use Rattle.laws.specs.Answers.{no_head}
 use Rattle.laws.specs.Tests.{and_right, between-true}
 use Rattle.laws.specs.Lists.{get_or-mapped, in_front_of, front-none, front-more, zipped, length-zipped, zipped-more, get_or-zipped}
 use Rattle.quick.specs.Operands.{bundle_side, work_side}
@@ -44,12 +43,9 @@ results_of p = heads_from (suc most_arrays) p.count p.operands
 abbrev pub heads_of : Plan → List StepHead
 heads_of p = take p.count p.steps
 
--- the steps planned, or the refusal
+-- the steps planned
 abbrev pub steps_of : List ℕ → Plan → List Planned
 steps_of bs p = zipped (planned_of bs) (heads_of p) (results_of p)
-
-abbrev pub plan_of : List ℕ → Plan → Res (List Planned)
-plan_of bs p = unless p.refusal (steps_of bs p)
 
 -- what stands under each number is small, and has no more axes than the version allows
 abbrev pub AllSmall : Version → List Operand → Type 0
@@ -94,9 +90,8 @@ small-set u l k x h v w n = by (eqb n k) refl
 
 -- ---- no step yet
 
-abbrev pub empty_plan : Refusal → Version → Plan
-empty_plan x v = record {
-  refusal = x;
+abbrev pub empty_plan : Version → Plan
+empty_plan v = record {
   version = v;
   arrays = 0;
   count = 0;
@@ -104,9 +99,6 @@ empty_plan x v = record {
   steps = replicate most_steps no_step;
   operands = replicate (suc (most_arrays + most_steps)) (no_operand false);
 }
-
-abbrev pub no_plan : Refusal → Plan
-no_plan x = empty_plan x One
 
 -- the bundle's arrays, and that they are good
 abbrev pub arrays_in : Reading → List Head
@@ -119,7 +111,6 @@ pub record GoodArrays (r : Reading) : Type 0 where
 
 -- some of them are named
 pub record Begun (R : Reading) (p : Plan) : Type 0 where
-  pub none : p.refusal ≡ refusal 0 0 0
   pub version : p.version ≡ R.version
   pub count : p.count ≡ 0
   pub cells : p.cells ≡ 0
@@ -130,9 +121,8 @@ pub record Begun (R : Reading) (p : Plan) : Type 0 where
   pub named : Named (arrays_of p) [] p.operands
   pub small : AllSmall R.version p.operands
 
-pub begun-none : (R : Reading) (p : Plan) → p ≡ empty_plan (refusal 0 0 0) R.version → Begun R p
+pub begun-none : (R : Reading) (p : Plan) → p ≡ empty_plan R.version → Begun R p
 begun-none R p e = rw e (record {
-  none = refl;
   version = refl;
   count = refl;
   cells = refl;
@@ -147,7 +137,6 @@ begun-none R p e = rw e (record {
 -- one array more
 abbrev pub with_array : Plan → Head → Plan
 with_array p h = record {
-  refusal = p.refusal;
   version = p.version;
   arrays = p.arrays + 1;
   count = p.count;
@@ -166,7 +155,6 @@ begun_more R p d g v h =
     let e = heads-more 1 j p.operands (j + 1) x (omega arith) b in
     let f : suc (length (arrays_of p)) ≡ j + 1 = omega (arith, m) in
     record {
-      none = v.none;
       version = v.version;
       count = v.count;
       cells = v.cells;
@@ -190,7 +178,6 @@ pub record Loop (u : Version) (s : List ℕ) (n : ℕ) (p : Plan) : Type 0 where
   pub wide : length p.operands ≡ suc (most_arrays + most_steps)
   pub most : p.cells ≤ p.count * most_cells
   pub arrays : p.arrays ≤ most_arrays
-  pub none : p.refusal ≡ refusal 0 0 0
   pub named : Named (arrays_of p) (results_of p) p.operands
   pub small : AllSmall u p.operands
   pub steps : in_front_of (steps_of s p) (plan_steps (sizes_of u) (p.count + 1) (n - p.count) (map shape_in (arrays_of p))
@@ -215,7 +202,6 @@ loop-start R s n p g b h l =
       wide = b.wide;
       most = omega (arith, b.cells);
       arrays = omega (arith, b.turns, g.few);
-      none = b.none;
       named = rw c b.named;
       small = b.small;
       steps = rw (c, e, z) (front-none _);
@@ -226,7 +212,6 @@ loop-start R s n p g b h l =
 -- one step more
 abbrev pub with_step : Plan → Stepped → Plan
 with_step p o = record {
-  refusal = p.refusal;
   version = p.version;
   arrays = p.arrays;
   count = p.count + 1;
@@ -251,27 +236,30 @@ laid_more u bs n (g ∷ hs) (q ∷ rs) h r e v k =
     let z : n + (q.cells + cells_in rs) ≡ n + q.cells + cells_in rs = omega arith in
     (v.0, laid_more u bs (n + q.cells) hs rs h r (omega arith) v.1 (rw z at k))
 
-module _ (u : Version) (s : List ℕ) (n : ℕ) (p : Plan) (v : Loop u s n p) (h : p.count < n) (o : Stepped)
-    (w : Answered u s (p.cells * cell_bytes) o (plan_step (sizes_of u) (p.count + 1) (map shape_in (arrays_of p))
-    (map shape_in (results_of p)) (part (p.count * (sizes_of u).step) (sizes_of u).step s))) where
+module _ {u : Version} {s : List ℕ} {n : ℕ} {p : Plan} (v : Loop u s n p) (h : p.count < n) where
   abbrev z : Sizes
   z = sizes_of u
 
   abbrev i : ℕ
   i = p.count
 
-  abbrev planned : Planned
-  planned = planned_of s o.step o.result
+  -- what the paper says of the next step
+  abbrev next : Res Planned
+  next = plan_step z (i + 1) (map shape_in (arrays_of p)) (map shape_in (results_of p)) (part (i * z.step) z.step s)
 
   left : n - i ≡ suc (n - (i + 1))
   left = omega arith
 
   -- a refusal of the step is the recipe's
-  pub steps-refused : (o.refusal.number ≡ 0 → ⊥) → Err o.refusal ≡ plan_steps z 1 n (map shape_in (arrays_of p)) [] s
+  pub steps-refused : {x : Refusal} → Answered u s (p.cells * cell_bytes) (Err x) next
+      → Err x ≡ plan_steps z 1 n (map shape_in (arrays_of p)) [] s
   unfolding plan_steps in_front_of
-  steps-refused y = sym (rw (left, ← w.said, unless-refused o.refusal planned y) refl) ∙ v.steps
+  steps-refused {x} w = sym (rw (left, ← w)) ∙ v.steps
 
-  module _ (y : o.refusal.number ≡ 0) where
+  module _ (o : Stepped) (w : Answered u s (p.cells * cell_bytes) (Ok o) next) where
+    abbrev planned : Planned
+    planned = planned_of s o.step o.result
+
     abbrev x : Operand
     x = placed work_side o.result
 
@@ -312,11 +300,11 @@ module _ (u : Version) (s : List ℕ) (n : ℕ) (p : Plan) (v : Loop u s n p) (h
         (plan_steps z (i + 1 + 1) (n - (i + 1)) (map shape_in (arrays_of p)) (map shape_in (results_of p) ++ (shape_in o.result ∷ []))
         (drop z.step (drop (i * z.step) s)))
     unfolding plan_steps
-    onward = rw (left, ← w.said, unless-got o.refusal planned y) (front-more (steps_of s p) planned _)
+    onward = rw (left, ← w.0) (front-more (steps_of s p) planned _)
 
     pub loop-more : Loop u s n (with_step p o)
     loop-more =
-        let k = w.kept y in
+        let k = w.1 in
         let f : most_arrays + suc (length (results_of p)) ≡ at = omega (arith, results-many) in
         let q : p.cells ≡ 0 + cells_in (results_of p) = omega (arith, v.sum) in
         record {
@@ -328,7 +316,6 @@ module _ (u : Version) (s : List ℕ) (n : ℕ) (p : Plan) (v : Loop u s n p) (h
           wide = length-set p.operands at x ∙ v.wide;
           most = omega (arith, v.most, k.count, k.small.few);
           arrays = v.arrays;
-          none = v.none;
           named = rw (arrays-same, results-more, ← f) (result-more (arrays_of p) (results_of p) p.operands v.named o.result (omega (arith, results-many, v.few)));
           small = small-set u p.operands at x here v.small (record { small = k.small; few = k.few });
           steps = rw (arrays-same, steps-more, results-more, moved, map-append shape_in (results_of p) (o.result ∷ [])) (sym onward ∙ v.steps);
@@ -413,10 +400,21 @@ module _ {bs : List ℕ} {p : Plan} (v : Laid bs p) where
         rw (z, get_or-take p.count p.steps j no_step h) at
         (laid-at p.version bs 0 (heads_of p) (results_of p) v.laid (heads-count ∙ sym results-count) j (omega (arith, heads-count)))
 
--- the recipe planned as the paper plans it, over the bundle's arrays
-pub record PlannedAll (R : Reading) (s : List ℕ) (p : Plan) : Type 0 where
-  pub said : plan_of s p ≡ plan_recipe (sizes_of R.version) (map shape_in (arrays_in R)) s
-  pub laid : p.refusal.number ≡ 0 → Laid s p × (arrays_of p ≡ arrays_in R) × (p.version ≡ R.version)
+-- what the paper says of a recipe over the bundle's arrays
+abbrev pub recipe_over : Reading → List ℕ → Res (List Planned)
+recipe_over R s = plan_recipe (sizes_of R.version) (map shape_in (arrays_in R)) s
+
+-- a recipe planned as the paper plans it, over the bundle's arrays
+pub record Made (R : Reading) (s : List ℕ) (p : Plan) : Type 0 where
+  pub said : Ok (steps_of s p) ≡ recipe_over R s
+  pub laid : Laid s p
+  pub arrays : arrays_of p ≡ arrays_in R
+  pub version : p.version ≡ R.version
+
+-- the same, or the refusal
+abbrev pub PlannedAll : Reading → List ℕ → Res Plan → Type 0
+PlannedAll R s (Ok p) = Made R s p
+PlannedAll R s (Err x) = Err x ≡ recipe_over R s
 
 -- its length
 abbrev pub good_length : Sizes → List ℕ → Bool
@@ -425,47 +423,40 @@ good_length z s = eqb (length s % z.step) 0 && between 1 most_steps (length s / 
 pub length-few : (z : Sizes) (s : List ℕ) → good_length z s ≡ true → length s / z.step ≤ most_steps
 length-few z s g = (between-true most_steps (length s / z.step) (and_right (eqb (length s % z.step) 0) _ g)).1
 
-module _ (R : Reading) (s : List ℕ) (p : Plan) where
+module _ (R : Reading) (s : List ℕ) where
   abbrev its : Sizes
   its = sizes_of R.version
 
-  all-refused : (x : Refusal) → p ≡ no_plan x → (x.number ≡ 0 → ⊥) → Err x ≡ plan_recipe its (map shape_in (arrays_in R)) s
-      → PlannedAll R s p
-  all-refused x e h q = rw e (record { said = unless-refused x (steps_of s (no_plan x)) h ∙ q; laid = λ z. absurd (h z) })
-
-  pub length-bad : p ≡ no_plan (refusal unknown4 0 0) → good_length its s ≡ false → PlannedAll R s p
+  pub length-bad : good_length its s ≡ false → PlannedAll R s (Err (refusal unknown4 0 0))
   unfolding plan_recipe
-  length-bad e h = all-refused (refusal unknown4 0 0) e (λ z. omega arith) (rw h)
+  length-bad h = rw h
 
   module _ (g : good_length its s ≡ true) where
-    length-good : plan_steps its 1 (length s / its.step) (map shape_in (arrays_in R)) [] s ≡ plan_recipe its (map shape_in (arrays_in R)) s
+    length-good : plan_steps its 1 (length s / its.step) (map shape_in (arrays_in R)) [] s ≡ recipe_over R s
     unfolding plan_recipe
     length-good = rw g
 
-    pub step-refused : (x : Refusal) → p ≡ no_plan x → (x.number ≡ 0 → ⊥)
-        → Err x ≡ plan_steps its 1 (length s / its.step) (map shape_in (arrays_in R)) [] s → PlannedAll R s p
-    step-refused x e h q = all-refused x e h (q ∙ length-good)
+    pub step-refused : {x : Refusal} → Err x ≡ plan_steps its 1 (length s / its.step) (map shape_in (arrays_in R)) [] s
+        → PlannedAll R s (Err x)
+    step-refused q = q ∙ length-good
 
-    pub all-planned : Loop R.version s (length s / its.step) p → length s / its.step ≤ p.count → arrays_of p ≡ arrays_in R
-        → PlannedAll R s p
+    pub all-planned : {p : Plan} → Loop R.version s (length s / its.step) p → length s / its.step ≤ p.count → arrays_of p ≡ arrays_in R
+        → PlannedAll R s (Ok p)
     unfolding plan_steps in_front_of
-    all-planned v h a =
+    all-planned {p} v h a =
         let e : length s / its.step - p.count ≡ 0 = omega (arith, v.turns) in
         record {
-          said = unless-got p.refusal (steps_of s p) (ap (λ (r : Refusal). r.number) v.none)
-              ∙ ap Ok (sym (append-nil (steps_of s p))) ∙ sym (rw e refl) ∙ v.steps ∙ rw a length-good;
-          laid = λ z. (
-            record {
-              few = omega (arith, v.turns, v.few);
-              long = v.long;
-              most = omega (arith, v.most, v.turns, v.few);
-              arrays = v.arrays;
-              named = v.named;
-              small = rw v.version v.small;
-              laid = rw v.version v.laid;
-              sum = v.sum;
-            },
-            a,
-            v.version,
-          );
+          said = ap Ok (sym (append-nil (steps_of s p))) ∙ sym (rw e refl) ∙ v.steps ∙ rw a length-good;
+          laid = record {
+            few = omega (arith, v.turns, v.few);
+            long = v.long;
+            most = omega (arith, v.most, v.turns, v.few);
+            arrays = v.arrays;
+            named = v.named;
+            small = rw v.version v.small;
+            laid = rw v.version v.laid;
+            sum = v.sum;
+          };
+          arrays = a;
+          version = v.version;
         }

@@ -8,13 +8,13 @@ pub mod steps;
 ghost use Rattle.std.specs.Prelude.{◌≡◌, eqb, ◌&&◌, ◌/◌, ◌%◌, ◌<◌};
 ghost use Rattle.paper.specs.Limits.{most_steps};
 ghost use Rattle.paper.specs.Refusals.{between};
-ghost use Rattle.recipe.specs.Whole.{empty_plan, no_plan, GoodArrays, Begun, PlannedAll};
+ghost use Rattle.recipe.specs.Whole.{empty_plan, GoodArrays, Begun, PlannedAll};
 
 use crate::operands::{in_work, no_operand, slot_of};
 use crate::steps::{no_step, plan_step};
 use paper::{ARRAYS, CELL_BYTES, Head, Reading, Refusal, STEPS, StepNumber, Version};
 use quick::operands::IN_BUNDLE;
-use refusals::{in_range, none, refuse};
+use refusals::{in_range, refuse};
 use step::StepHead;
 use versions::sizes;
 
@@ -30,7 +30,6 @@ pub struct Operand {
 // results; and what steps can name: nothing at 0, then the arrays, and the results behind the most arrays that a bundle has.
 #[derive(Clone, Copy)]
 pub struct Plan {
-    pub refusal: Refusal,
     pub version: Version,
     pub arrays: usize,
     pub count: usize,
@@ -42,15 +41,14 @@ pub struct Plan {
 // ---- no step yet
 
 // No step planned, and nothing to name.
-fn empty_plan(refusal: Refusal, version: Version) -> Plan
-    ensures { result ≡ empty_plan refusal version }
+fn empty_plan(version: Version) -> Plan
+    ensures { result ≡ empty_plan version }
 {
     let step = no_step();
     let operand = no_operand(false);
     let steps = [step; STEPS];
     let operands = [operand; ARRAYS + STEPS + 1];
     Plan {
-        refusal,
         version,
         arrays: 0,
         count: 0,
@@ -60,20 +58,13 @@ fn empty_plan(refusal: Refusal, version: Version) -> Plan
     }
 }
 
-// The refusal alone.
-pub fn no_plan(refusal: Refusal) -> Plan
-    ensures { result ≡ no_plan refusal }
-{
-    empty_plan(refusal, Version::One)
-}
-
 // No step planned yet over the bundle's arrays.
 fn over_arrays(reading: Reading) -> Plan
     requires { GoodArrays reading }
     ensures { Begun reading result × (result.arrays ≡ reading.count) }
 {
     let version = reading.version;
-    let mut plan = empty_plan(none(), version);
+    let mut plan = empty_plan(version);
     while plan.arrays < reading.count {
         let j = plan.arrays;
         let next = j + 1;
@@ -101,7 +92,7 @@ fn good_length(n: usize, step: usize) -> bool
 }
 
 // The recipe's steps planned over a bundle's arrays, or the first refusal.
-pub fn plan_recipe(reading: Reading, s: &[u8]) -> Plan
+pub fn plan_recipe(reading: Reading, s: &[u8]) -> Result<Plan, Refusal>
     requires { GoodArrays reading }
     ensures { PlannedAll reading s.now result }
 {
@@ -109,7 +100,7 @@ pub fn plan_recipe(reading: Reading, s: &[u8]) -> Plan
     let z = sizes(v);
     let long = z.step;
     if !good_length(s.len(), long) {
-        return no_plan(refuse(4, 0));
+        return Err(refuse(4, 0));
     }
     let n = s.len() / long;
     let mut plan = over_arrays(reading);
@@ -126,15 +117,11 @@ pub fn plan_recipe(reading: Reading, s: &[u8]) -> Plan
             plan.cells * CELL_BYTES,
             StepNumber(next as u32),
             s,
-        );
-        if one.refusal.number != 0 {
-            return no_plan(one.refusal);
-        }
-        let step = one.step;
-        plan.steps[k] = step;
+        )?;
+        plan.steps[k] = one.step;
         plan.operands[result_at] = in_work(one.result);
         plan.cells = plan.cells + one.result.cells;
         plan.count = next;
     }
-    plan
+    Ok(plan)
 }

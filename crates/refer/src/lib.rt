@@ -5,55 +5,35 @@ ghost use Rattle.std.specs.Prelude.{◌≡◌, ◌+◌, ◌*◌, ◌≤◌, leng
 ghost use Rattle.paper.specs.Limits.{most_axes, cell_bytes};
 ghost use Rattle.paper.specs.Numbers.{part, distance};
 ghost use Rattle.paper.specs.Cells.{cell_of};
-ghost use Rattle.paper.specs.Reference.{reference, walk};
+ghost use Rattle.paper.specs.Reference.{reference, seen, walk};
 ghost use Rattle.paper.specs.Answers.{walk_said};
 ghost use Rattle.laws.specs.Judged.{or_empty};
-ghost use Rattle.refer.specs.Chosen.{none_chosen, ChosenHead};
-ghost use Rattle.refer.specs.Places.{elsewhere_of, outside_of};
+ghost use Rattle.refer.specs.Chosen.{ChosenHead};
+ghost use Rattle.refer.specs.Places.{Few};
 
-use bundle::{no_head, read};
+use bundle::read;
 use cell::bytes::read_cell;
 use extent::rank_of;
 use paper::{CELL_BYTES, Cell, Head, Ordinality, Place, Refusal, Walk};
 use place::{Coordinate, found};
 use positions::distance_of;
-use refusals::refuse;
+use refusals::{in_range, refuse};
 
 pub mod walk;
 
-// An array chosen: its head, or the refusal (number 0: none).
-#[derive(Clone, Copy)]
-pub struct Chosen {
-    pub refusal: Refusal,
-    pub head: Head,
-}
-
-fn none_chosen(refusal: Refusal) -> Chosen
-    ensures { result ≡ none_chosen refusal }
-{
-    let head = no_head();
-    Chosen { refusal, head }
-}
-
-// Array k of the bundle.
-pub fn choose(s: &[u8], k: u32) -> Chosen
+// The head of array k of the bundle.
+pub fn choose(s: &[u8], k: u32) -> Result<Head, Refusal>
     ensures { ChosenHead s.now k result }
 {
-    let reading = read(s);
-    let refusal = reading.refusal;
-    if refusal.number != 0 {
-        return none_chosen(refusal);
-    }
-    let unknown = refuse(4, k);
+    let reading = read(s)?;
     if k == 0 {
-        return none_chosen(unknown);
+        return Err(refuse(4, k));
     }
     let i = k as usize;
     if reading.count < i {
-        return none_chosen(unknown);
+        return Err(refuse(4, k));
     }
-    let head = reading.heads[i - 1];
-    Chosen { refusal, head }
+    Ok(reading.heads[i - 1])
 }
 
 // Cell i, from 0, of an array whose cells begin at `at`: judged before, so it is one.
@@ -83,77 +63,46 @@ fn coordinate_at(zs: &[i32]) -> Coordinate
     Coordinate { at }
 }
 
-// Not inside the extent: empty inside the maximum, 6 beyond it.
-fn elsewhere(place: Place, k: u32) -> Result<Cell, Refusal>
-    ensures { result ≡ elsewhere_of k place }
+// The cell of array k at a coordinate.
+pub fn refer(s: &[u8], k: u32, coordinates: &[i32]) -> Result<Cell, Refusal>
+    ensures { result ≡ reference s.now k coordinates.now }
 {
-    match place {
-        Place::At(_) => Ok(Cell::Empty),
+    let head = choose(s, k)?;
+    if coordinates.len() != rank_of(head.form.extent) {
+        return Err(refuse(5, k));
+    }
+    let p = coordinate_at(coordinates);
+    match found(head.form.extent, head.form.maximum, p) {
+        Place::At(o) => Ok(held_cell(s, head.at, head.form.kind, o.0 as usize - 1)),
         Place::InMaximum => Ok(Cell::Empty),
         Place::Beyond => Err(refuse(6, k)),
     }
 }
 
-// The cell of array k at a coordinate.
-pub fn refer(s: &[u8], k: u32, coordinates: &[i32]) -> Result<Cell, Refusal>
-    ensures { result ≡ reference s.now k coordinates.now }
+// What a walk over array k sees at ordinality o: the cell, or the end after the last.
+fn seen(s: &[u8], k: u32, o: usize) -> Result<Option<Cell>, Refusal>
+    ensures { (result ≡ seen s.now k o) × Few o result }
 {
-    let array = choose(s, k);
-    let refusal = array.refusal;
-    if refusal.number != 0 {
-        return Err(refusal);
+    let head = choose(s, k)?;
+    let end = head.cells + 1;
+    if !in_range(o, end) {
+        return Err(refuse(6, k));
     }
-    if coordinates.len() != rank_of(array.head.form.extent) {
-        return Err(refuse(5, k));
+    if o == end {
+        return Ok(None);
     }
-    let p = coordinate_at(coordinates);
-    let place = found(array.head.form.extent, array.head.form.maximum, p);
-    let Place::At(o) = place else {
-        return elsewhere(place, k);
-    };
-    let i = o.0 as usize - 1;
-    Ok(held_cell(s, array.head.at, array.head.form.kind, i))
-}
-
-// A walking place outside: refusal 6, and the place is kept.
-fn outside(k: u32, place: Ordinality) -> Walk
-    ensures { walk_said result ≡ outside_of k place.0 }
-{
-    Walk {
-        answer: Err(refuse(6, k)),
-        place,
-    }
+    Ok(Some(held_cell(s, head.at, head.form.kind, o - 1)))
 }
 
 // One step of a walk over array k: the cell at the walking place, or the end, and the place after it.
 pub fn walk_step(s: &[u8], k: u32, place: Ordinality) -> Walk
     ensures { walk_said result ≡ walk s.now k place.0 }
 {
-    let array = choose(s, k);
-    let refusal = array.refusal;
-    if refusal.number != 0 {
-        return Walk {
-            answer: Err(refusal),
-            place,
-        };
-    }
-    let o = place.0 as usize;
-    if o == 0 {
-        return outside(k, place);
-    }
-    let end = array.head.cells + 1;
-    if end < o {
-        return outside(k, place);
-    }
-    if o == end {
-        return Walk {
-            answer: Ok(None),
-            place,
-        };
-    }
-    let cell = held_cell(s, array.head.at, array.head.form.kind, o - 1);
-    Walk {
-        answer: Ok(Some(cell)),
-        place: Ordinality(place.0 + 1),
-    }
+    let answer = seen(s, k, place.0 as usize);
+    let place = match answer {
+        Ok(Some(_)) => Ordinality(place.0 + 1),
+        Ok(None) => place,
+        Err(_) => place,
+    };
+    Walk { answer, place }
 }

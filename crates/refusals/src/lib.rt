@@ -1,4 +1,4 @@
-// The refusal that a failed test gives, its number, place and ordinality together; none, where every test holds; and the test of a
+// The refusal that a failed test gives, its number, place and ordinality together; that of an operator's fault; and the test of a
 // number's range.
 #![tactic(auto)]
 
@@ -25,13 +25,6 @@ pub fn refuse(number: u8, place: u32) -> Refusal
     refuse_at(number, place, 0)
 }
 
-// No refusal: number 0.
-pub fn none() -> Refusal
-    ensures { result ≡ refusal 0 0 0 }
-{
-    refuse_at(0, 0, 0)
-}
-
 // The refusal that a fault of an operator is.
 pub fn refuse_fault(fault: Fault, place: u32, ordinality: u32) -> Refusal
     ensures { result ≡ refusal (fault_no fault) place ordinality }
@@ -46,8 +39,5 @@ pub fn refuse_fault(fault: Fault, place: u32, ordinality: u32) -> Refusal
 pub fn in_range(x: usize, most: usize) -> bool
     ensures { result ≡ between 1 most x }
 {
-    if x < 1 {
-        return false;
-    }
-    x <= most
+    1 <= x && x <= most
 }

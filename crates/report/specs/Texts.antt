@@ -232,17 +232,18 @@ module _ (B R W L : List ℕ) (h_b : length B ≤ most_bytes) (h_r : length R �
       let e = tests_same B R (replicate most_bytes 0) (replicate all_rows 0) W L 1 (length-replicate {A = ℕ} most_bytes 0 ∙ sym h_w) (length-replicate {A = ℕ} all_rows 0 ∙ sym h_l) in
       rw (le-ltb most_bytes (length B) h_b, le-ltb most_bytes (length R) h_r) (ap (λ (t : Res (List Array × List Planned)). printed (values_of t)) e)
 
-  module _ (r : PageRows) (w rows : List ℕ) (e : record { answer = r.answer; work = w; rows = rows } ≡ page B R W 1 L) where
-    pub refused-text : (x : Refusal) → r.answer ≡ Err x → refused_text x ≡ rests B R
-    refused-text x q = page-refused (page_tests B R W 1 L) W L x (sym q ∙ ap (λ (p : Paged). p.answer) e) ∙ sym rests-is
+  pub refused-text : {w rows : List ℕ} {x : Refusal} → record { answer = Err x; work = w; rows = rows } ≡ page B R W 1 L
+      → refused_text x ≡ rests B R
+  refused-text {x = x} e = page-refused (page_tests B R W 1 L) W L x (ap (λ (p : Paged). p.answer) e) ∙ sym rests-is
 
-    pub listing-text : RowAxes B R r → (x : Listed) → r.answer ≡ Ok x → Written B R rows r.axes x.written
-    listing-text n x q =
-        let f : Res Listed → Paged = λ y. record { answer = y; work = w; rows = rows } in
-        let t = page-told W L x w rows (page_tests B R W 1 L) (ap f (sym q) ∙ e) in
+  module _ (r : PageRows) (w rows : List ℕ) (e : record { answer = Ok r.listed; work = w; rows = rows } ≡ page B R W 1 L) where
+    pub listing-text : RowAxes B R r → Written B R rows r.axes r.listed.written
+    listing-text n =
+        let x : Listed = r.listed in
+        let t = page-told W L x w rows (page_tests B R W 1 L) e in
         let p = tests-planned B R W L 1 t.As t.ps t.tests in
         let k = r.axes in
-        let u : k ≡ length (last_shape t.ps).axes = rw (q, p) at n.same in
+        let u : k ≡ length (last_shape t.ps).axes = rw p at n.same in
         let A : Array = last_of no_array t.Rs in
         let o = all_listed B R L rows x.written k t.As t.ps t.Rs p t.valued h_l n.few u in
         let c : x.written ≡ length (trues 1 A.cells) = t.count ∙ ap length o in

@@ -34,10 +34,8 @@ fn put_rows(rows: &[u8], n: usize, rank: usize, out: &mut [u8], at: usize) -> us
 {
     let size = LIMIT_BYTES + rank * LIMIT_BYTES;
     let mut end = at;
-    let mut i: usize = 0;
-    while i < n {
+    for i in 0..n {
         end = put_row(rows, i * size, rank, out, end);
-        i += 1;
     }
     end
 }
@@ -73,10 +71,8 @@ pub fn report(
     if FILE_BYTES < recipe.len() {
         return put_too_long(out);
     }
-    let paged = page_rows(bundle, recipe, work, Ordinality(1), rows);
-    let answer = paged.answer;
-    match answer {
+    match page_rows(bundle, recipe, work, Ordinality(1), rows) {
         Err(refusal) => put_refusal(out, 0, refusal),
-        Ok(listed) => put_listing(rows, listed.written as usize, paged.axes, out),
+        Ok(paged) => put_listing(rows, paged.listed.written as usize, paged.axes, out),
     }
 }

@@ -4,10 +4,10 @@
 
 ghost use Rattle.io.specs.Counts.{IsPrefixLen};
 
+use inputs::read_full;
 use paper::{FILE_BYTES, LIMIT_BYTES};
 use std::fs::File;
 use std::io;
-use std::io::Read;
 use std::rt::Files;
 
 // The bytes of a file at most, and one byte more, by which a longer file is seen.
@@ -17,25 +17,6 @@ const FILE: usize = FILE_BYTES + 1;
 const ROWS: usize = 4096 * (LIMIT_BYTES + LIMIT_BYTES * paper::AXES);
 
 const TEXT: usize = 634908;
-
-// Reads until `buf` is full, the file ends or a read fails; answers how many bytes.
-fn read_full(file: &mut impl Read, buf: &mut [u8]) -> usize
-    ensures { IsPrefixLen result buf.new }
-{
-    let mut n: usize = 0;
-    while n < buf.len() {
-        match file.read(&mut buf[n..]) {
-            Ok(more) => {
-                if more == 0 {
-                    break;
-                }
-                n += more;
-            }
-            Err(_) => break,
-        }
-    }
-    n
-}
 
 // Reads the file into `buf`, as far as it goes; answers how many bytes. One that does not open has none.
 fn read_file(rt: &impl Files, path: &str, buf: &mut [u8]) -> usize

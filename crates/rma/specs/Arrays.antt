@@ -7,7 +7,9 @@ use native.Mathlib.Omega.{arith}
 use Rattle.std.proofs.Math.ListN.{length, take, length-map}
 use Rattle.std.proofs.Math.Seq.{length-take-le}
 use Rattle.paper.specs.declared.Version.{Version}
+use Rattle.paper.specs.declared.Head.{Head}
 use Rattle.paper.specs.declared.Reading.{Reading}
+use Rattle.paper.specs.declared.Refusal.{Refusal}
 use Rattle.paper.specs.Limits.{most_arrays, most_axes, half_name, limits_bytes, sizes_of}
 use Rattle.paper.specs.Numbers.{le_bytes, concat}
 use Rattle.paper.specs.Axes.{Array}
@@ -16,7 +18,6 @@ use Rattle.paper.specs.Bundle.{version_in, array_bytes as bytes_of, bundle_bytes
 use Rattle.paper.specs.Reference.{chosen}
 use Rattle.paper.specs.Answers.{axes_of}
 use Rattle.laws.specs.Sizes.{fits}
-use Rattle.laws.specs.Answers.{unless-refused, unless-got}
 use Rattle.laws.specs.Numbers.{Bytes}
 use Rattle.laws.specs.Tests.{between-true, bind-got}
 use Rattle.extent.specs.Judged.{good-small}
@@ -25,28 +26,25 @@ use Rattle.roundtrip.proofs.Reading.{bundle-read}
 use Rattle.roundtrip.proofs.Packing.{valid-length, array_long}
 use Rattle.bundle.specs.Read.{array_at, ReadAll}
 use Rattle.pack.specs.Laid.{most_bytes}
-use Rattle.refer.specs.declared.Chosen.{Chosen}
-use Rattle.refer.specs.Chosen.{array_told, told_of, ChosenHead, its-array}
+use Rattle.refer.specs.Chosen.{array_told, ItsHead}
 use Rattle.c_asked.specs.Asked.{count_of}
 use Rattle.c_told.specs.declared.Reply.{Reply}
 use Rattle.c_told.specs.Said.{answered}
 use Rattle.c_told.specs.Given.{array_bytes}
-use Rattle.c_told.specs.Replies.{Tells, most, four, four-told}
+use Rattle.c_told.specs.Replies.{Tells, most, four, four-told, told-as}
 
 -- ---- how many there are
 
-module _ {bs : List ℕ} {o : Reading} (v : ReadAll bs o) where
-  pub count-refused : (o.refusal.number ≡ 0 → ⊥) → count_of bs ≡ Err o.refusal
+module _ {bs : List ℕ} where
+  pub count-refused : {x : Refusal} → ReadAll bs (Err x) → Err x ≡ count_of bs
   unfolding count_of
-  count-refused h =
-      let q : Err o.refusal ≡ read_bundle bs = sym (unless-refused o.refusal _ h) ∙ v.arrays in rw (← q) refl
+  count-refused v = rw (← v.arrays) refl
 
-  pub count-got : o.refusal.number ≡ 0 → count_of bs ≡ Ok o.count
+  pub count-got : {o : Reading} → ReadAll bs (Ok o) → Ok o.count ≡ count_of bs
   unfolding count_of
-  count-got y =
+  count-got {o} v =
       let hs = take o.count o.heads in
-      let q : Ok (map (array_at bs) hs) ≡ read_bundle bs = sym (unless-got o.refusal _ y) ∙ v.arrays in
-      rw (← q, length-map hs (array_at bs), length-take-le o.count o.heads v.room) refl
+      rw (← v.arrays, length-map hs (array_at bs), length-take-le o.count o.heads v.kept.room) refl
 
 -- ---- one of them
 
@@ -73,30 +71,23 @@ arrays-short u (A ∷ As) v =
       arrays-short u As v.1,
     )
 
-module _ {bs : List ℕ} {k : ℕ} {c : Chosen} (v : ChosenHead bs k c) where
-  pub array-refused : (c.refusal.number ≡ 0 → ⊥) → array_told bs k ≡ Err c.refusal
-  array-refused n = sym v.told ∙ unless-refused c.refusal _ n
+module _ {bs : List ℕ} {k : ℕ} {h : Head} (v : ItsHead bs k h) where
+  -- where its cells begin fits into four bytes: it lies in a bundle's, which are few
+  pub array-near : Bytes bs → h.at < 2 ^ 32
+  unfolding chosen bundle_bytes le_bytes
+  array-near g =
+      let r = bind-got (read_bundle bs) _ _ (sym v.said) in
+      let w = bundle-read bs r.0 g r.1 in
+      omega (
+        arith,
+        v.fit.fits,
+        ap length w.bytes,
+        arrays-short (version_in bs) r.0 w.valid.each,
+        between-true most_arrays (length r.0) w.valid.count,
+      )
 
-  module _ (y : c.refusal.number ≡ 0) where
-    pub array-got : array_told bs k ≡ Ok (told_of c.head)
-    array-got = sym v.told ∙ unless-got c.refusal _ y
-
-    -- where its cells begin fits into four bytes: it lies in a bundle's, which are few
-    pub array-near : Bytes bs → c.head.at < 2 ^ 32
-    unfolding chosen bundle_bytes le_bytes
-    array-near g =
-        let r = bind-got (read_bundle bs) _ _ (sym (its-array v y)) in
-        let w = bundle-read bs r.0 g r.1 in
-        omega (
-          arith,
-          (v.fit y).fits,
-          ap length w.bytes,
-          arrays-short (version_in bs) r.0 w.valid.each,
-          between-true most_arrays (length r.0) w.valid.count,
-        )
-
-    -- the four numbers that are told of it
-    pub array-said : {rank : ℕ} {r : Reply} → rank ≡ length (axes_of c.head.form.extent)
-        → r ≡ four 0 most c.head.form.kind rank c.head.cells c.head.at
-        → Tells (answered array_bytes (Ok (told_of c.head))) r
-    array-said p e = four-told 0 _ _ _ _ _ (rw (p, (v.fit y).counted) at e)
+  -- the four numbers that are told of it
+  pub array-said : {rank : ℕ} {r : Reply} → rank ≡ length (axes_of h.form.extent)
+      → r ≡ four 0 most h.form.kind rank h.cells h.at
+      → Tells (answered array_bytes (array_told bs k)) r
+  array-said p e = told-as array_bytes _ _ _ (sym v.told) (four-told 0 _ _ _ _ _ (rw (p, v.fit.counted) at e))

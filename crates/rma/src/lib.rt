@@ -17,10 +17,7 @@ ghost use Rattle.rma.specs.Versions.{HeadsPacked, HeadsStretched, HeadRead, json
 
 use bundle::read;
 use c_asked::{forms_in, refer_bytes, side_form, total_asked, walk_bytes};
-use c_told::{
-    Reply, give, of_counted, of_json, of_number, of_numbers, of_page, of_plan, of_reference,
-    of_stretch, of_total, of_walk, refused,
-};
+use c_told::{Reply, give, of_json, of_numbers, refused, reply_of};
 use extent::rank_of;
 use json_read::read_as;
 use json_write::write;
@@ -35,39 +32,34 @@ use versions::version_told;
 // ---- a bundle
 
 // The number of arrays.
-fn count_told(bundle: &[u8]) -> Reply
-    ensures { Tells (answered number_bytes (count_of bundle.now)) result }
+fn count_of(bundle: &[u8]) -> Result<u32, Refusal>
+    ensures { result ≡ count_of bundle.now }
 {
-    let reading = read(bundle);
-    let refusal = reading.refusal;
-    if refusal.number != 0 {
-        return refused(refusal);
-    }
-    of_number(reading.count as u32)
+    let reading = read(bundle)?;
+    Ok(reading.count as u32)
 }
 
 pub fn rma_read(bundle: &[u8], said: &mut [u8]) -> u32
     ensures { record { number = result; said = said.new }
         ≡ spoken number_bytes (count_of bundle.now) said.old }
 {
-    give(said, count_told(bundle))
+    give(said, reply_of(count_of(bundle)))
 }
 
 // An array's type, axis count, number of cells, and the byte at which they begin.
 fn array_told(bundle: &[u8], array: u32) -> Reply
     ensures { Tells (answered array_bytes (array_told bundle.now array)) result }
 {
-    let chosen = choose(bundle, array);
-    let refusal = chosen.refusal;
-    if refusal.number != 0 {
-        return refused(refusal);
+    match choose(bundle, array) {
+        Ok(head) => {
+            let form = head.form;
+            let rank = rank_of(form.extent) as u32;
+            let cells = head.cells as u32;
+            let at = head.at as u32;
+            of_numbers(0, c_told::MOST, form.kind as u32, rank, cells, at)
+        }
+        Err(refusal) => refused(refusal),
     }
-    let head = chosen.head;
-    let form = head.form;
-    let rank = rank_of(form.extent) as u32;
-    let cells = head.cells as u32;
-    let at = head.at as u32;
-    of_numbers(0, c_told::MOST, form.kind as u32, rank, cells, at)
 }
 
 pub fn rma_array(bundle: &[u8], array: u32, said: &mut [u8]) -> u32
@@ -93,7 +85,7 @@ pub fn rma_pack(version: u32, heads: &[u8], cells: &[u8], out: &mut [u8], said: 
         ≡ spoken number_bytes (pack_heads version heads.now cells.now out.old).answer said.old)
         × (out.new ≡ (pack_heads version heads.now cells.now out.old).buffer) }
 {
-    give(said, of_counted(pack_heads(version, heads, cells, out)))
+    give(said, reply_of(pack_heads(version, heads, cells, out)))
 }
 
 // ---- one array
@@ -103,7 +95,7 @@ pub fn rma_refer(bundle: &[u8], array: u32, coordinate: &[u8], said: &mut [u8]) 
     ensures { record { number = result; said = said.new }
         ≡ spoken encode (reference bundle.now array (coordinate_in coordinate.now)) said.old }
 {
-    give(said, of_reference(refer_bytes(bundle, array, coordinate)))
+    give(said, reply_of(refer_bytes(bundle, array, coordinate)))
 }
 
 // The cell at the walking place, or the end; the place is moved forward where it stands.
@@ -113,7 +105,7 @@ pub fn rma_walk(bundle: &[u8], array: u32, place: &mut [u8], said: &mut [u8]) ->
         × (place.new
         ≡ place_after (paper_walk bundle.now array (place_in place.old)).place place.old) }
 {
-    give(said, of_walk(walk_bytes(bundle, array, place)))
+    give(said, reply_of(walk_bytes(bundle, array, place)))
 }
 
 // A total, by its number: filled, TRUE, smallest, largest, sum, average.
@@ -121,7 +113,7 @@ pub fn rma_total(bundle: &[u8], array: u32, which: u32, said: &mut [u8]) -> u32
     ensures { record { number = result; said = said.new }
         ≡ spoken total_bytes (total_asked bundle.now array which) said.old }
 {
-    give(said, of_total(total_asked(bundle, array, which)))
+    give(said, reply_of(total_asked(bundle, array, which)))
 }
 
 // The array as JSON, in `out`: the text's length.
@@ -130,7 +122,7 @@ pub fn rma_write_json(bundle: &[u8], array: u32, out: &mut [u8], said: &mut [u8]
         ≡ spoken number_bytes (write_json bundle.now array out.old).answer said.old)
         × (out.new ≡ (write_json bundle.now array out.old).buffer) }
 {
-    give(said, of_counted(write(bundle, array, out)))
+    give(said, reply_of(write(bundle, array, out)))
 }
 
 // A text read into the cells of the array that `head` describes, in the version told; another than 1 and 2 is refused before all else.
@@ -171,7 +163,7 @@ pub fn rma_plan(bundle: &[u8], recipe: &[u8], said: &mut [u8]) -> u32
     ensures { record { number = result; said = said.new }
         ≡ spoken foreseen_bytes (paper_plan bundle.now recipe.now) said.old }
 {
-    give(said, of_plan(plan(bundle, recipe)))
+    give(said, reply_of(plan(bundle, recipe)))
 }
 
 // The head of the last result, in `extent`: its length.
@@ -180,7 +172,7 @@ pub fn rma_extent(bundle: &[u8], recipe: &[u8], extent: &mut [u8], said: &mut [u
         ≡ spoken number_bytes (last_extent bundle.now recipe.now extent.old).answer said.old)
         × (extent.new ≡ (last_extent bundle.now recipe.now extent.old).buffer) }
 {
-    give(said, of_counted(run::extent(bundle, recipe, extent)))
+    give(said, reply_of(run::extent(bundle, recipe, extent)))
 }
 
 // The results of all steps in the work area: the number of their cells.
@@ -189,7 +181,7 @@ pub fn rma_run(bundle: &[u8], recipe: &[u8], work: &mut [u8], said: &mut [u8]) -
         ≡ spoken number_bytes (paper_run bundle.now recipe.now work.old).answer said.old)
         × (work.new ≡ (paper_run bundle.now recipe.now work.old).buffer) }
 {
-    give(said, of_counted(run(bundle, recipe, work)))
+    give(said, reply_of(run(bundle, recipe, work)))
 }
 
 // The same, and the rows of TRUE cells from `start` on: how many, and where to go on.
@@ -209,7 +201,7 @@ pub fn rma_page(
         ≡ (paper_page bundle.now recipe.now work.old start rows.old).rows) }
 {
     let answer = page(bundle, recipe, work, Ordinality(start), rows);
-    give(said, of_page(answer))
+    give(said, reply_of(answer))
 }
 
 // ---- a glued array
@@ -271,5 +263,5 @@ pub fn rma_stretch(
         AxisIndex(axis),
         Ordinality(ordinality),
     );
-    give(said, of_stretch(answer))
+    give(said, reply_of(answer))
 }

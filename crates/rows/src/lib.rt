@@ -15,7 +15,7 @@ ghost use Rattle.origin.specs.Comes.{comes};
 ghost use Rattle.rows.specs.Bands.{pattern, no_run, band_of, Along, Again, Begins, Banded};
 ghost use Rattle.rows.specs.Moves.{lines_left, turn_left};
 
-use origin::{Origin, block_of, cells_after, layer_of, origin_of, patch_of};
+use origin::{MovedStep, Origin, block_of, cells_after, layer_of, origin_of, patch_of};
 use paper::{AxisIndex, Extent, Move};
 use positions::position_at;
 use sides::{Lines, lines_of, side_around, side_by_side};
@@ -63,46 +63,37 @@ fn turn_left(m: usize, n: usize, k: usize) -> usize
 }
 
 // From cell k of a step's result on: how many cells come from cells side by side, or are blank.
-fn run_length(m: Move, step: StepHead, a: Extent, b: Extent, t: Extent, k: usize, s: &[u8]) -> usize
-    requires holds { Holds step.at (detail_of step) s.now }
-    requires moving { Moving m (step_in s.now step) (axes_of a) (axes_of b) (axes_of t) }
-    requires k_bound { k < cells (axes_of t) }
-    ensures { (1 ≤ result) × Along (comes m (step_in s.now step) (axes_of a) (axes_of b) (axes_of t)) (cells (axes_of t)) k result }
+fn run_length(w: &MovedStep, k: usize, s: &[u8]) -> usize
+    requires holds { Holds w.now.step.at (detail_of w.now.step) s.now }
+    requires moving { Moving w.now.m (step_in s.now w.now.step) (axes_of w.now.a) (axes_of w.now.b) (axes_of w.now.t) }
+    requires k_bound { k < cells (axes_of w.now.t) }
+    ensures { (1 ≤ result) × Along (comes w.now.m (step_in s.now w.now.step) (axes_of w.now.a) (axes_of w.now.b) (axes_of w.now.t)) (cells (axes_of w.now.t)) k result }
 {
-    let axis = AxisIndex(step.axis as u32);
-    match m {
-        Move::Trim => return side_by_side(t, k, a),
+    let axis = AxisIndex(w.step.axis as u32);
+    match w.m {
+        Move::Trim => side_by_side(w.t, k, w.a),
         Move::Slice => {
-            let layer = layer_of(a, axis);
-            return layer - k % layer;
+            let layer = layer_of(w.a, axis);
+            layer - k % layer
         }
-        Move::Reshape => return side_by_side(t, k, a),
-        Move::Shift => return cells_after(t, 0),
-        Move::Rename => return cells_after(t, 0),
-        Move::Update => return side_around(t, k, b),
-        Move::Put => return side_around(t, k, patch_of(b, axis, position_at(s, step.at))),
-        Move::Glue => return turn_left(block_of(a, axis), block_of(b, axis), k),
+        Move::Reshape => side_by_side(w.t, k, w.a),
+        Move::Shift => cells_after(w.t, 0),
+        Move::Rename => cells_after(w.t, 0),
+        Move::Update => side_around(w.t, k, w.b),
+        Move::Put => side_around(w.t, k, patch_of(w.b, axis, position_at(s, w.step.at))),
+        Move::Glue => turn_left(block_of(w.a, axis), block_of(w.b, axis), k),
     }
 }
 
 // The run that begins with cell k, of at most so many cells, one at least.
-fn run_at(
-    m: Move,
-    step: StepHead,
-    a: Extent,
-    b: Extent,
-    t: Extent,
-    k: usize,
-    most: usize,
-    s: &[u8],
-) -> Run
-    requires holds { Holds step.at (detail_of step) s.now }
-    requires moving { Moving m (step_in s.now step) (axes_of a) (axes_of b) (axes_of t) }
-    requires le_most { (1 ≤ most) × (k + most ≤ cells (axes_of t)) }
-    ensures { Begins (comes m (step_in s.now step) (axes_of a) (axes_of b) (axes_of t)) k most result }
+fn run_at(w: &MovedStep, k: usize, most: usize, s: &[u8]) -> Run
+    requires holds { Holds w.now.step.at (detail_of w.now.step) s.now }
+    requires moving { Moving w.now.m (step_in s.now w.now.step) (axes_of w.now.a) (axes_of w.now.b) (axes_of w.now.t) }
+    requires le_most { (1 ≤ most) × (k + most ≤ cells (axes_of w.now.t)) }
+    ensures { Begins (comes w.now.m (step_in s.now w.now.step) (axes_of w.now.a) (axes_of w.now.b) (axes_of w.now.t)) k most result }
 {
-    let from = origin_of(m, step, a, b, t, k, s);
-    let length = run_length(m, step, a, b, t, k, s);
+    let from = origin_of(w, k, s);
+    let length = run_length(w, k, s);
     Run {
         from,
         length: length.min(most),
@@ -166,34 +157,26 @@ fn kept_lines(l: Lines) -> Pattern
 }
 
 // From cell k of a step's result on: the lines that are alike.
-fn pattern_of(
-    m: Move,
-    step: StepHead,
-    a: Extent,
-    b: Extent,
-    t: Extent,
-    k: usize,
-    s: &[u8],
-) -> Pattern
-    requires holds { Holds step.at (detail_of step) s.now }
-    requires moving { Moving m (step_in s.now step) (axes_of a) (axes_of b) (axes_of t) }
-    requires k_bound { k < cells (axes_of t) }
-    ensures { Again (comes m (step_in s.now step) (axes_of a) (axes_of b) (axes_of t)) (cells (axes_of t)) k result }
+fn pattern_of(w: &MovedStep, k: usize, s: &[u8]) -> Pattern
+    requires holds { Holds w.now.step.at (detail_of w.now.step) s.now }
+    requires moving { Moving w.now.m (step_in s.now w.now.step) (axes_of w.now.a) (axes_of w.now.b) (axes_of w.now.t) }
+    requires k_bound { k < cells (axes_of w.now.t) }
+    ensures { Again (comes w.now.m (step_in s.now w.now.step) (axes_of w.now.a) (axes_of w.now.b) (axes_of w.now.t)) (cells (axes_of w.now.t)) k result }
 {
-    let axis = AxisIndex(step.axis as u32);
-    let left = cells_after(t, 0) - k;
-    match m {
-        Move::Trim => return kept_lines(lines_of(t, k, a)),
-        Move::Slice => return lines_left(left, layer_of(a, axis), block_of(a, axis), 0),
-        Move::Reshape => return kept_lines(lines_of(t, k, a)),
-        Move::Shift => return one_line(left),
-        Move::Rename => return one_line(left),
-        Move::Update => return laid_lines(lines_of(t, k, b)),
-        Move::Put => return laid_lines(lines_of(t, k, patch_of(b, axis, position_at(s, step.at)))),
+    let axis = AxisIndex(w.step.axis as u32);
+    let left = cells_after(w.t, 0) - k;
+    match w.m {
+        Move::Trim => kept_lines(lines_of(w.t, k, w.a)),
+        Move::Slice => lines_left(left, layer_of(w.a, axis), block_of(w.a, axis), 0),
+        Move::Reshape => kept_lines(lines_of(w.t, k, w.a)),
+        Move::Shift => one_line(left),
+        Move::Rename => one_line(left),
+        Move::Update => laid_lines(lines_of(w.t, k, w.b)),
+        Move::Put => laid_lines(lines_of(w.t, k, patch_of(w.b, axis, position_at(s, w.step.at)))),
         Move::Glue => {
-            let m = block_of(a, axis);
-            let n = block_of(b, axis);
-            return lines_left(left, m + n, m, n);
+            let m = block_of(w.a, axis);
+            let n = block_of(w.b, axis);
+            lines_left(left, m + n, m, n)
         }
     }
 }
@@ -234,25 +217,25 @@ fn lines_filled(filled: usize, rest: usize, lines: usize) -> usize
     lines
 }
 
-// The band of a step's result that begins with cell k; a and b are the extents of its operands, t that of its result.
-pub fn band_of(m: Move, step: StepHead, a: Extent, b: Extent, t: Extent, k: usize, s: &[u8]) -> Band
-    requires holds { Holds step.at (detail_of step) s.now }
-    requires moving { Moving m (step_in s.now step) (axes_of a) (axes_of b) (axes_of t) }
-    requires k_bound { k < cells (axes_of t) }
-    ensures { Banded (comes m (step_in s.now step) (axes_of a) (axes_of b) (axes_of t)) (cells (axes_of t)) k result }
+// The band of the step's result that begins with cell k.
+pub fn band_of(w: &MovedStep, k: usize, s: &[u8]) -> Band
+    requires holds { Holds w.now.step.at (detail_of w.now.step) s.now }
+    requires moving { Moving w.now.m (step_in s.now w.now.step) (axes_of w.now.a) (axes_of w.now.b) (axes_of w.now.t) }
+    requires k_bound { k < cells (axes_of w.now.t) }
+    ensures { Banded (comes w.now.m (step_in s.now w.now.step) (axes_of w.now.a) (axes_of w.now.b) (axes_of w.now.t)) (cells (axes_of w.now.t)) k result }
 {
-    let p = pattern_of(m, step, a, b, t, k, s);
-    let first = run_at(m, step, a, b, t, k, p.line, s);
+    let p = pattern_of(w, k, s);
+    let first = run_at(w, k, p.line, s);
     let left = p.line - first.length;
     if left == 0 {
         return band_with(p, p.lines, first, none(), none());
     }
-    let second = run_at(m, step, a, b, t, k + first.length, left, s);
+    let second = run_at(w, k + first.length, left, s);
     let rest = left - second.length;
     if rest == 0 {
         return band_with(p, p.lines, first, second, none());
     }
-    let third = run_at(m, step, a, b, t, k + first.length + second.length, rest, s);
+    let third = run_at(w, k + first.length + second.length, rest, s);
     let lines = lines_filled(third.length, rest, p.lines);
     band_with(p, lines, first, second, third)
 }

@@ -133,8 +133,8 @@ pub fn side_around(t: Extent, k: usize, e: Extent) -> usize
     let other = first_axes(e, c);
     let found = found_at(first, k / line, other);
     match found {
-        Some(_) => return side_by_side(t, k, e),
-        None => return side_by_side(first, k / line, other) * line - k % line,
+        Some(_) => side_by_side(t, k, e),
+        None => side_by_side(first, k / line, other) * line - k % line,
     }
 }
 

@@ -20,7 +20,7 @@ use Rattle.recipe.specs.declared.Plan.{Plan}
 use Rattle.recipe.specs.Operands.{shape_in}
 use Rattle.recipe.specs.Whole.{steps_of, Laid, steps-count, cells-sum}
 use Rattle.values.specs.Done.{no_planned}
-use Rattle.run.specs.Tests.{PlannedFor, planned-no, planned-yes, last_in, axes_in, last-laid, last-shape, last_step}
+use Rattle.run.specs.Tests.{Accepted, last_in, axes_in, last-laid, last-shape, last_step}
 
 -- the head of a recipe's last result, in the bundle's version, where there is room for a whole one
 unfoldable pub last_head : List ℕ → List ℕ → ℕ → Res (List ℕ)
@@ -38,73 +38,74 @@ extent bundle recipe out = put_into out (last_head bundle recipe (length out))
 result-alike : (s : Shape) (t : ℕ) (N : List Name) (E : List Axis) → s ≡ result t N E → length s.maximum ≡ length s.axes
 result-alike s t N E e = rw e (length-map E star)
 
-module _ {B bs : List ℕ} {P : Plan} (p : PlannedFor B bs P) where
-  pub plan-refused : (P.refusal.number ≡ 0 → ⊥) → Err P.refusal ≡ plan B bs
+-- the bundle or the recipe is refused
+module _ (B bs : List ℕ) {x : Refusal} (q : Err x ≡ planned B bs) where
+  pub plan-refused : Err x ≡ plan B bs
   unfolding plan
-  plan-refused h = rw (planned-no p h) refl
+  plan-refused = rw (← q)
 
-  pub extent-refused : (P.refusal.number ≡ 0 → ⊥) → (out : List ℕ)
-      → record { answer = Err P.refusal; buffer = out } ≡ extent B bs out
+  pub extent-refused : (out : List ℕ) → record { answer = Err x; buffer = out } ≡ extent B bs out
   unfolding last_head put_into
-  extent-refused h out = rw (planned-no p h) refl
+  extent-refused out = rw (← q)
 
-  module _ (z : P.refusal.number ≡ 0) where
-    pub laid : Laid bs P
-    laid = (p.setting z).0.laid
+-- both are accepted
+module _ {B bs : List ℕ} {P : Plan} (p : Accepted B bs P) where
+  pub laid : Laid bs P
+  laid = p.setting.laid
 
-    shape_is : last_shape (steps_of bs P) ≡ shape_in (last_in P)
-    shape_is = last-shape laid (p.setting z).1
+  shape_is : last_shape (steps_of bs P) ≡ shape_in (last_in P)
+  shape_is = last-shape laid p.some
 
-    pub plan-told : (axes : ℕ) → axes ≡ length (axes_in (last_in P))
-        → Ok (record { total = P.cells; kind = (last_in P).form.kind; axes = axes; cells = (last_in P).cells }) ≡ plan B bs
-    unfolding plan
-    plan-told axes e = rw (planned-yes p z, shape_is, ← cells-sum laid, ← (last-laid laid (p.setting z).1).count, e) refl
+  pub plan-told : (axes : ℕ) → axes ≡ length (axes_in (last_in P))
+      → Ok (record { total = P.cells; kind = (last_in P).form.kind; axes = axes; cells = (last_in P).cells }) ≡ plan B bs
+  unfolding plan
+  plan-told axes e = rw (← p.said, shape_is, ← cells-sum laid, ← (last-laid laid p.some).count, e) refl
 
-    pub last-few : (last_in P).cells ≤ most_cells
-    last-few = let l = last-laid laid (p.setting z).1 in omega (arith, l.small.few, l.count)
+  pub last-few : (last_in P).cells ≤ most_cells
+  last-few = let l = last-laid laid p.some in omega (arith, l.small.few, l.count)
 
-    -- the bundle's sizes
-    abbrev z' : Sizes
-    z' = sizes_of P.version
+  -- the bundle's sizes
+  abbrev z' : Sizes
+  z' = sizes_of P.version
 
-    sized : sizes_in B ≡ z'
-    sized = ap sizes_of (sym (p.version z))
+  sized : sizes_in B ≡ z'
+  sized = ap sizes_of (sym p.version)
 
-    last-ranked : length (axes_in (last_in P)) ≤ z'.axes
-    last-ranked = (last-laid laid (p.setting z).1).few
+  last-ranked : length (axes_in (last_in P)) ≤ z'.axes
+  last-ranked = (last-laid laid p.some).few
 
-    module _ (out : List ℕ) where
-      pub extent-short : length out < head_length z' → (r : Refusal) → r ≡ refusal small_output14 0 0
-          → record { answer = Err r; buffer = out } ≡ extent B bs out
-      unfolding last_head put_into
-      extent-short h r e = rw (planned-yes p z, sized, lt-leb (head_length z') (length out) h, e) refl
+  module _ (out : List ℕ) where
+    pub extent-short : length out < head_length z' → (r : Refusal) → r ≡ refusal small_output14 0 0
+        → record { answer = Err r; buffer = out } ≡ extent B bs out
+    unfolding last_head put_into
+    extent-short h r e = rw (← p.said, sized, lt-leb (head_length z') (length out) h, e) refl
 
-      module _ (h : head_length z' ≤ length out) {y : List ℕ} (c : y ≡ over (replicate (head_length z') 0) out) where
-        pub last-room : HeadRoom z' (last_in P).form 0 y
-        last-room =
-            let j : P.count - 1 < length (steps_of bs P) = omega (arith, steps-count laid, (p.setting z).1) in
-            let q = ((p.setting z).0.passed (P.count - 1) no_planned j).shape in
-            let zs : List ℕ = replicate (head_length z') 0 in
-            let l : length y ≡ length out
-            = rw c (omega (
-              arith,
-              length-append zs (drop (length zs) out),
-              length-replicate {A = ℕ} (head_length z') 0,
-              length-drop (length zs) out,
-            )) in
-            record {
-              alike = result-alike (shape_in (last_in P)) _ _ _ (sym (last_step laid (p.setting z).1) ∙ q);
-              room = omega (arith, l, h, mul-le-mul_right z'.axis last-ranked);
-            }
+    module _ (h : head_length z' ≤ length out) {y : List ℕ} (c : y ≡ over (replicate (head_length z') 0) out) where
+      pub last-room : HeadRoom z' (last_in P).form 0 y
+      last-room =
+          let j : P.count - 1 < length (steps_of bs P) = omega (arith, steps-count laid, p.some) in
+          let q = (p.setting.passed (P.count - 1) no_planned j).shape in
+          let zs : List ℕ = replicate (head_length z') 0 in
+          let l : length y ≡ length out
+          = rw c (omega (
+            arith,
+            length-append zs (drop (length zs) out),
+            length-replicate {A = ℕ} (head_length z') 0,
+            length-drop (length zs) out,
+          )) in
+          record {
+            alike = result-alike (shape_in (last_in P)) _ _ _ (sym (last_step laid p.some) ∙ q);
+            room = omega (arith, l, h, mul-le-mul_right z'.axis last-ranked);
+          }
 
-        head-got : last_head B bs (length out) ≡ Ok (whole_head z' (shape_in (last_in P)))
-        unfolding last_head
-        head-got = rw (planned-yes p z, sized, le-leb (head_length z') (length out) h) (ap (λ (s : Shape). Ok (whole_head z' s)) shape_is)
+      head-got : last_head B bs (length out) ≡ Ok (whole_head z' (shape_in (last_in P)))
+      unfolding last_head
+      head-got = rw (← p.said, sized, le-leb (head_length z') (length out) h) (ap (λ (s : Shape). Ok (whole_head z' s)) shape_is)
 
-        pub extent-told : (end : ℕ) (w : List ℕ) → HeadPut z' (last_in P).form 0 y end w → (n : ℕ) → n ≡ head_length z'
-            → record { answer = Ok n; buffer = w } ≡ extent B bs out
-        unfolding put_into
-        extent-told end w q n e =
-            let l = whole_long (fits P.version) (last_in P).form last-room q.named last-ranked in
-            let b = whole-put (fits P.version) (last_in P).form out last-room last-ranked c q in
-            rw head-got (λ i. record { answer = Ok ((e ∙ sym l) i); buffer = b i })
+      pub extent-told : (end : ℕ) (w : List ℕ) → HeadPut z' (last_in P).form 0 y end w → (n : ℕ) → n ≡ head_length z'
+          → record { answer = Ok n; buffer = w } ≡ extent B bs out
+      unfolding put_into
+      extent-told end w q n e =
+          let l = whole_long (fits P.version) (last_in P).form last-room q.named last-ranked in
+          let b = whole-put (fits P.version) (last_in P).form out last-room last-ranked c q in
+          rw head-got (λ i. record { answer = Ok ((e ∙ sym l) i); buffer = b i })

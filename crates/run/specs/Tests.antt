@@ -1,8 +1,8 @@
 -- What the calls test before the values: the bundle and the recipe, and what a page asks.
-use Rattle.std.specs.Prelude.{ℕ, zero, suc, ◌+◌, ◌-◌, ◌*◌, ◌≤◌, ◌<◌, ◌≡◌, Bool, true, false, ◌&&◌, List, [], ◌∷◌, map, eqb, leb, get_or, take, Ok, Err}
+use Rattle.std.specs.Prelude.{ℕ, zero, suc, ◌+◌, ◌-◌, ◌*◌, ◌≤◌, ◌<◌, ◌≡◌, false, ◌&&◌, List, [], ◌∷◌, map, leb, get_or, take, Ok, Err}
 use Rattle.std.proofs.Math.Path.{refl, sym, ap}
 use Rattle.std.proofs.Common.{◌∙◌, arith}
-use borrow.Author.Tests.{eqb-true, eqb-false, eq-eqb, ne_eqb, le-leb, lt-leb}
+use borrow.Author.Tests.{eq-eqb, ne_eqb, le-leb, lt-leb}
 use Rattle.std.proofs.Math.ListN.{length, length-take}
 use Rattle.std.proofs.lemmas.List.{length-map}
 use Rattle.std.proofs.Math.Seq.{get_or-take}
@@ -14,18 +14,18 @@ use Rattle.paper.specs.declared.Head.{Head}
 use Rattle.paper.specs.declared.Reading.{Reading}
 use Rattle.paper.specs.declared.Refusal.{Refusal}
 use Rattle.paper.specs.Limits.{most_arrays, cell_bytes, limit_bytes, BOOLEAN}
-use Rattle.paper.specs.Refusals.{refusal, between, unfit7, small_work10, bad_page11}
+use Rattle.paper.specs.Refusals.{Res, refusal, between, unfit7, small_work10, bad_page11}
 use Rattle.paper.specs.Numbers.{last_of}
 use Rattle.paper.specs.Axes.{cells, Array}
 use Rattle.paper.specs.Bundle.{version_in, sizes_in, read_bundle}
 use Rattle.paper.specs.Recipe.{Planned, plan_recipe, cells_of_all, no_shape}
 use Rattle.paper.specs.Listing.{planned, bytes_of_all, last_shape, list_tests}
-use Rattle.paper.specs.Answers.{axes_of, unless}
+use Rattle.paper.specs.Answers.{axes_of}
 use Rattle.laws.specs.Cells.{OfKind}
 use Rattle.laws.specs.Numbers.{Bytes}
 use Rattle.laws.specs.Kinds.{nothing}
 use Rattle.laws.specs.Tests.{and_none}
-use Rattle.laws.specs.Answers.{no_head, unless-refused, unless-got}
+use Rattle.laws.specs.Answers.{no_head}
 use Rattle.laws.specs.Lists.{get_d_any, get_or-mapped}
 use Rattle.laws.specs.Passed.{recipe-passed}
 use Rattle.roundtrip.specs.Valid.{EachOfKind, EachValid}
@@ -35,25 +35,24 @@ use Rattle.recipe.specs.declared.Operand.{Operand}
 use Rattle.recipe.specs.declared.Plan.{Plan}
 use Rattle.recipe.specs.Operands.{no_operand, shape_in}
 use Rattle.recipe.specs.Stepped.{no_step, ResultLaid}
-use Rattle.recipe.specs.Whole.{arrays_in, arrays_of, results_of, steps_of, plan_of, no_plan, Laid, PlannedAll, steps-count, result-there, step-there, laid-there}
+use Rattle.recipe.specs.Whole.{arrays_in, arrays_of, results_of, steps_of, Laid, recipe_over, Made, PlannedAll, steps-count, result-there, step-there, laid-there}
 use Rattle.recipe.specs.Given.{read-shapes}
 use Rattle.values.specs.Done.{shapes_in, AllWhole, no_planned}
 use Rattle.values.specs.Found.{arrays_at, Setting, past}
 
 -- ---- the bundle and the recipe
 
--- the plan is the paper's, or the first refusal; and the setting of a run
-pub record PlannedFor (B bs : List ℕ) (P : Plan) : Type 0 where
-  pub said : unless P.refusal (arrays_at B P, steps_of bs P) ≡ planned B bs
-  pub setting : P.refusal.number ≡ 0 → Setting B bs P × (1 ≤ P.count)
-  pub version : P.refusal.number ≡ 0 → P.version ≡ version_in B
+-- the plan is the paper's; and it is the setting of a run
+pub record Accepted (B bs : List ℕ) (P : Plan) : Type 0 where
+  pub said : Ok (arrays_at B P, steps_of bs P) ≡ planned B bs
+  pub setting : Setting B bs P
+  pub some : 1 ≤ P.count
+  pub version : P.version ≡ version_in B
 
-module _ {B bs : List ℕ} {P : Plan} (p : PlannedFor B bs P) where
-  pub planned-no : (P.refusal.number ≡ 0 → ⊥) → planned B bs ≡ Err P.refusal
-  planned-no h = sym p.said ∙ unless-refused P.refusal _ h
-
-  pub planned-yes : P.refusal.number ≡ 0 → planned B bs ≡ Ok (arrays_at B P, steps_of bs P)
-  planned-yes z = sym p.said ∙ unless-got P.refusal _ z
+-- the same, or the first refusal
+abbrev pub PlannedFor : List ℕ → List ℕ → Res Plan → Type 0
+PlannedFor B bs (Ok P) = Accepted B bs P
+PlannedFor B bs (Err x) = Err x ≡ planned B bs
 
 -- every cell of a list is of the type, one by one
 kinds-each : (t : ℕ) (cs : List Cell) → EachOfKind t cs → (i : ℕ) → OfKind t (get_or cs i Empty)
@@ -70,58 +69,47 @@ valid-whole z (A ∷ As) h zero b = record {
 }
 valid-whole z (A ∷ As) h (suc i) b = valid-whole z As h.1 i (omega arith)
 
-module _ (B bs : List ℕ) (R : Reading) (P : Plan) (r : ReadAll B R) where
-  pub read-refused : (R.refusal.number ≡ 0 → ⊥) → P ≡ no_plan R.refusal → PlannedFor B bs P
+module _ (B bs : List ℕ) where
+  pub read-refused : {x : Refusal} → Err x ≡ read_bundle B → PlannedFor B bs (Err x)
   unfolding planned
-  read-refused h e =
-      let q : read_bundle B ≡ Err R.refusal = sym r.arrays ∙ unless-refused R.refusal _ h in
-      rw e (record { said = unless-refused R.refusal _ h ∙ rw q; setting = λ z. absurd (h z); version = λ z. absurd (h z) })
+  read-refused q = rw (← q)
 
-  module _ (z : R.refusal.number ≡ 0) (p : PlannedAll R bs P) where
+  module _ {R : Reading} (r : ReadAll B (Ok R)) where
     read-got : read_bundle B ≡ Ok (map (array_at B) (arrays_in R))
-    read-got = sym r.arrays ∙ unless-got R.refusal _ z
+    read-got = sym r.arrays
 
-    plan-is : plan_recipe (sizes_in B) (shapes_in (map (array_at B) (arrays_in R))) bs ≡ plan_of bs P
-    plan-is = rw (read-shapes B (arrays_in R), ← r.version z) (sym p.said)
+    plan-is : plan_recipe (sizes_in B) (shapes_in (map (array_at B) (arrays_in R))) bs ≡ recipe_over R bs
+    plan-is = rw (read-shapes B (arrays_in R), ← r.kept.version)
 
-    refused-plan : (P.refusal.number ≡ 0 → ⊥) → PlannedFor B bs P
+    recipe-refused : {x : Refusal} → Err x ≡ recipe_over R bs → PlannedFor B bs (Err x)
     unfolding planned
-    refused-plan h =
-        let e = plan-is ∙ unless-refused P.refusal _ h in
-        record { said = unless-refused P.refusal _ h ∙ rw (read-got, e); setting = λ z. absurd (h z); version = λ z. absurd (h z) }
+    recipe-refused h = let e = plan-is ∙ sym h in rw (read-got, e)
 
-    accepted-plan : P.refusal.number ≡ 0 → Bytes B → Bytes bs → PlannedFor B bs P
+    accepted : {P : Plan} → Made R bs P → Bytes B → Bytes bs → Accepted B bs P
     unfolding planned
-    accepted-plan y h_b hb =
-        let v = p.laid y in
-        let a : arrays_of P ≡ arrays_in R = v.1 in
-        let e = plan-is ∙ unless-got P.refusal (steps_of bs P) y in
-        let q = recipe-passed (sizes_in B) (map shape_in (arrays_of P)) bs (steps_of bs P)
-        (rw (a, ← r.version z) (sym p.said ∙ unless-got P.refusal (steps_of bs P) y)) in
+    accepted {P} v h_b hb =
+        let a : arrays_of P ≡ arrays_in R = v.arrays in
+        let e = plan-is ∙ sym v.said in
+        let q = recipe-passed (sizes_in B) (map shape_in (arrays_of P)) bs (steps_of bs P) (rw (a, ← r.kept.version) (sym v.said)) in
         record {
-          said = unless-got P.refusal _ y ∙ rw (a, read-got, e);
-          setting = λ z. (
-            record {
-              laid = v.0;
-              fit = λ j h.
-                  let l : j < R.count = omega (arith, ap length a, length-take R.count R.heads) in
-                  rw (a, get_or-take R.count R.heads j no_head l) (r.fit j l);
-              whole = rw a (valid-whole (sizes_in B) (map (array_at B) (arrays_in R))
-                  (bundle-read B (map (array_at B) (arrays_in R)) h_b read-got).valid.each);
-              passed = q.1;
-              bytes = hb;
-            },
-            omega (arith, q.0, steps-count v.0),
-          );
-          version = λ y. v.2 ∙ r.version z;
+          said = rw (a, read-got, e);
+          setting = record {
+            laid = v.laid;
+            fit = λ j h.
+                let l : j < R.count = omega (arith, ap length a, length-take R.count R.heads) in
+                rw (a, get_or-take R.count R.heads j no_head l) (r.kept.fit j l);
+            whole = rw a (valid-whole (sizes_in B) (map (array_at B) (arrays_in R))
+                (bundle-read B (map (array_at B) (arrays_in R)) h_b read-got).valid.each);
+            passed = q.1;
+            bytes = hb;
+          };
+          some = omega (arith, q.0, steps-count v.laid);
+          version = v.version ∙ r.kept.version;
         }
 
-    pub both-planned : Bytes B → Bytes bs → PlannedFor B bs P
-    both-planned h_b hb = by (eqb P.refusal.number 0) refl
-      where
-        by : (t : Bool) → eqb P.refusal.number 0 ≡ t → PlannedFor B bs P
-        by true e = accepted-plan (eqb-true P.refusal.number 0 e) h_b hb
-        by false e = refused-plan (eqb-false P.refusal.number 0 e)
+    pub both-planned : (m : Res Plan) → PlannedAll R bs m → Bytes B → Bytes bs → PlannedFor B bs m
+    both-planned (Ok P) v h_b hb = accepted v h_b hb
+    both-planned (Err x) v h_b hb = recipe-refused v
 
 -- ---- the last result
 
@@ -171,42 +159,42 @@ module _ {bs : List ℕ} {P : Plan} (v : Laid bs P) (some : 1 ≤ P.count) where
 -- ---- a page's own tests
 
 -- of the last of n results, which have so many bytes
-pub record PageJudged (result : Head) (n bytes work start rows : ℕ) (r : Refusal) : Type 0 where
+pub record PageJudged (result : Head) (n bytes work start rows : ℕ) (r : Res (Unit {0})) : Type 0 where
   pub said : (ps : List Planned) → length ps ≡ n → last_shape ps ≡ shape_in result → bytes_of_all ps ≡ bytes
-      → unless r tt ≡ list_tests ps work start rows
+      → r ≡ list_tests ps work start rows
 
 abbrev pub axes_in : Head → List Axis
 axes_in h = axes_of h.form.extent
 
-module _ {result : Head} {n bytes w o l : ℕ} {r : Refusal} where
-  pub judged-type : (result.form.kind ≡ BOOLEAN → ⊥) → r ≡ refusal unfit7 n 0 → PageJudged result n bytes w o l r
+module _ {result : Head} {n bytes w o l : ℕ} where
+  pub judged-type : (result.form.kind ≡ BOOLEAN → ⊥) → PageJudged result n bytes w o l (Err (refusal unfit7 n 0))
   unfolding list_tests
-  judged-type h e = record { said = λ ps m f q. rw (f, m, e, ne_eqb result.form.kind BOOLEAN h) refl }
+  judged-type h = record { said = λ ps m f q. rw (f, m, ne_eqb result.form.kind BOOLEAN h) }
 
   module _ (t : result.form.kind ≡ BOOLEAN) where
-    pub judged-work : w < bytes → r ≡ refusal small_work10 0 0 → PageJudged result n bytes w o l r
+    pub judged-work : w < bytes → PageJudged result n bytes w o l (Err (refusal small_work10 0 0))
     unfolding list_tests
-    judged-work h e = record { said = λ ps m f q. rw (f, q, e, eq-eqb result.form.kind BOOLEAN t, lt-leb bytes w h) refl }
+    judged-work h = record { said = λ ps m f q. rw (f, q, eq-eqb result.form.kind BOOLEAN t, lt-leb bytes w h) }
 
     module _ (b : bytes ≤ w) where
       page-unfit : (leb (limit_bytes + limit_bytes * length (axes_in result)) l && between 1 (cells (axes_in result) + 1) o) ≡ false
-          → r ≡ refusal bad_page11 0 0 → PageJudged result n bytes w o l r
+          → PageJudged result n bytes w o l (Err (refusal bad_page11 0 0))
       unfolding list_tests
-      page-unfit h e = record { said = λ ps m f q. rw (f, q, e, eq-eqb result.form.kind BOOLEAN t, le-leb bytes w b, h) refl }
+      page-unfit h = record { said = λ ps m f q. rw (f, q, eq-eqb result.form.kind BOOLEAN t, le-leb bytes w b, h) }
 
-      pub judged-rows : l < limit_bytes + limit_bytes * length (axes_in result) → r ≡ refusal bad_page11 0 0 → PageJudged result n bytes w o l r
+      pub judged-rows : l < limit_bytes + limit_bytes * length (axes_in result) → PageJudged result n bytes w o l (Err (refusal bad_page11 0 0))
       judged-rows h = page-unfit (rw (lt-leb (limit_bytes + limit_bytes * length (axes_in result)) l h))
 
-      pub judged-zero : o ≡ 0 → r ≡ refusal bad_page11 0 0 → PageJudged result n bytes w o l r
+      pub judged-zero : o ≡ 0 → PageJudged result n bytes w o l (Err (refusal bad_page11 0 0))
       judged-zero h = page-unfit (rw h (and_none (leb (limit_bytes + limit_bytes * length (axes_in result)) l)))
 
-      pub judged-past : cells (axes_in result) + 1 < o → r ≡ refusal bad_page11 0 0 → PageJudged result n bytes w o l r
+      pub judged-past : cells (axes_in result) + 1 < o → PageJudged result n bytes w o l (Err (refusal bad_page11 0 0))
       judged-past h = page-unfit (rw (lt-leb o (cells (axes_in result) + 1) h, and_none (leb 1 o)) (and_none (leb (limit_bytes + limit_bytes * length (axes_in result)) l)))
 
-      pub judged-none : limit_bytes + limit_bytes * length (axes_in result) ≤ l → (o ≡ 0 → ⊥) → o ≤ cells (axes_in result) + 1
-          → r ≡ refusal 0 0 0 → PageJudged result n bytes w o l r
+      pub judged-good : limit_bytes + limit_bytes * length (axes_in result) ≤ l → (o ≡ 0 → ⊥) → o ≤ cells (axes_in result) + 1
+          → PageJudged result n bytes w o l (Ok tt)
       unfolding list_tests
-      judged-none g h k e = record {
+      judged-good g h k = record {
         said = λ ps m f q.
-            rw (f, q, e, eq-eqb result.form.kind BOOLEAN t, le-leb bytes w b, le-leb (limit_bytes + limit_bytes * length (axes_in result)) l g, le-leb 1 o (omega arith), le-leb o (cells (axes_in result) + 1) k) refl;
+            rw (f, q, eq-eqb result.form.kind BOOLEAN t, le-leb bytes w b, le-leb (limit_bytes + limit_bytes * length (axes_in result)) l g, le-leb 1 o (omega arith), le-leb o (cells (axes_in result) + 1) k);
       }

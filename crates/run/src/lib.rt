@@ -2,107 +2,90 @@
 // then the rows. No row is written before every value is known.
 #![tactic(auto)]
 
-ghost use Rattle.std.specs.Prelude.{◌≡◌, ◌≤◌, length, replicate, Err};
+ghost use Rattle.std.specs.Prelude.{◌≡◌, ◌≤◌, IfOk};
 ghost use Rattle.paper.specs.Limits.{most_steps, most_cells};
 ghost use Rattle.paper.specs.Axes.{cells as cells_in};
 ghost use Rattle.paper.specs.Answers.{axes_of};
 ghost use Rattle.paper.specs.Listing.{plan as paper_plan, run as paper_run, page as paper_page};
-ghost use Rattle.paper.specs.Numbers.{over};
 ghost use Rattle.values.specs.Runs.{Running};
 ghost use Rattle.run.specs.Tests.{PlannedFor, PageJudged};
 ghost use Rattle.run.specs.Plans.{extent as last_extent};
-ghost use Rattle.run.specs.Calls.{Settled, RowAxes};
+ghost use Rattle.run.specs.Calls.{Settled, listed_in, RowAxes};
 
 use bundle::read;
+use cell::bytes::clear_bytes;
 use extent::rank_of;
 use listing::list;
 use pack::put::{put_head, whole_head};
 use paper::{
     ARRAYS, BOOLEAN, CELL_BYTES, Foreseen, Head, LIMIT_BYTES, Listed, Ordinality, Refusal,
 };
-use recipe::{Plan, no_plan, plan_recipe};
-use refusals::{none, refuse};
+use recipe::{Plan, plan_recipe};
+use refusals::refuse;
 use values::run_steps;
 
 // A page, and how many positions each of its rows has.
 #[derive(Clone, Copy)]
 pub struct PageRows {
-    pub answer: Result<Listed, Refusal>,
+    pub listed: Listed,
     pub axes: usize,
 }
 
 // ---- tests
 
-// The bundle, then the recipe: the plan, with the first refusal of either.
-fn planned(bundle: &[u8], recipe: &[u8]) -> Plan
+// The bundle, then the recipe: the plan, or the first refusal of either.
+fn planned(bundle: &[u8], recipe: &[u8]) -> Result<Plan, Refusal>
     ensures { PlannedFor bundle.now recipe.now result }
 {
-    let reading = read(bundle);
-    if reading.refusal.number != 0 {
-        return no_plan(reading.refusal);
-    }
+    let reading = read(bundle)?;
     plan_recipe(reading, recipe)
 }
 
-// A page's own tests: the listing's type, the work area, the row buffer and the start. `result` is the last of `steps` results, which
+// A page's own tests: the listing's type, the work area, the row buffer and the start. `res` is the last of `steps` results, which
 // have so many bytes.
-fn page_refusal(
+fn page_tests(
     res: Head,
     steps: usize,
     bytes: usize,
     work: usize,
     start: Ordinality,
     rows: usize,
-) -> Refusal
+) -> Result<(), Refusal>
     requires steps_le_most_steps { steps ≤ most_steps }
     requires cells_le_most_cells { res.cells ≤ most_cells }
     requires cells_value { res.cells ≡ cells_in (axes_of res.form.extent) }
     ensures { PageJudged res steps bytes work start.0 rows result }
 {
     if res.form.kind != BOOLEAN {
-        return refuse(7, steps as u32);
+        return Err(refuse(7, steps as u32));
     }
     if work < bytes {
-        return refuse(10, 0);
+        return Err(refuse(10, 0));
     }
     if rows < LIMIT_BYTES + LIMIT_BYTES * rank_of(res.form.extent) {
-        return refuse(11, 0);
+        return Err(refuse(11, 0));
     }
     if start.0 == 0 {
-        return refuse(11, 0);
+        return Err(refuse(11, 0));
     }
     if res.cells + 1 < start.0 as usize {
-        return refuse(11, 0);
+        return Err(refuse(11, 0));
     }
-    none()
+    Ok(())
 }
 
 // ---- values
 
-// The first n bytes are zeros.
-fn clear(work: &mut [u8], n: usize)
-    requires { n ≤ length work.old }
-    ensures { work.new ≡ over (replicate n 0) work.old }
-{
-    let mut i: usize = 0;
-    while i < n {
-        work[i] = 0;
-        i += 1;
-    }
-}
-
 // The values of all steps; where a cell refuses, zeros in their place.
-fn settle(bundle: &[u8], recipe: &[u8], plan: Plan, work: &mut [u8]) -> Refusal
+fn settle(bundle: &[u8], recipe: &[u8], plan: Plan, work: &mut [u8]) -> Result<(), Refusal>
     requires { Running bundle.now recipe.now plan work.old }
-    ensures { Settled bundle.now recipe.now plan work.old result
-        work.new }
+    ensures { Settled bundle.now recipe.now plan work.old result work.new }
 {
-    let refusal = run_steps(bundle, recipe, plan, work);
-    if refusal.number == 0 {
-        return refusal;
+    if let Err(refusal) = run_steps(bundle, recipe, plan, work) {
+        clear_bytes(work, 0, plan.cells * CELL_BYTES);
+        return Err(refusal);
     }
-    clear(work, plan.cells * CELL_BYTES);
-    refusal
+    Ok(())
 }
 
 // ---- the calls
@@ -111,10 +94,7 @@ fn settle(bundle: &[u8], recipe: &[u8], plan: Plan, work: &mut [u8]) -> Refusal
 pub fn plan(bundle: &[u8], recipe: &[u8]) -> Result<Foreseen, Refusal>
     ensures { result ≡ paper_plan bundle.now recipe.now }
 {
-    let plan = planned(bundle, recipe);
-    if plan.refusal.number != 0 {
-        return Err(plan.refusal);
-    }
+    let plan = planned(bundle, recipe)?;
     let operand = plan.operands[ARRAYS + plan.count];
     Ok(Foreseen {
         total: plan.cells as u32,
@@ -129,17 +109,14 @@ pub fn extent(bundle: &[u8], recipe: &[u8], head: &mut [u8]) -> Result<u32, Refu
     ensures { record { answer = result; buffer = head.new }
         ≡ last_extent bundle.now recipe.now head.old }
 {
-    let plan = planned(bundle, recipe);
-    if plan.refusal.number != 0 {
-        return Err(plan.refusal);
-    }
+    let plan = planned(bundle, recipe)?;
     let v = plan.version;
     let long = whole_head(v);
     if head.len() < long {
         return Err(refuse(14, 0));
     }
     let operand = plan.operands[ARRAYS + plan.count];
-    clear(head, long);
+    clear_bytes(head, 0, long);
     put_head(v, operand.head.form, head, 0);
     Ok(long as u32)
 }
@@ -149,27 +126,12 @@ pub fn run(bundle: &[u8], recipe: &[u8], work: &mut [u8]) -> Result<u32, Refusal
     ensures { record { answer = result; buffer = work.new }
         ≡ paper_run bundle.now recipe.now work.old }
 {
-    let plan = planned(bundle, recipe);
-    let refusal = plan.refusal;
-    if refusal.number != 0 {
-        return Err(refusal);
-    }
+    let plan = planned(bundle, recipe)?;
     if work.len() < plan.cells * CELL_BYTES {
         return Err(refuse(10, 0));
     }
-    let ended = settle(bundle, recipe, plan, work);
-    if ended.number != 0 {
-        return Err(ended);
-    }
+    settle(bundle, recipe, plan, work)?;
     Ok(plan.cells as u32)
-}
-
-// No page, and no rows.
-fn no_page(refusal: Refusal) -> PageRows
-    ensures { result ≡ record { answer = Err refusal; axes = 0 } }
-{
-    let answer = Err(refusal);
-    PageRows { answer, axes: 0 }
 }
 
 // A page: the run, and a row for each TRUE cell of the last result from `start` on, until the buffer has no room for another.
@@ -179,35 +141,20 @@ pub fn page_rows(
     work: &mut [u8],
     start: Ordinality,
     rows: &mut [u8],
-) -> PageRows
-    ensures { (record { answer = result.answer; work = work.new; rows = rows.new }
+) -> Result<PageRows, Refusal>
+    ensures { (record { answer = listed_in result; work = work.new; rows = rows.new }
         ≡ paper_page bundle.now recipe.now work.old start.0 rows.old)
-        × RowAxes bundle.now recipe.now result }
+        × IfOk result (RowAxes bundle.now recipe.now) }
 {
-    let plan = planned(bundle, recipe);
-    if plan.refusal.number != 0 {
-        return no_page(plan.refusal);
-    }
+    let plan = planned(bundle, recipe)?;
     let last = plan.operands[ARRAYS + plan.count];
     let bytes = plan.cells * CELL_BYTES;
-    let unfit = page_refusal(last.head, plan.count, bytes, work.len(), start, rows.len());
-    if unfit.number != 0 {
-        return no_page(unfit);
-    }
-    let stopped = settle(bundle, recipe, plan, work);
-    if stopped.number != 0 {
-        return no_page(stopped);
-    }
-    let answer = Ok(list(
-        work,
-        last.head.at,
-        last.head.form.extent,
-        last.head.cells,
-        start,
-        rows,
-    ));
-    let axes = rank_of(last.head.form.extent);
-    PageRows { answer, axes }
+    page_tests(last.head, plan.count, bytes, work.len(), start, rows.len())?;
+    settle(bundle, recipe, plan, work)?;
+    let extent = last.head.form.extent;
+    let listed = list(work, last.head.at, extent, last.head.cells, start, rows);
+    let axes = rank_of(extent);
+    Ok(PageRows { listed, axes })
 }
 
 // The page alone.
@@ -221,6 +168,6 @@ pub fn page(
     ensures { record { answer = result; work = work.new; rows = rows.new }
         ≡ paper_page bundle.now recipe.now work.old start.0 rows.old }
 {
-    let found = page_rows(bundle, recipe, work, start, rows);
-    found.answer
+    let found = page_rows(bundle, recipe, work, start, rows)?;
+    Ok(found.listed)
 }

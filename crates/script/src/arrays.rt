@@ -1,11 +1,12 @@
 // Questions about a bundle and its arrays, with what is answered on the rest of the line.
-use crate::desk::put_numbers;
-use crate::line::{ARGS, arg_length, arg32};
+use crate::desk::put_words;
+use crate::line::Words;
 use crate::parts::{first, first_lent};
 use crate::say::{
     LIMITS, MAXIMUM, axes_bytes, say, say_axes, say_byte, say_cell, say_cells, say_count,
     say_number, say_refusal, say_some,
 };
+use bundle::no_head;
 use paper::{AxisIndex, CELL_BYTES, Cell, HALF_NAME, Head, Ordinality, Refusal, Totalled, Version};
 use refer::choose;
 use std::io;
@@ -32,18 +33,26 @@ pub fn number_of(rt: &impl Print, answer: Result<u32, Refusal>) -> io::Result<u3
 
 // How many there are.
 fn show_read(rt: &impl Print, bundle: &[u8]) -> io::Result<()> {
-    let reading = bundle::read(bundle);
-    if reading.refusal.number != 0 {
-        return say_refusal(rt, reading.refusal);
+    match bundle::read(bundle) {
+        Ok(reading) => {
+            say_count(rt, b"arrays ", reading.count as u64)?;
+            say_byte(rt, b'\n')
+        }
+        Err(r) => say_refusal(rt, r),
     }
-    say_count(rt, b"arrays ", reading.count as u64)?;
-    say_byte(rt, b'\n')
 }
 
-// The version of a bundle.
+// The version of a bundle; 1 where it is refused.
 pub fn version_of(bundle: &[u8]) -> Version {
-    let reading = bundle::read(bundle);
-    reading.version
+    match bundle::read(bundle) {
+        Ok(reading) => reading.version,
+        Err(_) => Version::One,
+    }
+}
+
+// The head of array k; of no array where it is refused.
+pub fn head_of(bundle: &[u8], k: u32) -> Head {
+    choose(bundle, k).unwrap_or(no_head())
 }
 
 // The axes of an array are the bytes before its cells.
@@ -58,8 +67,7 @@ fn axes_at(v: Version, head: Head) -> usize {
 // Array k: its extent and its cells.
 fn show_array(rt: &impl Print, bundle: &[u8], k: u32) -> io::Result<()> {
     let v = version_of(bundle);
-    let chosen = choose(bundle, k);
-    let head = chosen.head;
+    let head = head_of(bundle, k);
     let at = head.at;
     say_axes(
         rt,
@@ -78,8 +86,7 @@ fn show_array(rt: &impl Print, bundle: &[u8], k: u32) -> io::Result<()> {
 // Its extent, or its maximum: the limits that are so many bytes after an axis's name.
 fn show_limits(rt: &impl Print, bundle: &[u8], k: u32, limits: usize) -> io::Result<()> {
     let v = version_of(bundle);
-    let chosen = choose(bundle, k);
-    let head = chosen.head;
+    let head = head_of(bundle, k);
     say_axes(
         rt,
         bundle,
@@ -92,8 +99,7 @@ fn show_limits(rt: &impl Print, bundle: &[u8], k: u32, limits: usize) -> io::Res
 }
 
 fn show_reference(rt: &impl Print, bundle: &[u8], k: u32, coordinate: &[u8]) -> io::Result<()> {
-    let answer = c_asked::refer_bytes(bundle, k, coordinate);
-    match answer {
+    match c_asked::refer_bytes(bundle, k, coordinate) {
         Ok(c) => {
             say_cell(rt, c)?;
             say_byte(rt, b'\n')
@@ -111,8 +117,7 @@ fn show_totalled(rt: &impl Print, t: Totalled) -> io::Result<()> {
 }
 
 fn show_total(rt: &impl Print, bundle: &[u8], k: u32, which: u32) -> io::Result<()> {
-    let answer = c_asked::total_asked(bundle, k, which);
-    match answer {
+    match c_asked::total_asked(bundle, k, which) {
         Ok(t) => show_totalled(rt, t),
         Err(r) => say_refusal(rt, r),
     }
@@ -129,8 +134,7 @@ fn show_seen(rt: &impl Print, seen: Option<Cell>) -> io::Result<()> {
 // What a walk sees at a place, and the place after it.
 fn show_walk_step(rt: &impl Print, bundle: &[u8], k: u32, place: u32) -> io::Result<u32> {
     let step = refer::walk_step(bundle, k, Ordinality(place));
-    let answer = step.answer;
-    match answer {
+    match step.answer {
         Ok(seen) => show_seen(rt, seen)?,
         Err(r) => say_refusal(rt, r)?,
     }
@@ -140,11 +144,9 @@ fn show_walk_step(rt: &impl Print, bundle: &[u8], k: u32, place: u32) -> io::Res
 
 // So many steps of a walk from the first cell on.
 fn show_walk(rt: &impl Print, bundle: &[u8], k: u32, n: u32) -> io::Result<()> {
-    let mut place: u32 = 1;
-    let mut i: u32 = 0;
-    while i < n {
+    let mut place = 1;
+    for _ in 0..n {
         place = show_walk_step(rt, bundle, k, place)?;
-        i += 1;
     }
     say_byte(rt, b'\n')
 }
@@ -162,13 +164,10 @@ fn show_json(rt: &impl Print, bundle: &[u8], k: u32, out: &mut [u8]) -> io::Resu
 // An array's cells in its bundle.
 fn cells_of(bundle: &[u8], head: Head) -> &[u8] {
     let at = head.at;
-    if at <= bundle.len() {
-        if head.cells <= (bundle.len() - at) / CELL_BYTES {
-            let end = at + head.cells * CELL_BYTES;
-            return &bundle[at..end];
-        }
+    if at <= bundle.len() && head.cells <= (bundle.len() - at) / CELL_BYTES {
+        return &bundle[at..at + head.cells * CELL_BYTES];
     }
-    &bundle[..0]
+    &[]
 }
 
 // The refusal beside a part, if there is one.
@@ -184,21 +183,17 @@ fn say_said(rt: &impl Print, number: u32, place: u32, ordinality: u32) -> io::Re
 
 // The cells from ordinality o on of arrays 1 and 2 glued on an axis, up to where the other begins, in the version told.
 fn show_glued(rt: &impl Print, version: u32, bundle: &[u8], axis: u32, o: u32) -> io::Result<()> {
-    let left = choose(bundle, 1);
-    let right = choose(bundle, 2);
-    let a = left.head;
-    let b = right.head;
-    let left_names = a.form.names;
-    let right_names = b.form.names;
+    let a = head_of(bundle, 1);
+    let b = head_of(bundle, 2);
     let mut said = [0u32; 3];
     let part = stretch::stretch(
         version,
         a.form.kind,
-        left_names,
+        a.form.names,
         a.form.extent,
         cells_of(bundle, a),
         b.form.kind,
-        right_names,
+        b.form.names,
         b.form.extent,
         cells_of(bundle, b),
         AxisIndex(axis),
@@ -211,22 +206,16 @@ fn show_glued(rt: &impl Print, version: u32, bundle: &[u8], axis: u32, o: u32) -
 
 // ---- a question
 
-fn ask_find(
-    rt: &impl Print,
-    bundle: &[u8],
-    n: usize,
-    args: &[u64; ARGS],
-    kinds: &[u8; ARGS],
-) -> io::Result<()> {
+fn ask_find(rt: &impl Print, bundle: &[u8], words: &Words) -> io::Result<()> {
     let mut coordinate = [0u8; COORDINATE];
-    let end = put_numbers(args, kinds, 2, n, HALF_NAME, &mut coordinate, 0);
-    show_reference(rt, bundle, arg32(args, 1), first(&coordinate, end))
+    let end = put_words(words.rest(2), HALF_NAME, &mut coordinate, 0);
+    show_reference(rt, bundle, words.value32(1), first(&coordinate, end))
 }
 
-fn ask_json(rt: &impl Print, bundle: &[u8], args: &[u64; ARGS]) -> io::Result<()> {
+fn ask_json(rt: &impl Print, bundle: &[u8], words: &Words) -> io::Result<()> {
     let mut out = [b'.'; TEXT];
-    let room = arg_length(args, 2, TEXT);
-    show_json(rt, bundle, arg32(args, 1), first_lent(&mut out, room))
+    let room = words.length(2, TEXT);
+    show_json(rt, bundle, words.value32(1), first_lent(&mut out, room))
 }
 
 // A command of the script that asks about the bundle's arrays, by its first letter; a stretch is told the version.
@@ -235,20 +224,18 @@ pub fn ask_array(
     command: u8,
     version: u32,
     bundle: &[u8],
-    n: usize,
-    args: &[u64; ARGS],
-    kinds: &[u8; ARGS],
+    words: &Words,
 ) -> io::Result<()> {
     match command {
         b'o' => show_read(rt, bundle),
-        b'l' => show_array(rt, bundle, arg32(args, 1)),
-        b'e' => show_limits(rt, bundle, arg32(args, 1), LIMITS),
-        b'm' => show_limits(rt, bundle, arg32(args, 1), MAXIMUM),
-        b'f' => ask_find(rt, bundle, n, args, kinds),
-        b'w' => show_walk(rt, bundle, arg32(args, 1), arg32(args, 2)),
-        b't' => show_total(rt, bundle, arg32(args, 1), arg32(args, 2)),
-        b'j' => ask_json(rt, bundle, args),
-        b'g' => show_glued(rt, version, bundle, arg32(args, 1), arg32(args, 2)),
+        b'l' => show_array(rt, bundle, words.value32(1)),
+        b'e' => show_limits(rt, bundle, words.value32(1), LIMITS),
+        b'm' => show_limits(rt, bundle, words.value32(1), MAXIMUM),
+        b'f' => ask_find(rt, bundle, words),
+        b'w' => show_walk(rt, bundle, words.value32(1), words.value32(2)),
+        b't' => show_total(rt, bundle, words.value32(1), words.value32(2)),
+        b'j' => ask_json(rt, bundle, words),
+        b'g' => show_glued(rt, version, bundle, words.value32(1), words.value32(2)),
         _ => Ok(()),
     }
 }

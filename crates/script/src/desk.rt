@@ -2,9 +2,7 @@
 // the arrays. Heads are laid out as version 2's, which have room for any version's; steps are of the version told.
 ghost use Rattle.std.specs.Prelude.{◌≤◌};
 
-use crate::line::{
-    ARGS, EMPTY, NAME, NUMBER, WIDE, arg, arg_kind, arg_last, arg_length, arg8, arg32,
-};
+use crate::line::{Kind, Word, Words};
 use cell::bytes::{clear_bytes, put4, put9};
 use paper::{CELL_BYTES, HALF_NAME, HEAD_BYTES, LIMIT_BYTES, LIMITS_BYTES, Sizes, Version};
 use versions::{sizes, version_told};
@@ -47,61 +45,38 @@ pub fn blank() -> Desk {
 
 // Four bytes, where there is room for them.
 fn put_half(buf: &mut [u8], at: usize, n: u32) {
-    if LIMIT_BYTES <= buf.len() {
-        if at <= buf.len() - LIMIT_BYTES {
-            put4(buf, at, n);
-        }
+    if LIMIT_BYTES <= buf.len() && at <= buf.len() - LIMIT_BYTES {
+        put4(buf, at, n);
     }
 }
 
 // A number: a name, a wide number or bits by eight bytes, others by four. What has no room is left out; answers where the next goes.
-fn put_number(value: u64, kind: u8, buf: &mut [u8], at: usize) -> usize {
+fn put_number(value: u64, kind: Kind, buf: &mut [u8], at: usize) -> usize {
     if BUNDLE < at {
         return at;
     }
     put_half(buf, at, (value % 0x1_0000_0000) as u32);
-    if kind == NUMBER {
+    if kind == Kind::Number {
         return at + LIMIT_BYTES;
     }
     put_half(buf, at + LIMIT_BYTES, (value / 0x1_0000_0000) as u32);
     at + 2 * LIMIT_BYTES
 }
 
-// The j-th word; a name by so many bytes.
-fn put_word(
-    args: &[u64; ARGS],
-    kinds: &[u8; ARGS],
-    j: usize,
-    name: usize,
-    buf: &mut [u8],
-    at: usize,
-) -> usize {
-    let kind = arg_kind(kinds, j);
-    let end = put_number(arg(args, j), kind, buf, at);
-    if kind != NAME {
+// A word; a name by so many bytes.
+fn put_word(word: Word, name: usize, buf: &mut [u8], at: usize) -> usize {
+    let end = put_number(word.value, word.kind, buf, at);
+    if word.kind != Kind::Name || name <= HALF_NAME {
         return end;
     }
-    if name <= HALF_NAME {
-        return end;
-    }
-    put_number(arg_last(args, j), WIDE, buf, end)
+    put_number(word.last, Kind::Wide, buf, end)
 }
 
-// The words of a line from the j-th up to the n-th, into `buf` from byte `at` on; answers where they end. A name takes so many bytes.
-pub fn put_numbers(
-    args: &[u64; ARGS],
-    kinds: &[u8; ARGS],
-    from: usize,
-    n: usize,
-    name: usize,
-    buf: &mut [u8],
-    at: usize,
-) -> usize {
+// Words into `buf` from byte `at` on; answers where they end. A name takes so many bytes.
+pub fn put_words(words: &[Word], name: usize, buf: &mut [u8], at: usize) -> usize {
     let mut end = at;
-    let mut j = from;
-    while j < n {
-        end = put_word(args, kinds, j, name, buf, end);
-        j += 1;
+    for word in words {
+        end = put_word(*word, name, buf, end);
     }
     end
 }
@@ -113,13 +88,7 @@ fn sizes_told(version: u32) -> Sizes {
 
 // declare VERSION
 pub fn declared(desk: Desk, version: u32) -> Desk {
-    Desk {
-        version,
-        heads: desk.heads,
-        cells: desk.cells,
-        steps: desk.steps,
-        bundle: desk.bundle,
-    }
+    Desk { version, ..desk }
 }
 
 // int, float or boolean.
@@ -132,154 +101,102 @@ fn type_of(name: u8) -> u8 {
 }
 
 // array TYPE NAME LOWER UPPER MAXIMUM-LOWER MAXIMUM-UPPER ..
-pub fn add_array(
-    desk: Desk,
-    n: usize,
-    args: &[u64; ARGS],
-    kinds: &[u8; ARGS],
-    heads: &mut [u8],
-) -> Desk {
+pub fn add_array(desk: Desk, words: &Words, heads: &mut [u8]) -> Desk {
     if heads.len() / WHOLE_HEAD <= desk.heads {
         return desk;
     }
     let at = desk.heads * WHOLE_HEAD;
-    let next = desk.heads + 1;
     clear_bytes(heads, at, WHOLE_HEAD);
     put_half(
         heads,
         at,
-        u32::from_le_bytes([type_of(arg8(args, 1)), (n / 5 % 256) as u8, 0, 0]),
+        u32::from_le_bytes([
+            type_of(words.value8(1)),
+            (words.len() / 5 % 256) as u8,
+            0,
+            0,
+        ]),
     );
-    put_numbers(args, kinds, 2, n, WHOLE_NAME, heads, at + 2);
+    put_words(words.rest(2), WHOLE_NAME, heads, at + 2);
     Desk {
-        version: desk.version,
-        heads: next,
-        cells: desk.cells,
-        steps: desk.steps,
-        bundle: desk.bundle,
+        heads: desk.heads + 1,
+        ..desk
     }
 }
 
 // One cell, or as many empty ones as the word says; answers where the next goes. What has no room is left out.
-fn put_cells(cells: &mut [u8], at: usize, value: u64, kind: u8) -> usize {
+fn put_cells(cells: &mut [u8], at: usize, word: Word) -> usize {
     if cells.len() < at {
         return at;
     }
-    if kind == EMPTY {
-        let n = at_least_one(value) as usize * CELL_BYTES;
-        if n <= cells.len() - at {
+    let room = cells.len() - at;
+    if word.kind == Kind::Empty {
+        let n = word.value.clamp(1, 4096) as usize * CELL_BYTES;
+        if n <= room {
             clear_bytes(cells, at, n);
             return at + n;
         }
         return at;
     }
-    if CELL_BYTES <= cells.len() - at {
-        put9(cells, at, 1, value);
+    if CELL_BYTES <= room {
+        put9(cells, at, 1, word.value);
         return at + CELL_BYTES;
     }
     at
 }
 
-fn at_least_one(n: u64) -> u64
-    ensures { result ≤ 4096 }
-{
-    if n == 0 {
-        return 1;
-    }
-    if n < 4096 {
-        return n;
-    }
-    4096
-}
-
 // cells CELL ..
-pub fn add_cells(
-    desk: Desk,
-    n: usize,
-    args: &[u64; ARGS],
-    kinds: &[u8; ARGS],
-    cells: &mut [u8],
-) -> Desk {
+pub fn add_cells(desk: Desk, words: &Words, cells: &mut [u8]) -> Desk {
     let mut end = desk.cells;
-    let mut j: usize = 1;
-    while j < n {
-        end = put_cells(cells, end, arg(args, j), arg_kind(kinds, j));
-        j += 1;
+    for word in words.rest(1) {
+        end = put_cells(cells, end, *word);
     }
-    Desk {
-        version: desk.version,
-        heads: desk.heads,
-        cells: end,
-        steps: desk.steps,
-        bundle: desk.bundle,
-    }
+    Desk { cells: end, ..desk }
 }
 
 // step OPERATION A B AXIS NUMBER ..
-pub fn add_step(
-    desk: Desk,
-    n: usize,
-    args: &[u64; ARGS],
-    kinds: &[u8; ARGS],
-    steps: &mut [u8],
-) -> Desk {
+pub fn add_step(desk: Desk, words: &Words, steps: &mut [u8]) -> Desk {
     let at = desk.steps;
     let z = sizes_told(desk.version);
-    let size = z.step;
-    if steps.len() < size {
+    if steps.len() < z.step || steps.len() - z.step < at {
         return desk;
     }
-    if steps.len() - size < at {
-        return desk;
-    }
-    let next = at + size;
-    clear_bytes(steps, at, size);
+    clear_bytes(steps, at, z.step);
     put_half(
         steps,
         at,
-        u32::from_le_bytes([arg8(args, 1), arg8(args, 2), arg8(args, 3), arg8(args, 4)]),
+        u32::from_le_bytes([
+            words.value8(1),
+            words.value8(2),
+            words.value8(3),
+            words.value8(4),
+        ]),
     );
-    put_numbers(args, kinds, 5, n, z.name, steps, at + HEAD_BYTES);
+    put_words(words.rest(5), z.name, steps, at + HEAD_BYTES);
     Desk {
-        version: desk.version,
-        heads: desk.heads,
-        cells: desk.cells,
-        steps: next,
-        bundle: desk.bundle,
+        steps: at + z.step,
+        ..desk
     }
 }
 
 // No steps.
 pub fn erased(desk: Desk) -> Desk {
-    Desk {
-        version: desk.version,
-        heads: desk.heads,
-        cells: desk.cells,
-        steps: 0,
-        bundle: desk.bundle,
-    }
+    Desk { steps: 0, ..desk }
 }
 
 // A bundle of so many bytes.
 pub fn bundled(desk: Desk, n: usize) -> Desk {
-    Desk {
-        version: desk.version,
-        heads: desk.heads,
-        cells: desk.cells,
-        steps: desk.steps,
-        bundle: n,
-    }
+    Desk { bundle: n, ..desk }
 }
 
 // zeros BYTES: a bundle of zeros.
-pub fn zeros(desk: Desk, args: &[u64; ARGS], bundle: &mut [u8]) -> Desk {
-    let n = arg_length(args, 1, bundle.len());
+pub fn zeros(desk: Desk, words: &Words, bundle: &mut [u8]) -> Desk {
+    let n = words.length(1, bundle.len());
     clear_bytes(bundle, 0, n);
     bundled(desk, n)
 }
 
 // insert AT NUMBER ..: bytes of the bundle.
-pub fn insert(n: usize, args: &[u64; ARGS], kinds: &[u8; ARGS], bundle: &mut [u8]) {
-    let at = arg32(args, 1) as usize;
-    put_numbers(args, kinds, 2, n, HALF_NAME, bundle, at);
+pub fn insert(words: &Words, bundle: &mut [u8]) {
+    put_words(words.rest(2), HALF_NAME, bundle, words.value32(1) as usize);
 }

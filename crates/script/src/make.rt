@@ -6,7 +6,7 @@ use crate::desk::{
     Desk, WHOLE_HEAD, add_array, add_cells, add_step, blank, bundled, declared, erased, insert,
     zeros,
 };
-use crate::line::{ARGS, arg_length, arg32};
+use crate::line::Words;
 use crate::parts::{first, first_lent};
 use crate::say::say_some;
 use c_asked::forms_in;
@@ -27,21 +27,21 @@ fn packed(
 }
 
 // The second word as a length, or all that there is.
-fn room_asked(n: usize, args: &[u64; ARGS], most: usize) -> usize
+fn room_asked(words: &Words, most: usize) -> usize
     ensures { result ≤ most }
 {
-    if n < 2 {
-        return most;
+    if words.len() < 2 {
+        most
+    } else {
+        words.length(1, most)
     }
-    arg_length(args, 1, most)
 }
 
 // bundle [BYTES]
 fn make_bundle(
     rt: &impl Print,
     desk: Desk,
-    n: usize,
-    args: &[u64; ARGS],
+    words: &Words,
     heads: &[u8],
     cells: &[u8],
     bundle: &mut [u8],
@@ -49,7 +49,7 @@ fn make_bundle(
     if heads.len() / WHOLE_HEAD < desk.heads {
         return Ok(desk);
     }
-    let room = room_asked(n, args, bundle.len());
+    let room = room_asked(words, bundle.len());
     let length = packed(
         rt,
         desk.version,
@@ -57,7 +57,7 @@ fn make_bundle(
         first(cells, desk.cells),
         first_lent(bundle, room),
     )?;
-    if 1 < n {
+    if 1 < words.len() {
         say_some(rt, b"bytes ", length, b"\n")?;
         return Ok(bundled(desk, room));
     }
@@ -69,9 +69,7 @@ pub fn make(
     rt: &impl Print,
     command: u8,
     desk: Desk,
-    n: usize,
-    args: &[u64; ARGS],
-    kinds: &[u8; ARGS],
+    words: &Words,
     heads: &mut [u8],
     cells: &mut [u8],
     steps: &mut [u8],
@@ -79,17 +77,17 @@ pub fn make(
 ) -> io::Result<Desk> {
     match command {
         b'n' => Ok(blank()),
-        b'd' => Ok(declared(desk, arg32(args, 1))),
-        b'a' => Ok(add_array(desk, n, args, kinds, heads)),
-        b'c' => Ok(add_cells(desk, n, args, kinds, cells)),
-        b'b' => make_bundle(rt, desk, n, args, heads, cells, bundle),
-        b'z' => Ok(zeros(desk, args, bundle)),
+        b'd' => Ok(declared(desk, words.value32(1))),
+        b'a' => Ok(add_array(desk, words, heads)),
+        b'c' => Ok(add_cells(desk, words, cells)),
+        b'b' => make_bundle(rt, desk, words, heads, cells, bundle),
+        b'z' => Ok(zeros(desk, words, bundle)),
         b'i' => {
-            insert(n, args, kinds, bundle);
+            insert(words, bundle);
             Ok(desk)
         }
         b'r' => Ok(erased(desk)),
-        b's' => Ok(add_step(desk, n, args, kinds, steps)),
+        b's' => Ok(add_step(desk, words, steps)),
         _ => Ok(desk),
     }
 }

@@ -3,7 +3,7 @@ ghost use Rattle.std.specs.Prelude.{◌≤◌};
 
 use crate::line::at_most;
 use cell::bytes::{half, read_cell, word_of};
-use paper::{CELL_BYTES, Cell, HALF_NAME, LIMIT_BYTES, PAIR_BYTES, Refusal, Version};
+use paper::{CELL_BYTES, Cell, LIMIT_BYTES, PAIR_BYTES, Refusal, Version};
 use std::io;
 use versions::sizes;
 
@@ -111,49 +111,20 @@ pub fn say_cells(
     from: usize,
     to: usize,
 ) -> io::Result<()> {
-    let mut k = from;
-    while k < to {
+    for k in from..to {
         say_one(rt, kind, cells, k)?;
-        k += 1;
     }
     say_byte(rt, b'\n')
 }
 
 // ---- extents, from the bytes of axes
 
-// A letter of a name, unless it is padding.
-fn say_letter(rt: &impl Print, s: &[u8], i: usize) -> io::Result<()> {
-    if i < s.len() {
-        let letter = s[i];
-        if letter != 0 {
-            say_byte(rt, letter)?;
-        }
-    }
-    Ok(())
-}
-
-// The eight letters of half a name.
-fn say_half(rt: &impl Print, s: &[u8], at: usize) -> io::Result<()> {
-    if at < 0x1_0000_0000 {
-        say_letter(rt, s, at)?;
-        say_letter(rt, s, at + 1)?;
-        say_letter(rt, s, at + 2)?;
-        say_letter(rt, s, at + 3)?;
-        say_letter(rt, s, at + 4)?;
-        say_letter(rt, s, at + 5)?;
-        say_letter(rt, s, at + 6)?;
-        say_letter(rt, s, at + 7)?;
-    }
-    Ok(())
-}
-
-// A name of so many bytes.
+// A name of so many bytes, but for its padding.
 fn say_name(rt: &impl Print, s: &[u8], at: usize, name: usize) -> io::Result<()> {
     say_byte(rt, b' ')?;
-    say_half(rt, s, at)?;
-    if HALF_NAME < name {
-        if at < 0x1_0000_0000 {
-            say_half(rt, s, at + HALF_NAME)?;
+    for letter in s.iter().skip(at).take(name) {
+        if *letter != 0 {
+            say_byte(rt, *letter)?;
         }
     }
     Ok(())
@@ -161,14 +132,12 @@ fn say_name(rt: &impl Print, s: &[u8], at: usize, name: usize) -> io::Result<()>
 
 // Two limits of an axis.
 fn say_limits(rt: &impl Print, s: &[u8], at: usize) -> io::Result<()> {
-    if at < s.len() {
-        if 2 * LIMIT_BYTES <= s.len() - at {
-            say_byte(rt, b'(')?;
-            say_signed(rt, half(s, at))?;
-            say_byte(rt, b':')?;
-            say_signed(rt, half(s, at + LIMIT_BYTES))?;
-            say_byte(rt, b')')?;
-        }
+    if at < s.len() && 2 * LIMIT_BYTES <= s.len() - at {
+        say_byte(rt, b'(')?;
+        say_signed(rt, half(s, at))?;
+        say_byte(rt, b':')?;
+        say_signed(rt, half(s, at + LIMIT_BYTES))?;
+        say_byte(rt, b')')?;
     }
     Ok(())
 }
@@ -186,17 +155,14 @@ fn say_axis(
     s: &[u8],
     at: usize,
     k: usize,
-    rank: usize,
     v: Version,
     limits: usize,
 ) -> io::Result<()> {
-    if k < rank {
-        if at < 0x1_0000_0000 {
-            let name = at_most(sizes(v).name, WIDEST);
-            let here = at + axes_bytes(v, k);
-            say_name(rt, s, here, name)?;
-            say_limits(rt, s, here + name + at_most(limits, WIDEST))?;
-        }
+    if at < 0x1_0000_0000 {
+        let name = at_most(sizes(v).name, WIDEST);
+        let here = at + axes_bytes(v, k);
+        say_name(rt, s, here, name)?;
+        say_limits(rt, s, here + name + at_most(limits, WIDEST))?;
     }
     Ok(())
 }
@@ -209,10 +175,8 @@ pub fn say_axes(
     v: Version,
     limits: usize,
 ) -> io::Result<()> {
-    say_axis(rt, s, at, 0, rank, v, limits)?;
-    say_axis(rt, s, at, 1, rank, v, limits)?;
-    say_axis(rt, s, at, 2, rank, v, limits)?;
-    say_axis(rt, s, at, 3, rank, v, limits)?;
-    say_axis(rt, s, at, 4, rank, v, limits)?;
-    say_axis(rt, s, at, 5, rank, v, limits)
+    for k in 0..at_most(rank, paper::AXES) {
+        say_axis(rt, s, at, k, v, limits)?;
+    }
+    Ok(())
 }

@@ -1,14 +1,13 @@
 // JSON texts read into arrays, with the cells or the refusal on the rest of the line.
 ghost use Rattle.std.specs.Prelude.{◌≤◌, length};
 
-use crate::arrays::number_of;
+use crate::arrays::{head_of, number_of};
 use crate::desk::WHOLE_HEAD;
-use crate::line::{ARGS, arg_length, arg32};
+use crate::line::Words;
 use crate::parts::{first, first_lent};
 use crate::say::{say_byte, say_cells, say_count, say_refusal};
 use c_asked::side_form;
 use paper::{CELL_BYTES, Form, JsonRefusal, Version};
-use refer::choose;
 use std::io;
 
 // The bytes of a cell buffer and of a text that is written, at most.
@@ -52,8 +51,7 @@ fn show_sent(
     text: &[u8],
     cells: &mut [u8],
 ) -> io::Result<()> {
-    let names = form.names;
-    let answer = json_read::read(version, form.kind, names, form.extent, text, cells);
+    let answer = json_read::read(version, form.kind, form.names, form.extent, text, cells);
     show_answer(rt, answer, form.kind, cells)
 }
 
@@ -62,15 +60,12 @@ fn past_blank(line: &[u8], from: usize) -> usize
     requires { from ≤ length line.now }
     ensures { result ≤ length line.now }
 {
-    let mut i = from;
-    while i < line.len() {
-        let b = line[i];
-        i += 1;
-        if b == b' ' {
-            return i;
+    for i in from..line.len() {
+        if line[i] == b' ' {
+            return i + 1;
         }
     }
-    i
+    line.len()
 }
 
 // hear BYTES TEXT: the text, all that stands behind the second blank, read in the version told into the cells of the first array that
@@ -80,24 +75,23 @@ pub fn hear(
     version: u32,
     heads: &[u8],
     line: &[u8],
-    args: &[u64; ARGS],
+    words: &Words,
 ) -> io::Result<()> {
     let form = side_form(Version::Two, first(heads, WHOLE_HEAD));
     let at = past_blank(line, past_blank(line, 0));
     let mut cells = [UNTOUCHED; BUFFER];
-    let room = arg_length(args, 1, BUFFER);
+    let room = words.length(1, BUFFER);
     show_sent(rt, version, form, &line[at..], first_lent(&mut cells, room))
 }
 
 // keep ARRAY BYTES: an array of the bundle written as JSON, and the text read in the version told into an array of its type and extent.
-pub fn keep(rt: &impl Print, version: u32, bundle: &[u8], args: &[u64; ARGS]) -> io::Result<()> {
-    let k = arg32(args, 1);
+pub fn keep(rt: &impl Print, version: u32, bundle: &[u8], words: &Words) -> io::Result<()> {
+    let k = words.value32(1);
     let mut out = [0u8; TEXT];
     let n = number_of(rt, json_write::write(bundle, k, &mut out))?;
-    let chosen = choose(bundle, k);
-    let head = chosen.head;
+    let head = head_of(bundle, k);
     let mut cells = [UNTOUCHED; BUFFER];
-    let room = arg_length(args, 2, BUFFER);
+    let room = words.length(2, BUFFER);
     show_sent(
         rt,
         version,

@@ -118,8 +118,8 @@ fn axis_anew(how: Change, a: Axis, s: &[u8], at: usize) -> Axis
     ensures { result ≡ fresh how a (drop at s.now) }
 {
     match how {
-        Change::Limits => return limits_at(s, at),
-        Change::Moved => return moved_at(a, s, at),
+        Change::Limits => limits_at(s, at),
+        Change::Moved => moved_at(a, s, at),
     }
 }
 

@@ -45,8 +45,8 @@ pub fn name_at(v: Version, s: &[u8], at: usize) -> Name
     ensures { result ≡ name_from (part at (sizes_of v).name s.now) }
 {
     match v {
-        Version::One => return short_name(s, at),
-        Version::Two => return long_name(s, at),
+        Version::One => short_name(s, at),
+        Version::Two => long_name(s, at),
     }
 }
 

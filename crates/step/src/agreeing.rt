@@ -28,10 +28,10 @@ fn limits_in(c: Compared, j: usize) -> bool
     ensures { result ≡ limits_in c (index_in c j) }
 {
     match c {
-        Compared::Names => return false,
-        Compared::OtherNames(_) => return false,
-        Compared::Limits => return true,
-        Compared::OtherLimits(k) => return j + 1 != k.0 as usize,
+        Compared::Names => false,
+        Compared::OtherNames(_) => false,
+        Compared::Limits => true,
+        Compared::OtherLimits(k) => j + 1 != k.0 as usize,
     }
 }
 
@@ -41,15 +41,15 @@ fn index_in(c: Compared, j: usize) -> usize
     ensures { (result ≡ index_in c j) × (result ≤ most_axes + 1) }
 {
     match c {
-        Compared::Names => return j + 1,
+        Compared::Names => j + 1,
         Compared::OtherNames(k) => {
             if j + 1 < k.0 as usize {
                 return j + 1;
             }
-            return j + 2;
+            j + 2
         }
-        Compared::Limits => return j + 1,
-        Compared::OtherLimits(_) => return j + 1,
+        Compared::Limits => j + 1,
+        Compared::OtherLimits(_) => j + 1,
     }
 }
 
@@ -112,14 +112,14 @@ fn moves_differ(
     ensures { result ≡ agreed (Moves mv) k.0 m e n f }
 {
     match mv {
-        Move::Trim => return 0,
-        Move::Slice => return 0,
-        Move::Reshape => return 0,
-        Move::Shift => return 0,
-        Move::Rename => return 0,
-        Move::Update => return first_difference(Compared::Names, m, e, n, f),
-        Move::Put => return others_differ(m, e, n, f, k),
-        Move::Glue => return first_difference(Compared::OtherLimits(k), m, e, n, f),
+        Move::Trim => 0,
+        Move::Slice => 0,
+        Move::Reshape => 0,
+        Move::Shift => 0,
+        Move::Rename => 0,
+        Move::Update => first_difference(Compared::Names, m, e, n, f),
+        Move::Put => others_differ(m, e, n, f, k),
+        Move::Glue => first_difference(Compared::OtherLimits(k), m, e, n, f),
     }
 }
 
@@ -135,9 +135,9 @@ fn works_differ(
     ensures { result ≡ agreed (Works w) k.0 m e n f }
 {
     match w {
-        Work::Pair(_) => return first_difference(Compared::Limits, m, e, n, f),
-        Work::Scalar(_, _) => return 0,
-        Work::Single(_) => return 0,
+        Work::Pair(_) => first_difference(Compared::Limits, m, e, n, f),
+        Work::Scalar(_, _) => 0,
+        Work::Single(_) => 0,
     }
 }
 
@@ -154,7 +154,7 @@ pub fn difference(
     ensures { result ≡ agreed op k.0 m e n f }
 {
     match op {
-        Operation::Moves(mv) => return moves_differ(mv, k, m, e, n, f),
-        Operation::Works(w) => return works_differ(w, k, m, e, n, f),
+        Operation::Moves(mv) => moves_differ(mv, k, m, e, n, f),
+        Operation::Works(w) => works_differ(w, k, m, e, n, f),
     }
 }

@@ -51,9 +51,9 @@ fn takes_type(w: Work, step: StepHead, t: u8, s: &[u8]) -> bool
     ensures { result ≡ takes_type w (step_in s.now step) t }
 {
     match w {
-        Work::Pair(o) => return takes_pair(o, t),
-        Work::Scalar(_, o) => return scalar_fits(o, t, s, step.at),
-        Work::Single(o) => return takes_single(o, t),
+        Work::Pair(o) => takes_pair(o, t),
+        Work::Scalar(_, o) => scalar_fits(o, t, s, step.at),
+        Work::Single(o) => takes_single(o, t),
     }
 }
 
@@ -66,12 +66,12 @@ pub fn types_fit(step: StepHead, b: bool, t: u8, u: u8, s: &[u8]) -> bool
     let op = step.operation;
     let one = one_type(b, t, u);
     match op {
-        Operation::Moves(_) => return one,
+        Operation::Moves(_) => one,
         Operation::Works(w) => {
             if !one {
                 return false;
             }
-            return takes_type(w, step, t, s);
+            takes_type(w, step, t, s)
         }
     }
 }
@@ -114,14 +114,14 @@ fn move_fits(m: Move, step: StepHead, a: Form, b: Form, s: &[u8]) -> bool
     ensures { result ≡ fits_in (Moves m) (step_in s.now step) (shape_of a) (shape_of b) }
 {
     match m {
-        Move::Trim => return trim_fits(a.extent, s, step.at),
-        Move::Slice => return slice_fits(a.extent, AxisIndex(step.axis as u32), s, step.at),
-        Move::Reshape => return true,
-        Move::Shift => return true,
-        Move::Rename => return true,
-        Move::Update => return covers_all(a.extent, b.extent),
-        Move::Put => return put_fits(a.extent, b.extent, AxisIndex(step.axis as u32), s, step.at),
-        Move::Glue => return true,
+        Move::Trim => trim_fits(a.extent, s, step.at),
+        Move::Slice => slice_fits(a.extent, AxisIndex(step.axis as u32), s, step.at),
+        Move::Reshape => true,
+        Move::Shift => true,
+        Move::Rename => true,
+        Move::Update => covers_all(a.extent, b.extent),
+        Move::Put => put_fits(a.extent, b.extent, AxisIndex(step.axis as u32), s, step.at),
+        Move::Glue => true,
     }
 }
 
@@ -133,8 +133,8 @@ pub fn fits_in(step: StepHead, a: Form, b: Form, s: &[u8]) -> bool
 {
     let op = step.operation;
     match op {
-        Operation::Moves(m) => return move_fits(m, step, a, b, s),
-        Operation::Works(_) => return true,
+        Operation::Moves(m) => move_fits(m, step, a, b, s),
+        Operation::Works(_) => true,
     }
 }
 
@@ -145,11 +145,11 @@ pub fn result_kind(op: Operation, kind: u8) -> u8
     ensures { result ≡ result_type op kind }
 {
     match op {
-        Operation::Moves(_) => return kind,
+        Operation::Moves(_) => kind,
         Operation::Works(w) => match w {
-            Work::Pair(o) => return gives_pair(o, kind),
-            Work::Scalar(_, o) => return gives_pair(o, kind),
-            Work::Single(o) => return gives_single(o, kind),
+            Work::Pair(o) => gives_pair(o, kind),
+            Work::Scalar(_, o) => gives_pair(o, kind),
+            Work::Single(o) => gives_single(o, kind),
         },
     }
 }
@@ -163,14 +163,14 @@ fn moved_extent(m: Move, step: StepHead, e: Extent, f: Extent, s: &[u8]) -> Exte
     ensures { axes_of result ≡ result_axes (Moves m) (step_in s.now step) (axes_of e) (axes_of f) }
 {
     match m {
-        Move::Trim => return with_limits(e, s, step.at),
-        Move::Slice => return removed(e, AxisIndex(step.axis as u32)),
-        Move::Reshape => return with_limits(e, s, step.at),
-        Move::Shift => return shifted_by(e, s, step.at),
-        Move::Rename => return e,
-        Move::Update => return e,
-        Move::Put => return e,
-        Move::Glue => return glued_along(e, f, AxisIndex(step.axis as u32)),
+        Move::Trim => with_limits(e, s, step.at),
+        Move::Slice => removed(e, AxisIndex(step.axis as u32)),
+        Move::Reshape => with_limits(e, s, step.at),
+        Move::Shift => shifted_by(e, s, step.at),
+        Move::Rename => e,
+        Move::Update => e,
+        Move::Put => e,
+        Move::Glue => glued_along(e, f, AxisIndex(step.axis as u32)),
     }
 }
 
@@ -184,8 +184,8 @@ pub fn result_extent(step: StepHead, e: Extent, f: Extent, s: &[u8]) -> Extent
 {
     let op = step.operation;
     match op {
-        Operation::Moves(m) => return moved_extent(m, step, e, f, s),
-        Operation::Works(_) => return e,
+        Operation::Moves(m) => moved_extent(m, step, e, f, s),
+        Operation::Works(_) => e,
     }
 }
 
@@ -196,14 +196,14 @@ fn moved_names(mv: Move, step: StepHead, m: [Name; AXES], e: Extent, s: &[u8]) -
 {
     let v = step.version;
     match mv {
-        Move::Trim => return m,
-        Move::Slice => return without_name(m, rank_of(e), AxisIndex(step.axis as u32)),
-        Move::Reshape => return m,
-        Move::Shift => return m,
-        Move::Rename => return names_at(v, rank_of(e), s, step.at),
-        Move::Update => return m,
-        Move::Put => return m,
-        Move::Glue => return m,
+        Move::Trim => m,
+        Move::Slice => without_name(m, rank_of(e), AxisIndex(step.axis as u32)),
+        Move::Reshape => m,
+        Move::Shift => m,
+        Move::Rename => names_at(v, rank_of(e), s, step.at),
+        Move::Update => m,
+        Move::Put => m,
+        Move::Glue => m,
     }
 }
 
@@ -214,7 +214,7 @@ pub fn result_names(step: StepHead, m: [Name; AXES], e: Extent, s: &[u8]) -> [Na
 {
     let op = step.operation;
     match op {
-        Operation::Moves(mv) => return moved_names(mv, step, m, e, s),
-        Operation::Works(_) => return m,
+        Operation::Moves(mv) => moved_names(mv, step, m, e, s),
+        Operation::Works(_) => m,
     }
 }

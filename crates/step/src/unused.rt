@@ -43,14 +43,14 @@ fn moves_use(m: Move, name: usize, n: usize) -> Used
     ensures { result ≡ used_by (Moves m) name n }
 {
     match m {
-        Move::Trim => return used_as(false, false, false, PAIR_BYTES * n),
-        Move::Slice => return used_as(false, true, false, LIMIT_BYTES),
-        Move::Reshape => return used_as(false, false, false, PAIR_BYTES * n),
-        Move::Shift => return used_as(false, false, false, LIMIT_BYTES * n),
-        Move::Rename => return used_as(false, false, false, name * n),
-        Move::Update => return used_as(true, false, false, 0),
-        Move::Put => return used_as(true, true, false, LIMIT_BYTES),
-        Move::Glue => return used_as(true, true, false, 0),
+        Move::Trim => used_as(false, false, false, PAIR_BYTES * n),
+        Move::Slice => used_as(false, true, false, LIMIT_BYTES),
+        Move::Reshape => used_as(false, false, false, PAIR_BYTES * n),
+        Move::Shift => used_as(false, false, false, LIMIT_BYTES * n),
+        Move::Rename => used_as(false, false, false, name * n),
+        Move::Update => used_as(true, false, false, 0),
+        Move::Put => used_as(true, true, false, LIMIT_BYTES),
+        Move::Glue => used_as(true, true, false, 0),
     }
 }
 
@@ -59,9 +59,9 @@ fn works_use(w: Work) -> Used
     ensures { (m n : ℕ) → result ≡ used_by (Works w) m n }
 {
     match w {
-        Work::Pair(_) => return used_as(true, false, false, 1),
-        Work::Scalar(_, _) => return used_as(false, false, true, SCALAR_AT + WORD_BYTES),
-        Work::Single(_) => return used_as(false, false, false, 1),
+        Work::Pair(_) => used_as(true, false, false, 1),
+        Work::Scalar(_, _) => used_as(false, false, true, SCALAR_AT + WORD_BYTES),
+        Work::Single(_) => used_as(false, false, false, 1),
     }
 }
 
@@ -72,8 +72,8 @@ pub fn used_by(op: Operation, v: Version, n: usize) -> Used
 {
     let z = sizes(v);
     match op {
-        Operation::Moves(m) => return moves_use(m, z.name, n),
-        Operation::Works(w) => return works_use(w),
+        Operation::Moves(m) => moves_use(m, z.name, n),
+        Operation::Works(w) => works_use(w),
     }
 }
 

@@ -13,53 +13,39 @@ ghost use Rattle.stretch.specs.Turns.{turn_part, InBuffer};
 ghost use Rattle.stretch.specs.Plans.{StretchFound};
 ghost use Rattle.stretch.specs.Handed.{Handed};
 
-use extent::names::names_fit;
 use extent::{good_extent, rank_of};
+use form::form_cells;
 use origin::{Origin, block_of, in_turns};
 use paper::{
-    AXES, AxisIndex, CELL_BYTES, Extent, Move, Name, Operation, Ordinality, Part, Refusal, TYPES,
-    Version,
+    AXES, AxisIndex, CELL_BYTES, Extent, Move, Name, Operation, Ordinality, Part, Refusal, Version,
 };
-use refusals::{in_range, none, refuse, refuse_at};
+use refusals::{in_range, refuse, refuse_at};
 use shape::glued_along;
 use step::agreeing::difference;
-use versions::{sizes, version_told};
+use versions::version_told;
 
-// ---- tests, each group by its first refusal, or none
+// ---- tests, each group by its first refusal
 
 // A side: 1 for its type or axis count, 2 for a name that is too long or its extent, 1 for a buffer that has not 9 bytes a cell.
-fn side_refusal(
+fn side_judged(
     v: Version,
     kind: u8,
     names: [Name; AXES],
     e: Extent,
     bytes: usize,
     place: u32,
-) -> Refusal
+) -> Result<(), Refusal>
     ensures { SideJudged (sizes_of v) kind names e bytes place result }
 {
-    if !in_range(kind as usize, TYPES) {
-        return refuse(1, place);
-    }
-    let rank = rank_of(e);
-    if !in_range(rank, sizes(v).axes) {
-        return refuse(1, place);
-    }
-    if !names_fit(v, names, rank) {
-        return refuse(2, place);
-    }
-    let n = good_extent(names, e);
-    if n == 0 {
-        return refuse(2, place);
-    }
+    let n = form_cells(v, kind, names, e, place)?;
     if bytes != n * CELL_BYTES {
-        return refuse(1, place);
+        return Err(refuse(1, place));
     }
-    none()
+    Ok(())
 }
 
 // What gluing asks of two sides: 5, 7, 8, 9.
-fn glue_refusal(
+fn glue_judged(
     left_kind: u8,
     left_names: [Name; AXES],
     left: Extent,
@@ -67,26 +53,26 @@ fn glue_refusal(
     right_names: [Name; AXES],
     right: Extent,
     axis: AxisIndex,
-) -> Refusal
+) -> Result<(), Refusal>
     requires small { Small (axes_of left) }
     requires small_2 { Small (axes_of right) }
     ensures { GlueJudged left_kind left_names left right_kind right_names right axis.0 result }
 {
     if !in_range(axis.0 as usize, rank_of(left)) {
-        return refuse(5, 0);
+        return Err(refuse(5, 0));
     }
     if left_kind != right_kind {
-        return refuse(7, 0);
+        return Err(refuse(7, 0));
     }
     let glue = Operation::Moves(Move::Glue);
     let d = difference(glue, axis, left_names, left, right_names, right);
     if d != 0 {
-        return refuse_at(8, 0, d);
+        return Err(refuse_at(8, 0, d));
     }
-    if good_extent(left_names, glued_along(left, right, axis)) == 0 {
-        return refuse(9, 0);
+    if good_extent(left_names, glued_along(left, right, axis)).is_none() {
+        return Err(refuse(9, 0));
     }
-    none()
+    Ok(())
 }
 
 // ---- the stretch
@@ -130,15 +116,9 @@ pub fn plan_as(
     ensures { StretchFound (stretch_in (sizes_of v)) left_kind left_names left left_bytes
         right_kind right_names right right_bytes axis.0 o.0 result }
 {
-    let first = side_refusal(v, left_kind, left_names, left, left_bytes, 1);
-    if first.number != 0 {
-        return Err(first);
-    }
-    let second = side_refusal(v, right_kind, right_names, right, right_bytes, 2);
-    if second.number != 0 {
-        return Err(second);
-    }
-    let both = glue_refusal(
+    side_judged(v, left_kind, left_names, left, left_bytes, 1)?;
+    side_judged(v, right_kind, right_names, right, right_bytes, 2)?;
+    glue_judged(
         left_kind,
         left_names,
         left,
@@ -146,10 +126,7 @@ pub fn plan_as(
         right_names,
         right,
         axis,
-    );
-    if both.number != 0 {
-        return Err(both);
-    }
+    )?;
     if !in_range(o.0 as usize, (left_bytes + right_bytes) / CELL_BYTES) {
         return Err(refuse(6, 0));
     }

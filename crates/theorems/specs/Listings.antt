@@ -5,7 +5,6 @@ use Prim.Native.Nat.{ℕ, zero, suc, ◌+◌, ◌*◌}
 use Rattle.std.specs.Prelude.{eqb, take, if◌then◌else◌, Option, None, Some, Ok, Err}
 use Rattle.std.specs.Option.{option_map}
 use mathlib.Core.List.{List, ◌++◌}
-use Rattle.std.proofs.Math.Option
 use Rattle.paper.specs.declared.Listed.{Listed}
 use Rattle.paper.specs.Refusals.{Res}
 use Rattle.paper.specs.Axes.{cells, Shape, Array, at}

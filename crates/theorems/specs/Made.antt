@@ -33,7 +33,7 @@ use Rattle.run.proofs.Promised.{page-promised}
 pub record ReadCall : Type 0 where
   pub lifetimes : Lfts 1
   pub passed : Dens lifetimes ReadKinds.ps
-  pub answer : Reading
+  pub answer : Res Reading
   pub left : AtExit (ended_of 1 ReadKinds.ps ReadKinds.r) lifetimes
   pub promised : ReadReads.Learnt lifetimes passed answer left
 

@@ -16,7 +16,7 @@ use Rattle.paper.specs.Axes.{Shape, Array}
 use Rattle.paper.specs.Bundle.{mark_bytes, version_told, version_in, sizes_in, read_bundle, bundle_bytes, After, pack}
 use Rattle.paper.specs.Answers.{shape_of, lying_from, reading}
 use Rattle.laws.specs.Lists.{map-take}
-use Rattle.laws.specs.Answers.{unless-got, form_of, form-shape, reading_of}
+use Rattle.laws.specs.Answers.{form_of, form-shape, reading_of}
 use Rattle.laws.specs.Numbers.{Bytes}
 use Rattle.laws.specs.Sizes.{fits}
 use Rattle.laws.specs.Tests.{between-true, got-one}
@@ -73,11 +73,11 @@ forms-shapes w As v =
     ∙ ap (map shape_of) (take_at (form_of_each As) rest (length As) n) ∙ its-forms w As v
 
 -- what reading answers, where the bytes are a bundle's of that version
-pub record ReadBack (v : Version) (bs : List ℕ) (As : List Array) (r : Reading) : Type 0 where
+pub record ReadBack (v : Version) (bs : List ℕ) (As : List Array) (r : Res Reading) : Type 0 where
   pub arrays : read_of bs r ≡ Ok As
   pub figures : r ≡ reading_of v (Ok (lying_from (sizes_of v) (mark_bytes + 1) As))
 
-read_back : (v : Version) (bs : List ℕ) (As : List Array) (r : Reading) → version_in bs ≡ v → ReadAll bs r → read_bundle bs ≡ Ok As
+read_back : (v : Version) (bs : List ℕ) (As : List Array) (r : Res Reading) → version_in bs ≡ v → ReadAll bs r → read_bundle bs ≡ Ok As
     → ReadBack v bs As r
 unfolding reading
 read_back v bs As r i h e =
@@ -127,18 +127,17 @@ lying-held bs (h ∷ hs) (A ∷ As) v =
 -- `read` called with bytes that it does not refuse, and `pack` with the version and what else the reading holds and room for it: those
 -- bytes again
 pub read-then-packed : (bs out : List ℕ) → Bytes bs → length bs ≤ length out → (c : ReadCall) → c.passed.0.now ≡ bs
-    → let r : Reading = c.answer in
-    r.refusal.number ≡ 0 → (p : PackCall) → Packs (sizes_of r.version).version r.count (forms_in r) (cells_held bs r) out p
+    → (r : Reading) → c.answer ≡ Ok r
+    → (p : PackCall) → Packs (sizes_of r.version).version r.count (forms_in r) (cells_held bs r) out p
     → Gave bs out p.answer (packed_out p)
-read-then-packed bs out h l c is z p k =
-    let r = c.answer in
-    let v = reads c is in
+read-then-packed bs out h l c is r a p k =
+    let v : ReadAll bs (Ok r) = rw a at (reads c is) in
     let hs = take r.count r.heads in
-    let w = reading-lies bs (map head_said hs) h (sym v.said ∙ unless-got r.refusal _ z) in
+    let w = reading-lies bs (map head_said hs) h (sym v.said) in
     let q = lying-held bs hs w.0 w.2 in
-    let f = shapes-few r.count (forms_in r) (omega (arith, length-map r.heads (λ (h : Head). h.form), v.room)) in
+    let f = shapes-few r.count (forms_in r) (omega (arith, length-map r.heads (λ (h : Head). h.form), v.kept.room)) in
     let e : shapes_of r.count (forms_in r) ≡ shapes w.0 = f ∙ (rw (← map-take (λ h. h.form) r.count r.heads) q.0) in
-    gave-by _ _ _ bs out p.answer (packed_out p) (packs p k) (rw (v.version z, e, q.1) (read-pack bs w.0 out h w.1 l))
+    gave-by _ _ _ bs out p.answer (packed_out p) (packs p k) (rw (v.kept.version, e, q.1) (read-pack bs w.0 out h w.1 l))
 
 -- ---- accepted, then read
 

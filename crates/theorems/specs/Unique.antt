@@ -8,7 +8,6 @@ use Rattle.paper.specs.declared.Cell.{Cell}
 use Rattle.std.proofs.Common.{sym, ap, ◌∙◌, ne_eqb}
 use Rattle.paper.specs.declared.Version.{Version}
 use Rattle.paper.specs.declared.Extent.{Extent}
-use Rattle.paper.specs.declared.Refusal.{Refusal}
 use Rattle.paper.specs.declared.Reading.{Reading}
 use Rattle.paper.specs.declared.JsonRefusal.{JsonRefusal}
 use Rattle.paper.specs.declared.Walk.{Walk}
@@ -75,6 +74,6 @@ pub extent-one : (e f : Extent) → TidyExtent e → TidyExtent f → axes_of e 
 extent-one e f h k q = h ∙ ap extent_of q ∙ sym k
 
 -- so a reading with nothing past the last is fixed by its version and its figures
-pub reading-one : (v : Version) (r s : Reading) → r ≡ reading_of v (read_said r) → s ≡ reading_of v (read_said s) → read_said r ≡ read_said s
+pub reading-one : (v : Version) (r s : Res Reading) → r ≡ reading_of v (read_said r) → s ≡ reading_of v (read_said s) → read_said r ≡ read_said s
     → r ≡ s
 reading-one v r s h k q = h ∙ ap (reading_of v) q ∙ sym k

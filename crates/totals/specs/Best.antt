@@ -1,11 +1,13 @@
 -- The best of the filled cells, the first of equals: the best so far, empty where nothing was filled, and the cells left.
-use Rattle.std.specs.Prelude.{ℕ, ◌+◌, ◌<◌, ◌≡◌, refl, Bool, List, [], if◌then◌else◌}
+use Rattle.std.specs.Prelude.{ℕ, ◌+◌, ◌≡◌, refl, Bool, List, [], ◌∷◌, if◌then◌else◌}
+use Rattle.std.specs.List.{FoldsTo}
+use Rattle.std.proofs.Common.{◌∙◌}
 use Rattle.std.proofs.Math.Bool.{true, false}
 use Rattle.paper.specs.declared.Cell.{Cell}
 use Rattle.paper.specs.declared.Cell.TheVariants.{Empty, Int, Float, Truth}
 use Rattle.paper.specs.Operators.{empty_cell}
-use Rattle.paper.specs.Totals.{Numbered, below, best, best_of}
-use Rattle.totals.specs.Cells.{one_at, in_front, filled_left, filled_next}
+use Rattle.paper.specs.Totals.{Numbered, filled_from, below, best, best_of}
+use Rattle.totals.specs.Cells.{in_front}
 
 -- smaller, or larger where the largest is asked for
 abbrev pub beats_of : Bool → Cell → Cell → Bool
@@ -23,7 +25,7 @@ pub best-start : (largest : Bool) (cs : List Numbered) → best_on largest Empty
 unfolding best_on
 best-start largest cs = refl
 
-pub best-end : (largest : Bool) (b : Cell) → best_on largest b [] ≡ b
+best-end : (largest : Bool) (b : Cell) → best_on largest b [] ≡ b
 unfolding best_on best_of best
 best-end largest Empty = refl
 best-end largest (Int z) = refl
@@ -44,8 +46,11 @@ module _ (largest : Bool) (c b : Cell) (o : ℕ) (cs : List Numbered) where
   turned false true p q = rw (p, q, p)
   turned false false p q = rw (p, q) (either p q (beats_of largest c b))
 
--- one cell more
-pub best-next : (bs : List ℕ) (at t n i : ℕ) → i < n → (largest : Bool) (b : Cell)
-    → best_on largest b (filled_left bs at t n i) ≡ best_on largest (better_of largest (one_at bs at t i) b) (filled_left bs at t n (i + 1))
-best-next bs at t n i h largest b =
-    rw (filled_next bs at t n i h) (turned largest (one_at bs at t i) b (i + 1) (filled_left bs at t n (i + 1)) _ _ refl refl)
+-- going over the cells, each in its turn
+pub best-folds : (largest : Bool) (o : ℕ) (cs : List Cell) (b r : Cell) → FoldsTo (λ b c r. r ≡ better_of largest c b) b cs r
+    → best_on largest b (filled_from o cs) ≡ r
+unfolding filled_from
+best-folds largest o [] b r f = best-end largest b ∙ f
+best-folds largest o (c ∷ cs) b r f =
+    turned largest c b o (filled_from (o + 1) cs) _ _ refl refl
+    ∙ rw (← f.1) (best-folds largest (o + 1) cs f.0 r f.2)

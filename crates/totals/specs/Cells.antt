@@ -92,7 +92,7 @@ module _ (bs : List ℕ) (at t n : ℕ) where
     counted_next v = ap (counted v) cell-next
 
   module _ (i : ℕ) (h : n ≤ i) where
-    none_left : drop i cs ≡ []
+    pub none_left : drop i cs ≡ []
     none_left = drop_of_length-le cs {i = i} (omega (arith, length-cells t n (drop at bs)))
 
     pub filled_none : filled_left i ≡ []

@@ -1,7 +1,9 @@
 -- The running sums: what one cell more does to the exact total and to the mean, whether it is filled or not, and the sum of all cells.
-use Rattle.std.specs.Prelude.{ℕ, ◌+◌, ◌≤◌, ◌<◌, ◌≡◌, refl, Bool, true, false, List, [], ◌∷◌, ◌++◌, length, if◌then◌else◌, Ok, Err, Some, None, Option}
-use Rattle.std.proofs.Common.{sym, ◌∙◌, append-nil, append_assoc, arith, length-append}
+use Rattle.std.specs.Prelude.{ℕ, ◌+◌, ◌≤◌, ◌<◌, ◌≡◌, refl, Bool, true, false, List, [], ◌∷◌, ◌++◌, length, if◌then◌else◌, Result, Ok, Err, Some, None, Option}
+use Rattle.std.specs.List.{FoldsTo}
+use Rattle.std.proofs.Common.{subst, sym, ◌∙◌, append-nil, append_assoc, arith, length-append}
 use Rattle.std.proofs.Math.Path.{ap}
+use Rattle.std.specs.Option.{ok_or}
 use Rattle.std.specs.Float.Ieee as Ieee
 use Rattle.paper.specs.declared.Cell.{Cell}
 use Rattle.paper.specs.declared.Cell.TheVariants.{Empty}
@@ -14,24 +16,13 @@ use Rattle.paper.specs.Totals.{Numbered, Running, int, float, filled_from, float
 use Rattle.cell.specs.declared.sums.Exact.{Exact}
 use Rattle.cell.specs.declared.means.Mean.{Mean}
 use Rattle.cell.specs.Totals.{Sums, onward, after, counted}
-use Rattle.totals.specs.declared.Ran.{Ran}
 use Rattle.totals.specs.Cells.{cells_at, in_front}
 
--- ---- the exact total: the cells gone in, and those left, are the filled ones
-
--- t holds some cells, which with those left are all
-pub record Gone (t : Exact) (all left : List Numbered) (i : ℕ) : Type 0 where
-  pub gone : List Numbered
-  pub sums : Sums t gone
-  pub whole : gone ++ left ≡ all
-  pub few : length gone ≤ i
+-- ---- the exact total: the filled ones of the cells gone in
 
 -- one cell more, filled or not
 abbrev pub ExactNext : Exact → Cell → Exact → Type 0
 ExactNext t c r = (cs : List Numbered) (o : ℕ) → Sums t cs → length cs < most_cells → Sums r (cs ++ in_front c o [])
-
-pub gone-start : (t : Exact) (all : List Numbered) → Sums t [] → Gone t all all 0
-gone-start t all s = record { gone = []; sums = s; whole = refl; few = omega arith }
 
 front-append : (b : Bool) (d : Numbered) (later : List Numbered) → (if b then [] else d ∷ []) ++ later ≡ (if b then later else d ∷ later)
 front-append true d later = refl
@@ -41,18 +32,16 @@ front-one : (b : Bool) (d : Numbered) → length (if b then [] else d ∷ []) �
 front-one true d = omega arith
 front-one false d = omega arith
 
-pub gone-next : {t r : Exact} {all left : List Numbered} {i : ℕ} (c : Cell) (later : List Numbered) → Gone t all left i → i < most_cells
-    → left ≡ in_front c (i + 1) later → ExactNext t c r → Gone r all later (i + 1)
-gone-next {i = i} c later v h e x =
-    record {
-      gone = v.gone ++ in_front c (i + 1) [];
-      sums = x v.gone (i + 1) v.sums (omega (arith, v.few));
-      whole = rw (append_assoc, front-append (empty_cell c) _ later, ← e) v.whole;
-      few = simp length-append (omega (arith, v.few, front-one (empty_cell c) (record { at = i + 1; cell = c })));
-    }
-
-pub gone-end : {t : Exact} {all left : List Numbered} {i : ℕ} → Gone t all left i → left ≡ [] → Sums t all
-gone-end v e = rw (← v.whole, e, append-nil) v.sums
+-- t holds some cells; with these after them it holds all
+pub exact-folds : (cs : List Cell) (o : ℕ) (gone : List Numbered) (t r : Exact) → FoldsTo ExactNext t cs r → Sums t gone
+    → length gone + length cs ≤ most_cells → Sums r (gone ++ filled_from o cs)
+unfolding filled_from
+exact-folds [] o gone t r f s h = rw append-nil (subst (λ (x : Exact). Sums x gone) f s)
+exact-folds (c ∷ cs) o gone t r f s h =
+    let one = in_front c o [] in
+    let few : length (gone ++ one) + length cs ≤ most_cells =
+    omega (arith, length-append gone one, front-one (empty_cell c) (record { at = o; cell = c })) in
+    rw (append_assoc, front-append (empty_cell c)) at (exact-folds cs (o + 1) (gone ++ one) f.0 r f.2 (f.1 gone o s (omega arith)) few)
 
 -- an empty cell adds nothing; a filled one its number
 pub exact-empty : (t : Exact) → ExactNext t Empty t
@@ -85,26 +74,37 @@ pub record Going (m : Mean) (all left : List Numbered) (i : ℕ) : Type 0 where
   pub same : (made : Running → Ieee.Float) (k : ℕ) → onward made k m left ≡ float_sum made k all
   pub few : m.count ≤ i
 
--- the sum of all cells: the mean that stands for it, or the cell whose addition fails
-pub record Summed (bs : List ℕ) (at t n : ℕ) (r : Ran) : Type 0 where
-  pub done : r.bad ≡ 0 → (made : Running → Ieee.Float) (k : ℕ)
-      → onward made k r.mean [] ≡ float_sum made k (filled_from 1 (cells_at bs at t n))
-  pub fails : (r.bad ≡ 0 → ⊥) → (made : Running → Ieee.Float) (k : ℕ)
-      → Err (refusal no_fit12 k r.bad) ≡ float_sum made k (filled_from 1 (cells_at bs at t n))
-  pub few : r.bad ≤ n
+-- the sum of all cells: the mean that stands for it, or the ordinality of the cell whose addition fails
+abbrev pub Summed : List ℕ → ℕ → ℕ → ℕ → Result Mean ℕ → Type 0
+Summed bs at t n (Ok m) =
+    (made : Running → Ieee.Float) (k : ℕ) → onward made k m [] ≡ float_sum made k (filled_from 1 (cells_at bs at t n))
+Summed bs at t n (Err o) =
+    ((made : Running → Ieee.Float) (k : ℕ) → Err (refusal no_fit12 k o) ≡ float_sum made k (filled_from 1 (cells_at bs at t n))) × (o ≤ n)
+
+-- an option or an error: the value or the error
+some-of : {A E : Type 0} (r : Option A) (e : E) {a : A} → Ok a ≡ ok_or r e → r ≡ Some a
+some-of (Some b) e q = cc
+some-of None e q = cc
+
+none-of : {A E : Type 0} (r : Option A) (e : E) {o : E} → Err o ≡ ok_or r e → (r ≡ None) × (o ≡ e)
+none-of (Some b) e q = cc
+none-of None e q = (refl, cc)
 
 module _ {m : Mean} {all left : List Numbered} (later : List Numbered) {i : ℕ} {c : Cell} {r : Option Mean} (v : Going m all left i)
     (h : i < most_cells) (e : left ≡ in_front c (i + 1) later) (x : MeanNext m c r) where
   after-all : (made : Running → Ieee.Float) (k : ℕ) → after made k (i + 1) r later ≡ float_sum made k all
   after-all made k = sym (x.goes made k (i + 1) later (omega (arith, v.few))) ∙ (rw e at (v.same made k))
 
-  pub going_next : {w : Mean} → r ≡ Some w → Going w all later (i + 1)
+  -- with its sum, or with the cell's ordinality where the addition fails
+  pub going_next : {w : Mean} → Ok w ≡ ok_or r (i + 1) → Going w all later (i + 1)
   unfolding after
-  going_next q = record { same = λ made k. rw q at (after-all made k); few = omega (arith, v.few, x.few, ap counted q) }
+  going_next q =
+      let p = some-of r _ q in record { same = λ made k. rw p at (after-all made k); few = omega (arith, v.few, x.few, ap counted p) }
 
-  pub going-fails : r ≡ None → (made : Running → Ieee.Float) (k : ℕ) → Err (refusal no_fit12 k (i + 1)) ≡ float_sum made k all
+  pub going-fails : {o : ℕ} → Err o ≡ ok_or r (i + 1)
+      → ((made : Running → Ieee.Float) (k : ℕ) → Err (refusal no_fit12 k o) ≡ float_sum made k all) × (o ≡ i + 1)
   unfolding after
-  going-fails q made k = rw q at (after-all made k)
+  going-fails q = let p = none-of r _ q in (λ made k. rw p.1 (rw p.0 at (after-all made k)), p.1)
 
 -- ---- the answers
 

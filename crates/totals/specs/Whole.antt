@@ -1,31 +1,32 @@
 -- A total of an array of a bundle, by the ways its judging can end.
 use Rattle.std.specs.Prelude.{ℕ, ◌≡◌, true, false, List, Err}
 use Rattle.std.proofs.Common.{arith}
+use Rattle.paper.specs.declared.Head.{Head}
+use Rattle.paper.specs.declared.Refusal.{Refusal}
 use Rattle.paper.specs.declared.Total.{Total}
 use Rattle.paper.specs.Refusals.{refusal, unfit7}
+use Rattle.paper.specs.Reference.{chosen}
 use Rattle.paper.specs.Totals.{totals?, total_of, totals}
 use Rattle.bundle.specs.Read.{array_at}
-use Rattle.refer.specs.declared.Chosen.{Chosen}
-use Rattle.refer.specs.Chosen.{ChosenHead, its-refusal, its-array}
+use Rattle.refer.specs.Chosen.{ItsHead}
 use Rattle.totals.specs.Cells.{Lying, cells_at}
 
-module _ {bs : List ℕ} {k : ℕ} {c : Chosen} (v : ChosenHead bs k c) (which : Total) where
-  -- the array's own refusal
-  pub total-refused : (c.refusal.number ≡ 0 → ⊥) → Err c.refusal ≡ totals bs k which
-  unfolding totals
-  total-refused n = rw (← its-refusal v n)
+-- the array's own refusal
+pub total-refused : (bs : List ℕ) (k : ℕ) (which : Total) {x : Refusal} → Err x ≡ chosen bs k → Err x ≡ totals bs k which
+unfolding totals
+total-refused bs k which e = rw (← e)
 
-  module _ (y : c.refusal.number ≡ 0) where
-    -- a total that its type has not
-    pub total-unfit : totals? which c.head.form.kind ≡ false → Err (refusal unfit7 k 0) ≡ totals bs k which
-    unfolding totals array_at
-    total-unfit e = rw (← its-array v y, e)
+module _ {bs : List ℕ} {k : ℕ} {h : Head} (v : ItsHead bs k h) (which : Total) where
+  -- a total that its type has not
+  pub total-unfit : totals? which h.form.kind ≡ false → Err (refusal unfit7 k 0) ≡ totals bs k which
+  unfolding totals array_at
+  total-unfit e = rw (← v.said, e)
 
-    -- its cells, as many as its extent has
-    pub lying : Lying c.head.at c.head.cells bs
-    lying = record { few = (v.fit y).few; room = omega (arith, (v.fit y).counted, (v.fit y).fits) }
+  -- its cells, as many as its extent has
+  pub lying : Lying h.at h.cells bs
+  lying = let f = v.fit in record { few = f.few; room = omega (arith, f.counted, f.fits) }
 
-    pub total-is : totals? which c.head.form.kind ≡ true
-        → total_of which k c.head.form.kind (cells_at bs c.head.at c.head.form.kind c.head.cells) ≡ totals bs k which
-    unfolding totals array_at
-    total-is e = rw ((v.fit y).counted, ← its-array v y, e)
+  pub total-is : totals? which h.form.kind ≡ true
+      → total_of which k h.form.kind (cells_at bs h.at h.form.kind h.cells) ≡ totals bs k which
+  unfolding totals array_at
+  total-is e = rw (v.fit.counted, ← v.said, e)

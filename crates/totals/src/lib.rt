@@ -4,6 +4,7 @@
 
 ghost use Rattle.std.specs.Prelude.{◌≡◌, ℕ};
 ghost use Rattle.std.specs.Float.{nan};
+ghost use Rattle.std.specs.List.{FoldsTo};
 ghost use Rattle.paper.specs.Operators.{answered};
 ghost use Rattle.paper.specs.Totals.{filled_from, below, best_of, int_sum, float_sum, totals?, total_of, totals};
 ghost use Rattle.totals.specs.Cells.{Lying, cells_at, tally_of, tally_true, counted};
@@ -17,6 +18,28 @@ use operators::operators::lt;
 use paper::{BOOLEAN, Cell, FLOAT, Fault, INT, Refusal, Total, Totalled};
 use refer::{choose, held_cell};
 use refusals::{refuse, refuse_at, refuse_fault};
+
+// ---- the cells one after the other
+
+// What comes of going over the cells: `next` makes each value from the one before and a cell.
+fn over_cells<T, F: Fn(T, Cell) -> T>(
+    s: &[u8],
+    at: usize,
+    kind: u8,
+    n: usize,
+    first: T,
+    next: F,
+) -> T
+    requires lying { Lying at n s.now }
+    requires called { F.IsAlwaysCallable next }
+    ensures { FoldsTo (λ t c r. F.post next t c r) first (cells_at s.now at kind n) result }
+{
+    let mut t = first;
+    for i in 0..n {
+        t = next(t, held_cell(s, at, kind, i));
+    }
+    t
+}
 
 // ---- counts
 
@@ -49,11 +72,8 @@ fn count_cells(s: &[u8], at: usize, kind: u8, n: usize, trues: bool) -> u32
     ensures { result ≡ counted trues (cells_at s.now at kind n) }
 {
     let mut count: u32 = 0;
-    let mut i: usize = 0;
-    while i < n {
-        let c = held_cell(s, at, kind, i);
-        count += tally(trues, c);
-        i += 1;
+    for i in 0..n {
+        count += tally(trues, held_cell(s, at, kind, i));
     }
     count
 }
@@ -102,14 +122,7 @@ fn best_cell(s: &[u8], at: usize, kind: u8, n: usize, largest: bool) -> Cell
     requires { Lying at n s.now }
     ensures { result ≡ best_of (beats_of largest) (filled_from 1 (cells_at s.now at kind n)) }
 {
-    let mut b = Cell::Empty;
-    let mut i: usize = 0;
-    while i < n {
-        let c = held_cell(s, at, kind, i);
-        b = better(largest, c, b);
-        i += 1;
-    }
-    b
+    over_cells(s, at, kind, n, Cell::Empty, |b, c| better(largest, c, b))
 }
 
 // ---- INT sum
@@ -131,14 +144,7 @@ fn int_sum(s: &[u8], at: usize, kind: u8, n: usize) -> Result<Cell, Fault>
     requires { Lying at n s.now }
     ensures { (k : ℕ) → answered k 0 result ≡ int_sum k (filled_from 1 (cells_at s.now at kind n)) }
 {
-    let mut t = exact_none();
-    let mut i: usize = 0;
-    while i < n {
-        let c = held_cell(s, at, kind, i);
-        t = exact_next(t, c);
-        i += 1;
-    }
-    exact_answer(t)
+    exact_answer(over_cells(s, at, kind, n, exact_none(), exact_next))
 }
 
 // ---- FLOAT sum and average
@@ -162,29 +168,16 @@ fn mean_next(m: Mean, c: Cell) -> Option<Mean>
     }
 }
 
-// The running sum of all filled cells, or the ordinality of the cell whose addition fails (0: none).
-#[derive(Clone, Copy)]
-struct Ran {
-    mean: Mean,
-    bad: usize,
-}
-
-fn float_run(s: &[u8], at: usize, kind: u8, n: usize) -> Ran
+// The running sum of all filled cells, or the ordinality of the cell whose addition fails.
+fn float_run(s: &[u8], at: usize, kind: u8, n: usize) -> Result<Mean, usize>
     requires { Lying at n s.now }
     ensures { Summed s.now at kind n result }
 {
     let mut mean = mean_none();
-    let mut i: usize = 0;
-    while i < n {
-        let c = held_cell(s, at, kind, i);
-        let added = mean_next(mean, c);
-        let Some(next) = added else {
-            return Ran { mean, bad: i + 1 };
-        };
-        mean = next;
-        i += 1;
+    for i in 0..n {
+        mean = mean_next(mean, held_cell(s, at, kind, i)).ok_or(i + 1)?;
     }
-    Ran { mean, bad: 0 }
+    Ok(mean)
 }
 
 // ---- the totals
@@ -213,14 +206,15 @@ fn float_total(
     requires { Lying at n s.now }
     ensures { result ≡ as_total (float_sum (made_of mean) k (filled_from 1 (cells_at s.now at kind n))) }
 {
-    let ran = float_run(s, at, kind, n);
-    if ran.bad != 0 {
-        return Err(refuse_at(12, k, ran.bad as u32));
+    match float_run(s, at, kind, n) {
+        Ok(run) => {
+            if mean {
+                return Ok(Totalled::Is(mean_average(run)));
+            }
+            Ok(Totalled::Is(mean_sum(run)))
+        }
+        Err(o) => Err(refuse_at(12, k, o as u32)),
     }
-    if mean {
-        return Ok(Totalled::Is(mean_average(ran.mean)));
-    }
-    Ok(Totalled::Is(mean_sum(ran.mean)))
 }
 
 // A total is to be had of a type.
@@ -269,20 +263,10 @@ fn total_of(
 pub fn total(s: &[u8], k: u32, which: Total) -> Result<Totalled, Refusal>
     ensures { result ≡ totals s.now k which }
 {
-    let array = choose(s, k);
-    let refusal = array.refusal;
-    if refusal.number != 0 {
-        return Err(refusal);
-    }
-    if !has_total(which, array.head.form.kind) {
+    let head = choose(s, k)?;
+    let kind = head.form.kind;
+    if !has_total(which, kind) {
         return Err(refuse(7, k));
     }
-    total_of(
-        s,
-        array.head.at,
-        array.head.form.kind,
-        array.head.cells,
-        k,
-        which,
-    )
+    total_of(s, head.at, kind, head.cells, k, which)
 }

@@ -4,7 +4,6 @@ use Rattle.std.specs.Prelude.{◌≡◌, ℕ, zero, suc, ◌+◌, ◌-◌, ◌*�
 use Rattle.std.specs.Option.{option_map}
 use Rattle.std.proofs.Math.Path.{refl, sym, ap}
 use Rattle.std.proofs.Common.{◌∙◌, arith, length-take, length-drop, get_or-take, take-take, length-take-le}
-use Rattle.std.proofs.Math.Option
 use borrow.Author.Tests.{eqb-true}
 use Rattle.std.proofs.Math.ListN.{length-map}
 use Rattle.paper.specs.declared.Head.{Head}

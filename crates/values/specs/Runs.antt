@@ -1,9 +1,9 @@
 -- What the functions of the values ask and promise: the cells of a step begun, and the steps run. Then a turn of the loop over cells:
 -- what its calls ask, and what it leaves.
-use Rattle.std.specs.Prelude.{◌≡◌, ℕ, zero, suc, ◌+◌, ◌*◌, ◌<◌, ◌≤◌, List, [], ◌++◌, length, take, drop, ◌≢◌, Err, Ok}
+use Rattle.std.specs.Prelude.{◌≡◌, ℕ, zero, suc, ◌+◌, ◌*◌, ◌<◌, ◌≤◌, List, ◌++◌, length, take, drop, Err, Ok}
 use Rattle.paper.specs.Operators.{Answer}
 use Rattle.std.proofs.Math.Path.{refl, ap}
-use Rattle.std.proofs.Common.{sym, ◌∙◌, inl, inr, arith}
+use Rattle.std.proofs.Common.{sym, ◌∙◌, arith}
 use Rattle.std.proofs.Math.Numerals.{add-one}
 use Rattle.paper.specs.declared.Cell.{Cell}
 use Rattle.paper.specs.declared.Move.{Move}
@@ -12,14 +12,13 @@ use Rattle.paper.specs.declared.Operation.TheVariants.{Moves, Works}
 use Rattle.paper.specs.declared.Refusal.{Refusal}
 use Rattle.paper.specs.Limits.{cell_bytes, word_bytes, scalar_at, most_cells}
 use Rattle.paper.specs.declared.Fault.{Fault}
-use Rattle.paper.specs.Refusals.{refusal, fault_no}
+use Rattle.paper.specs.Refusals.{Res, refusal, fault_no}
 use Rattle.paper.specs.Numbers.{le_of, part}
 use Rattle.paper.specs.Axes.{cells, Array}
 use Rattle.paper.specs.Cells.{encode}
 use Rattle.paper.specs.Recipe.{Step, Planned, scalar_of}
 use Rattle.paper.specs.Values.{operand_array, values}
 use Rattle.paper.specs.Listing.{result_bytes, bytes_of_all}
-use Rattle.laws.specs.Late.{Either, values-late}
 use Rattle.laws.specs.Sizes.{fits}
 use Rattle.step.specs.Steps.{scalar-there}
 use Rattle.quick.specs.declared.operands.Pairing.{Pairing}
@@ -80,15 +79,16 @@ pub record Results (B bs : List ℕ) (P : Plan) (W after : List ℕ) : Type 0 wh
   pub steps : StepsDone (arrays_at B P) (steps_of bs P) W turn after
   pub all : length (steps_of bs P) ≤ turn
 
--- or the refusal, with the bytes past all results untouched
+-- stopped by a refusal: the bytes past all results are untouched
 pub record Stopped (B bs : List ℕ) (P : Plan) (W : List ℕ) (r : Refusal) (after : List ℕ) : Type 0 where
   pub is : values (arrays_at B P) (steps_of bs P) ≡ Err r
   pub long : length after ≡ length W
   pub rest : drop (bytes_of_all (steps_of bs P)) after ≡ drop (bytes_of_all (steps_of bs P)) W
 
-pub record Valued (B bs : List ℕ) (P : Plan) (W : List ℕ) (r : Refusal) (after : List ℕ) : Type 0 where
-  pub done : r.number ≡ 0 → Results B bs P W after
-  pub stopped : (r.number ≢ 0) → Stopped B bs P W r after
+-- the results, or the refusal
+abbrev pub Valued : List ℕ → List ℕ → Plan → List ℕ → Res (Unit {0}) → List ℕ → Type 0
+Valued B bs P W (Ok u) after = Results B bs P W after
+Valued B bs P W (Err x) after = Stopped B bs P W x after
 
 -- ---- a turn of the loop over cells
 
@@ -185,11 +185,3 @@ started w e q z r after h = record {
   filled = λ a. fills a w e q z r.count after h.1.most h.1.worked;
   works = λ l. (w, e, h.0 ∙ z);
 }
-
--- a refusal of a cell has a number
-pub late : (As : List Array) (ps : List Planned) (x : Refusal) → Err x ≡ values As ps → x.number ≢ 0
-late As ps x e = by (values-late ps 1 As [] x (sym e))
-  where
-    by : Either x.number → x.number ≢ 0
-    by (inl a) e = omega arith
-    by (inr b) e = omega arith

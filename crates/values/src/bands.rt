@@ -20,18 +20,16 @@ fn lay_lines(bundle: &[u8], work: &mut [u8], at: usize, a: Source, b: Source, ba
     let one = first.length * CELL_BYTES;
     let two = one + second.length * CELL_BYTES;
     let line = two + third.length * CELL_BYTES;
-    let mut r: usize = 0;
     let mut place = at;
     let mut x: usize = 0;
     let mut y: usize = 0;
-    while r < lines {
+    for _r in 0..lines {
         lay_cells(bundle, work, place, a, b, first, x, y, false);
         lay_run(bundle, work, place + one, a, b, second, x, y);
         lay_run(bundle, work, place + two, a, b, third, x, y);
         place += line;
-        x = std::num::wrapping_add_usize(x, band.a);
-        y = std::num::wrapping_add_usize(y, band.b);
-        r += 1;
+        x = x.wrapping_add(band.a);
+        y = y.wrapping_add(band.b);
     }
 }
 
@@ -44,16 +42,14 @@ fn lay_one_run(bundle: &[u8], work: &mut [u8], at: usize, a: Source, b: Source, 
     let lines = band.lines;
     let run = band.first;
     let line = run.length * CELL_BYTES;
-    let mut r: usize = 0;
     let mut place = at;
     let mut later_a: usize = 0;
     let mut later_b: usize = 0;
-    while r < lines {
+    for _r in 0..lines {
         lay_cells(bundle, work, place, a, b, run, later_a, later_b, true);
         place += line;
-        later_a = std::num::wrapping_add_usize(later_a, band.a);
-        later_b = std::num::wrapping_add_usize(later_b, band.b);
-        r += 1;
+        later_a = later_a.wrapping_add(band.a);
+        later_b = later_b.wrapping_add(band.b);
     }
 }
 
@@ -62,11 +58,9 @@ pub fn lay_band(bundle: &[u8], work: &mut [u8], at: usize, a: Source, b: Source,
     requires { Laying bundle.now work.old at a b band }
     ensures { BandLaid bundle.now work.old at a b band band.lines work.new }
 {
-    if band.second.length == 0 {
-        if band.third.length == 0 {
-            lay_one_run(bundle, work, at, a, b, band);
-            return;
-        }
+    if band.second.length == 0 && band.third.length == 0 {
+        lay_one_run(bundle, work, at, a, b, band);
+    } else {
+        lay_lines(bundle, work, at, a, b, band);
     }
-    lay_lines(bundle, work, at, a, b, band);
 }

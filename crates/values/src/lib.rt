@@ -16,6 +16,7 @@ ghost use Rattle.values.specs.Runs.{Asked, AskedToMove, Filled, Started, Running
 use crate::bands::lay_band;
 use cell::bytes::{word, write_cell};
 use coded::{computed, pair_code, single_code};
+use origin::MovedStep;
 use paper::{
     ARRAYS, CELL_BYTES, Fault, Hand, Head, Move, Operation, Ordinality, Refusal, SCALAR_AT,
     StepNumber, Work,
@@ -24,7 +25,7 @@ use quick::codes::ahead;
 use quick::operands::{Pairing, SCALAR, Source, raw_of};
 use recipe::operands::slot_of;
 use recipe::{Operand, Plan};
-use refusals::{none, refuse_fault};
+use refusals::refuse_fault;
 use rows::band_of;
 use step::StepHead;
 
@@ -129,17 +130,16 @@ fn move_cells(bundle: &[u8], recipe: &[u8], work: &mut [u8], m: Move, turn: Turn
     let b = cells_of(turn.b);
     let base = turn.result.at;
     let n = turn.result.cells;
+    let moved = MovedStep {
+        m,
+        step: turn.step,
+        a: turn.a.head.form.extent,
+        b: turn.b.head.form.extent,
+        t: turn.result.form.extent,
+    };
     let mut k: usize = 0;
     while k < n {
-        let band = band_of(
-            m,
-            turn.step,
-            turn.a.head.form.extent,
-            turn.b.head.form.extent,
-            turn.result.form.extent,
-            k,
-            recipe,
-        );
+        let band = band_of(&moved, k, recipe);
         lay_band(bundle, work, base + k * CELL_BYTES, a, b, band);
         let line = band.first.length + (band.second.length + band.third.length);
         k += band.lines * line;
@@ -200,14 +200,13 @@ fn refusal_of(fault: Fault, s: usize, k: usize) -> Refusal
 
 // Each step's values in turn: those moved or worked out ahead, then those worked out one by one. The first cell in row-major order that
 // refuses leaves both loops.
-pub fn run_steps(bundle: &[u8], recipe: &[u8], plan: Plan, work: &mut [u8]) -> Refusal
+pub fn run_steps(bundle: &[u8], recipe: &[u8], plan: Plan, work: &mut [u8]) -> Result<(), Refusal>
     requires { Running bundle.now recipe.now plan work.old }
     ensures { Valued bundle.now recipe.now plan work.old result work.new }
 {
     let m = plan.count;
-    let mut out = none();
-    let mut s: usize = 0;
-    'steps: while s < m {
+    let mut out = Ok(());
+    'steps: for s in 0..m {
         let step = plan.steps[s];
         let a = plan.operands[slot_of(step.a)];
         let b = plan.operands[slot_of(step.b)];
@@ -216,8 +215,7 @@ pub fn run_steps(bundle: &[u8], recipe: &[u8], plan: Plan, work: &mut [u8]) -> R
         let base = result.at;
         let n = result.cells;
         let begun = begin_cells(bundle, recipe, work, Turn { step, a, b, result });
-        let mut k = begun.count;
-        'cells: while k < n {
+        'cells: for k in begun.count..n {
             let done = &work[..base];
             let x = raw_of(bundle, done, begun.pairing.first, begun.pairing.scalar, k);
             let y = raw_of(bundle, done, begun.pairing.second, begun.pairing.scalar, k);
@@ -225,13 +223,11 @@ pub fn run_steps(bundle: &[u8], recipe: &[u8], plan: Plan, work: &mut [u8]) -> R
             match got {
                 Ok(c) => write_cell(work, base + k * CELL_BYTES, c),
                 Err(fault) => {
-                    out = refusal_of(fault, s, k);
+                    out = Err(refusal_of(fault, s, k));
                     break 'steps;
                 }
             }
-            k += 1;
         }
-        s += 1;
     }
     out
 }

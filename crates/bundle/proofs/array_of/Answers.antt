@@ -1,14 +1,11 @@
 -- `bundle::array_of` meets its contract: each way out by the law of its test.
-use Rattle.std.proofs.Common.{ℕ, ◌≡◌, List}
+use Rattle.std.proofs.Common.{ℕ, List, arith}
 use Rattle.paper.specs.declared.Form.{Form}
-use Rattle.paper.specs.Answers.{shape_of}
-use Rattle.extent.specs.Judged.{cells_within}
-use Rattle.bundle.specs.Arrays.{of-extent, of-short, of-bad, of-got}
+use Rattle.bundle.specs.Arrays.{of-extent, few-cells, of-short, of-bad, of-got}
 use Rattle.bundle.proofs.array_of.Goals as goal
-use Rattle.bundle.proofs.array_of.Goals.{After-extent_cells-n}
+use Rattle.bundle.proofs.array_of.Goals.{Start}
 
--- the extent is judged
-module _ (c : After-extent_cells-n) where
+module _ (c : Start) where
   abbrev bs : List ℕ
   bs = c.args.s.now
 
@@ -21,33 +18,28 @@ module _ (c : After-extent_cells-n) where
   abbrev form : Form
   form = c.args.form
 
-  abbrev n : ℕ
-  n = c.extent_cells-n.result
+pub returns-in_default : goal.returns-in_default
+returns-in_default c =
+    let p = (goal.at.returns-in_default c).Start in
+    rw c.refuse.ensures (of-extent (k p) (bs p) (from p) (form p) c.in_default.ensures)
 
-  count : n ≡ cells_within (shape_of form).names (shape_of form).axes (shape_of form).maximum
-  count = c.extent_cells-n.ensures.0
-
-pub returns-then-n-eq0 : goal.returns-then-n-eq0
-returns-then-n-eq0 c =
-    let s = (goal.at.returns-then-n-eq0 c).After-extent_cells-n in
-    rw c.not_counted.ensures (of-extent (k s) (bs s) (from s) (form s) (n s) (count s) c.if-n-eq0.true)
+pub overflow_mul-n : goal.overflow_mul-n
+overflow_mul-n c =
+    let p = (goal.at.overflow_mul-n c).Start in
+    omega (arith, few-cells (k p) (bs p) (from p) (form p) _ c.in-Some.ensures)
 
 pub returns-then-s-from : goal.returns-then-s-from
 returns-then-s-from c =
-    let p = (goal.at.returns-then-s-from c).After-extent_cells-n in
-    rw c.not_counted-then-s-from.ensures
-    (of-short (k p) (bs p) (from p) (form p) (n p) (count p) c.if-n-eq0.false c.if-s-from.true)
+    let p = (goal.at.returns-then-s-from c).Start in
+    rw c.refuse-then-s-from.ensures (of-short (k p) (bs p) (from p) (form p) _ c.in-Some.ensures c.if-s-from.true)
 
 pub returns-then-bad-ne0 : goal.returns-then-bad-ne0
 returns-then-bad-ne0 c =
-    let p = (goal.at.returns-then-bad-ne0 c).After-extent_cells-n in
-    rw c.not_counted-then-bad-ne0.ensures
-    (of-bad (k p) (bs p) (from p) (form p) (n p) (count p) c.if-n-eq0.false c.if-s-from.false _
-    c.first_bad-bad.ensures.0 c.if-bad-ne0.true)
+    let p = (goal.at.returns-then-bad-ne0 c).Start in
+    rw c.refuse_at.ensures
+    (of-bad (k p) (bs p) (from p) (form p) _ c.in-Some.ensures c.if-s-from.false _ c.first_bad-bad.ensures.0 c.if-bad-ne0.true)
 
 pub returns : goal.returns
 returns c =
-    let p = (goal.at.returns c).After-extent_cells-n in
-    rw c.none-refusal.ensures
-    (of-got (k p) (bs p) (from p) (form p) (n p) (count p) c.if-n-eq0.false c.if-s-from.false _
-    c.first_bad-bad.ensures.0 c.requires c.if-bad-ne0.false c.extent_cells-n.ensures.1)
+    let p = (goal.at.returns c).Start in
+    of-got (k p) (bs p) (from p) (form p) _ c.in-Some.ensures c.if-s-from.false _ c.first_bad-bad.ensures.0 c.requires c.if-bad-ne0.false

@@ -1,4 +1,5 @@
 -- `bundle::form_at` meets its contract: each way out by the law of its test.
+use Rattle.std.specs.Prelude.{Option, Some, None}
 use Rattle.std.proofs.Common.{ℕ, ◌+◌, ◌*◌, ◌≤◌, true, List, ◌≡◌, sym, subst, ◌∙◌, arith, length, drop}
 use borrow.Author.Tests.{not-true, not-false}
 use Rattle.paper.specs.declared.Sizes.{Sizes}
@@ -42,7 +43,7 @@ module _ (c : After-byte_at-rank) where
   its : Fits z
   its = subst Fits (sym same) (fits a.args.v)
 
-  answers : (r : Form) → FormRead z bs at r → FormRead (sizes_of a.args.v) bs at r
+  answers : (r : Option Form) → FormRead z bs at r → FormRead (sizes_of a.args.v) bs at r
   answers r h = subst (λ (x : Sizes). FormRead x bs at r) same h
 
 -- both are in range
@@ -65,25 +66,22 @@ module _ (c : Else-not-in_range-2) where
 pub returns-then-not-in_range : goal.returns-then-not-in_range
 returns-then-not-in_range c =
     let s = (goal.at.returns-then-not-in_range c).After-byte_at-rank in
-    rw c.no_form.ensures
-    (answers s _ (form_type (z s) (its s) (bs s) (at s) (kind s) (rank s) c.byte_at-kind.ensures c.byte_at-rank.ensures
-    (sym c.in_range.ensures ∙ not-true _ c.if-not-in_range.true-raw)))
+    answers s None (form_type (z s) (its s) (bs s) (at s) (kind s) (rank s) c.byte_at-kind.ensures c.byte_at-rank.ensures
+    (sym c.in_range.ensures ∙ not-true _ c.if-not-in_range.true-raw))
 
 pub returns-then-not-in_range-2 : goal.returns-then-not-in_range-2
 returns-then-not-in_range-2 c =
     let s = (goal.at.returns-then-not-in_range-2 c).After-byte_at-rank in
-    rw c.no_form-then-not-in_range-2.ensures
-    (answers s _ (form-count (z s) (its s) (bs s) (at s) (kind s) (rank s) c.byte_at-kind.ensures c.byte_at-rank.ensures
+    answers s None (form-count (z s) (its s) (bs s) (at s) (kind s) (rank s) c.byte_at-kind.ensures c.byte_at-rank.ensures
     (sym c.in_range.ensures ∙ not-false _ c.if-not-in_range.false-raw)
-    (sym c.in_range-2.ensures ∙ not-true _ c.if-not-in_range-2.true-raw)))
+    (sym c.in_range-2.ensures ∙ not-true _ c.if-not-in_range-2.true-raw))
 
 pub returns-then-s-at : goal.returns-then-s-at
 returns-then-s-at c =
     let w = (goal.at.returns-then-s-at c).Else-not-in_range-2 in
     let p = two w in
-    rw c.no_form-then-s-at.ensures
-    (answers p _ (form-short (z p) (its p) (bs p) (at p) (kind p) (rank p) p.byte_at-kind.ensures p.byte_at-rank.ensures
-    (typed w) (ranked w) c.if-s-at.true))
+    answers p None (form-short (z p) (its p) (bs p) (at p) (kind p) (rank p) p.byte_at-kind.ensures p.byte_at-rank.ensures
+    (typed w) (ranked w) c.if-s-at.true)
 
 pub bounds_at-bounds-requires : goal.bounds_at-bounds-requires
 bounds_at-bounds-requires c =
@@ -103,7 +101,7 @@ returns c =
     let e = subst (λ (x : Sizes). (m.names ≡ names_of (each_axis x (name_of x) (rank p) d))
     × (m.extent ≡ extent_of (each_axis x (axis_of x) (rank p) d))
     × (m.maximum ≡ extent_of (each_axis x (maximum_of x) (rank p) d))) (sym (same p)) c.bounds_at-bounds.ensures in
-    answers p _ (form-read (z p) (its p) (bs p) (at p) (kind p) (rank p) p.byte_at-kind.ensures p.byte_at-rank.ensures
+    answers p (Some _) (form-read (z p) (its p) (bs p) (at p) (kind p) (rank p) p.byte_at-kind.ensures p.byte_at-rank.ensures
     (typed w) (ranked w) c.if-s-at.false _ _ _ e.0 e.1 e.2)
 
 pub overflow_mul-rank : goal.overflow_mul-rank

@@ -1,12 +1,12 @@
 -- `c_asked::no_total` meets its contract: the array's own refusal, else the number is unknown.
-use Rattle.std.specs.Prelude.{Err}
-use Rattle.std.proofs.Common.{ap, ◌∙◌}
+use Rattle.std.proofs.lemmas.Result.{err_from_is_err_and}
 use Rattle.c_asked.specs.Pieces.{no-total-refused, no-total-known}
 use Rattle.c_asked.proofs.no_total.Goals as goal
 
-pub returns : goal.returns
-returns c =
-    ap Err c.refuse.ensures ∙ no-total-known c.choose-array.ensures c.if-refusal-ne0.false
+pub returns-in_err-choose : goal.returns-in_err-choose
+returns-in_err-choose c =
+    let p = err_from_is_err_and c.from_residual.result c.from_residual.ensures.1 in
+    rw (p.1, p.2) (no-total-refused _ _ c.in_err-choose.ensures.0)
 
-pub returns-then-refusal-ne0 : goal.returns-then-refusal-ne0
-returns-then-refusal-ne0 c = no-total-refused c.choose-array.ensures c.if-refusal-ne0.true
+pub returns : goal.returns
+returns c = rw c.refuse.ensures (no-total-known _ _ c.in_ok-choose.ensures.said)

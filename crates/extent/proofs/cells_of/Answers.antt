@@ -1,6 +1,6 @@
 -- `extent::cells_of` meets its contract.
 -- From the last axis to the first: n is the number of cells of the axes done. Where some axes have too many, all have.
-use Rattle.std.proofs.Common.{◌*◌, ◌-◌, ◌<◌, ◌≤◌, ap, ap₂, subst, sym, ◌∙◌, ◌≡◌, mul_comm, arith, le-leb, drop, take}
+use Rattle.std.proofs.Common.{◌*◌, ◌-◌, ◌<◌, ◌≤◌, ap, ap₂, subst, sym, ◌∙◌, ◌≡◌, mul_comm, arith, le-leb, drop, take, Some}
 use borrow.Author.Tests.{lt-leb}
 use Rattle.laws.specs.Limits.{Sound, cells-drop}
 use Rattle.laws.specs.Loops.{cells-down, cells-none, drop-none, product_le, sound-first}
@@ -35,7 +35,7 @@ returns-then-n-gt-CELLS c =
     let s = c.before.before.before.before.before in
     let m : most_cells < cells (axes_of s.args.e) =
     omega (arith, turn c.before, cells-drop (take s.rank_of-rank.result s.args.e.axes) (c.loop-i.i - 1) (sound s), ap cells s.rank_of-rank.ensures.first) in
-    (rw (lt-leb _ _ m), omega arith)
+    rw (lt-leb _ _ m)
 
 pub loop-i-preserved : goal.loop-i-preserved
 loop-i-preserved c = (turn c.before, omega arith)
@@ -46,4 +46,4 @@ returns c =
     let s = c in
     let e = ap cells (drop-none (take s.rank_of-rank.result s.args.e.axes) l.i (omega arith) ∙ s.rank_of-rank.ensures.first) in
     let n : cells (axes_of s.args.e) ≤ most_cells = omega (arith, e) in
-    (rw (le-leb _ _ n) (l.invariant.0 ∙ e), omega arith)
+    rw (le-leb _ _ n) (ap Some (l.invariant.0 ∙ e))

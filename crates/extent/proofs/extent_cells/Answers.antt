@@ -1,6 +1,5 @@
--- `extent::extent_cells` meets its contract.
--- The number is kept where the extent lies inside its maximum.
-use Rattle.std.proofs.Common.{◌∙◌, ◌≡◌, sym, arith, rules}
+-- `extent::extent_cells` meets its contract: the extent lies inside its maximum, or not.
+use Rattle.std.proofs.Common.{◌∙◌, ◌≡◌, sym, rules}
 use borrow.Author.Tests.{not-false, not-true}
 use Rattle.paper.specs.Answers.{axes_of, names_for}
 use Rattle.paper.specs.Axes.{axis_within, within}
@@ -12,18 +11,12 @@ told : (c : After-all_meet) → within (axes_of c.args.e) (axes_of c.args.maximu
 told c = sym (c.all_meet.ensures axis_within (λ a b r p. search rules))
 
 pub returns-then-not-all_meet : goal.returns-then-not-all_meet
-returns-then-not-all_meet c = (
-  not_within (names_for (axes_of c.args.e) c.args.names)
-      (axes_of c.args.e) (axes_of c.args.maximum)
-      (told (c.before) ∙ not-true _ c.if-not-all_meet.true-raw),
-  omega arith,
-)
+returns-then-not-all_meet c =
+    not_within (names_for (axes_of c.args.e) c.args.names) (axes_of c.args.e) (axes_of c.args.maximum)
+    (told (goal.at.returns-then-not-all_meet c).After-all_meet ∙ not-true _ c.if-not-all_meet.true-raw)
 
 pub returns : goal.returns
-returns c = (
-  c.good_extent-n.ensures.0
-      ∙ by-within (names_for (axes_of c.args.e) c.args.names)
-      (axes_of c.args.e) (axes_of c.args.maximum)
-      (told (c.before) ∙ not-false _ c.if-not-all_meet.false-raw),
-  c.good_extent-n.ensures.1,
-)
+returns c =
+    c.good_extent.ensures
+    ∙ by-within (names_for (axes_of c.args.e) c.args.names) (axes_of c.args.e) (axes_of c.args.maximum)
+    (told (goal.at.returns c).After-all_meet ∙ not-false _ c.if-not-all_meet.false-raw)

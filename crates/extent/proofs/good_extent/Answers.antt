@@ -1,6 +1,6 @@
 -- `extent::good_extent` meets its contract.
 -- The tests in the paper's order; the number of cells is the last.
-use Rattle.std.proofs.Common.{ℕ, true, List, ap, sym, ◌∙◌, ◌≡◌, arith, take}
+use Rattle.std.proofs.Common.{ℕ, true, List, ap, sym, ◌∙◌, ◌≡◌, take}
 use borrow.Author.Tests.{not-false, not-true}
 use Rattle.laws.specs.Limits.{limits-true}
 use Rattle.extent.specs.Judged.{bad-limits, bad-names, by-cells}
@@ -31,23 +31,20 @@ module _ (c : After-good_limits) where
   names-good = names-told c.before.before ∙ not-false _ c.if-not-good_names.false-raw
 
 pub returns-then-not-good_names : goal.returns-then-not-good_names
-returns-then-not-good_names c = (bad-names (N c.before) (E c.before) (names-told c.before ∙ not-true _ c.if-not-good_names.true-raw), omega arith)
+returns-then-not-good_names c = bad-names (N c.before) (E c.before) (names-told c.before ∙ not-true _ c.if-not-good_names.true-raw)
 
 pub returns-then-not-good_limits : goal.returns-then-not-good_limits
 returns-then-not-good_limits c =
     let l = c.before in
-    (bad-limits (N l.before.before) (E l.before.before) (names-good l) (limits-told l ∙ not-true _ c.if-not-good_limits.true-raw), omega arith)
+    bad-limits (N l.before.before) (E l.before.before) (names-good l) (limits-told l ∙ not-true _ c.if-not-good_limits.true-raw)
 
 pub cells_of-requires : goal.cells_of-requires
 cells_of-requires c = limits-true (E c.before.before.before) (limits-told c.before ∙ not-false _ c.if-not-good_limits.false-raw)
 
 pub returns : goal.returns
 returns c =
-    let l = c.before.before in (
-      c.cells_of.ensures.0 ∙ by-cells (N l.before.before) (E l.before.before) (names-good l)
-          (limits-told l ∙ not-false _ c.if-not-good_limits.false-raw),
-      c.cells_of.ensures.1,
-    )
+    let l = (goal.at.returns c).After-good_limits in
+    c.cells_of.ensures ∙ by-cells (N l.before.before) (E l.before.before) (names-good l) (limits-told l ∙ not-false _ c.if-not-good_limits.false-raw)
 
 pub good_names-requires : goal.good_names-requires
 good_names-requires c = c.rank_of.ensures.few

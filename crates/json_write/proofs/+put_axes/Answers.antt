@@ -14,35 +14,35 @@ use Rattle.json_write.proofs.+put_axes.Goals.{After-loop-more}
 wide : {w : ℕ} {a b : Axis} → w ≡ width a → a ≡ b → w ≡ width b
 wide p e = p ∙ ap width e
 
-pub width_of-more-requires : goal.width_of-more-requires
-width_of-more-requires t c =
+pub width_of-width-requires : goal.width_of-width-requires
+width_of-width-requires t c =
     let E = axes_of c.args.extent in
     rw c.axis_left.ensures (sound-axis E (length E - c.args.left) c.requires.sound)
 
 pub put_cells-requires : goal.put_cells-requires
-put_cells-requires t c = one-ready c.requires (wide c.width_of-more.ensures.0 c.axis_left.ensures) c.if-left-eq1.true
+put_cells-requires t c = one-ready c.requires (wide c.width_of-width.ensures.0 c.axis_left.ensures) c.if-left-eq1.true
 
 pub returns-then-left-eq1 : goal.returns-then-left-eq1
 returns-then-left-eq1 t c =
-    one-drawn c.requires (wide c.width_of-more.ensures.0 c.axis_left.ensures) c.if-left-eq1.true c.put_cells.ensures
+    one-drawn c.requires (wide c.width_of-width.ensures.0 c.axis_left.ensures) c.if-left-eq1.true c.put_cells.ensures
 
 -- more axes are left: the row fits
 pub bounds-out-begin : goal.bounds-out-begin
 bounds-out-begin t c =
-    omega (arith, more-fits c.requires (wide c.width_of-more.ensures.0 c.axis_left.ensures) c.if-left-eq1.false)
+    omega (arith, more-fits c.requires (wide c.width_of-width.ensures.0 c.axis_left.ensures) c.if-left-eq1.false)
 
 -- the axes after the first are written, and the comma
 pub put_axes-pen-requires : goal.put_axes-pen-requires
 put_axes-pen-requires t c =
     let long : length c.loop-more.out ≡ length c.args.out.now = c.loop-more.invariant.long ∙ simp length-set in (
       omega (arith, c.decreases, c.requires.some),
-      next-ready c.requires (wide c.width_of-more.ensures.0 c.axis_left.ensures) c.if-left-eq1.false c.loop-more.invariant refl
+      next-ready c.requires (wide c.width_of-width.ensures.0 c.axis_left.ensures) c.if-left-eq1.false c.loop-more.invariant refl
           c.loop-more-test.true _ long,
     )
 
 pub put_comma-requires : goal.put_comma-requires
 put_comma-requires t c =
-    let f = more-fits c.requires (wide c.width_of-more.ensures.0 c.axis_left.ensures) c.if-left-eq1.false in
+    let f = more-fits c.requires (wide c.width_of-width.ensures.0 c.axis_left.ensures) c.if-left-eq1.false in
     let g = row_at c.loop-more.invariant _ _ refl f c.loop-more-test.true in
     omega (arith, g, c.put_axes-pen.ensures.drawn.0, c.put_axes-pen.auto.out, c.loop-more.invariant.long, length-set {A = ℕ})
 
@@ -55,7 +55,7 @@ module _ (t : ℕ) (c : After-loop-more t) where
   end : c.loop-more.pen.at < length c.args.out.now
   end =
       row-end c.loop-more.invariant _ _ refl
-      (more-fits c.requires (wide c.width_of-more.ensures.0 c.axis_left.ensures) c.if-left-eq1.false)
+      (more-fits c.requires (wide c.width_of-width.ensures.0 c.axis_left.ensures) c.if-left-eq1.false)
 
 pub bounds-out-end : goal.bounds-out-end
 bounds-out-end t c = omega (arith, end t c, c.loop-more.invariant.long, length-set {A = ℕ})
@@ -65,5 +65,5 @@ overflow_add-pen-2 t c = omega (arith, end t c)
 
 pub returns : goal.returns
 returns t c =
-    more-drawn c.requires (wide c.width_of-more.ensures.0 c.axis_left.ensures) c.if-left-eq1.false c.loop-more.invariant
+    more-drawn c.requires (wide c.width_of-width.ensures.0 c.axis_left.ensures) c.if-left-eq1.false c.loop-more.invariant
     c.loop-more-test.false _ (refl, refl) (refl, refl)

@@ -13,6 +13,3 @@ abbrev pub invariant-loop-more : goal.invariant-loop-more
 invariant-loop-more l =
     Rowing l.initial.out (text_left (cell_by l.s l.from l.kind) (axes_of l.extent) (l.left - 1))
     (size_left (axes_of l.extent) (l.left - 1)) l.initial.more l.initial.pen.at l.initial.pen.cell l.out l.pen.cell l.pen.at l.more
-
-abbrev pub decreases-loop-more : goal.decreases-loop-more
-decreases-loop-more l = l.more

@@ -31,7 +31,7 @@ module _ (c : After-cell_length-long) where
   few = omega (arith, cells-most f n 0, mul-le-mul_right most_signed c.requires.1)
 
 pub loop-i-init : goal.loop-i-init
-loop-i-init c = (omega arith, simp (zero-add, sub-zero))
+loop-i-init c = simp (zero-add, sub-zero)
 
 pub held_cell-requires : goal.held_cell-requires
 held_cell-requires c = omega (arith, c.requires.0)
@@ -39,14 +39,14 @@ held_cell-requires c = omega (arith, c.requires.0)
 pub overflow_add-long : goal.overflow_add-long
 overflow_add-long c =
     let a = (goal.at.overflow_add-long c).After-cell_length-long in
-    omega (arith, c.loop-i.invariant.1, counted a, more a, few a)
+    omega (arith, c.loop-i.invariant, counted a, more a, few a)
 
 pub loop-i-preserved : goal.loop-i-preserved
 loop-i-preserved c =
     let a = (goal.at.loop-i-preserved c).After-cell_length-long in
-    (omega arith, omega (arith, c.loop-i.invariant.1, counted a, more a))
+    omega (arith, c.loop-i.invariant, counted a, more a)
 
 pub returns : goal.returns
 returns c =
     let v = c.loop-i in
-    omega (arith, v.invariant.1, long-end (cell_by c.args.s.now c.args.from c.args.kind) v.i c.args.n c.loop-i-test.false)
+    omega (arith, v.invariant, long-end (cell_by c.args.s.now c.args.from c.args.kind) v.i c.args.n c.loop-i-test.false)

@@ -25,7 +25,7 @@ module _ (c : After-width_of-w) where
   turn : 1 + c.width_of-w.result + c.width_of-w.result * c.loop-i.n ≡ marks (drop i E)
   unfolding marks
   turn =
-      ap₂ (λ (w n : ℕ). 1 + w + w * n) c.width_of-w.ensures.0 c.loop-i.invariant.1
+      ap₂ (λ (w n : ℕ). 1 + w + w * n) c.width_of-w.ensures.0 c.loop-i.invariant
       ∙ rw (drop-down c.args.e.axes c.rank_of-rank.result c.rank_of-rank.ensures.room c.loop-i.i no_axis (omega arith) (omega arith))
 
   few : marks (drop i E) ≤ 2 * (most_axes * most_cells)
@@ -37,7 +37,7 @@ module _ (c : After-width_of-w) where
 
 pub loop-i-init : goal.loop-i-init
 unfolding marks
-loop-i-init c = (omega arith, rw (drop-first c.args.e.axes c.rank_of-rank.result c.rank_of-rank.ensures.room))
+loop-i-init c = (rw (drop-first c.args.e.axes c.rank_of-rank.result c.rank_of-rank.ensures.room))
 
 pub width_of-w-requires : goal.width_of-w-requires
 width_of-w-requires c =
@@ -54,9 +54,9 @@ pub overflow_add-n-in-loop-i : goal.overflow_add-n-in-loop-i
 overflow_add-n-in-loop-i c = omega (arith, turn c, few c)
 
 pub loop-i-preserved : goal.loop-i-preserved
-loop-i-preserved c = (omega arith, turn c)
+loop-i-preserved c = turn c
 
 pub returns : goal.returns
 returns c =
     let v = c.loop-i in
-    v.invariant.1 ∙ ap marks (drop-none (take c.rank_of-rank.result c.args.e.axes) v.i (omega arith) ∙ c.rank_of-rank.ensures.first)
+    v.invariant ∙ ap marks (drop-none (take c.rank_of-rank.result c.args.e.axes) v.i (omega arith) ∙ c.rank_of-rank.ensures.first)

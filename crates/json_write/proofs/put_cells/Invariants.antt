@@ -7,6 +7,3 @@ use Rattle.json_write.proofs.put_cells.Given as goal
 abbrev pub invariant-loop-more : goal.invariant-loop-more
 invariant-loop-more l =
     Rowing l.initial.out (cell_on (cell_by l.s l.from l.kind)) 1 l.initial.more l.initial.at l.initial.cell l.out l.cell l.at l.more
-
-abbrev pub decreases-loop-more : goal.decreases-loop-more
-decreases-loop-more l = l.more

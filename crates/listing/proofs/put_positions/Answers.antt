@@ -51,9 +51,6 @@ put4-requires c =
     let p = (goal.at.put4-requires c).In-loop-i in
     omega (arith, long (s p), fit (s p), c.loop-i.invariant.long)
 
-pub overflow_add-i : goal.overflow_add-i
-overflow_add-i c = omega (arith, (s (turn (goal.at.overflow_add-i c).After-put4)).requires.0)
-
 pub loop-i-preserved : goal.loop-i-preserved
 loop-i-preserved c =
     let t = turn (goal.at.loop-i-preserved c).After-put4 in

@@ -11,9 +11,9 @@ use Rattle.origin.proofs.origin_of.Goals as goal
 use Rattle.origin.proofs.origin_of.Goals.{Start}
 
 -- the position of the detail, where it is read
-position : (s : Start) {x : ℕ} → x ≡ position_at s.args.step.at s.args.s.now
-    → x ≡ position_at 0 (part s.args.step.at (detail_of s.args.step) s.args.s.now)
-position s e = e ∙ position-there s.args.s.now s.args.step
+position : (s : Start) {x : ℕ} → x ≡ position_at s.args.w.now.step.at s.args.s.now
+    → x ≡ position_at 0 (part s.args.w.now.step.at (detail_of s.args.w.now.step) s.args.s.now)
+position s e = e ∙ position-there s.args.s.now s.args.w.now.step
 
 pub in_first-requires : goal.in_first-requires
 unfolding result_axes
@@ -27,7 +27,7 @@ returns-in-Trim c =
     rw e (c.in_first.ensures ∙ sym (trim-comes (moving-as e c.requires.moving) c.requires.k_bound))
 
 pub position_at-requires : goal.position_at-requires
-position_at-requires c = position-asks c.args.step c.requires.holds
+position_at-requires c = position-asks c.args.w.now.step c.requires.holds
 
 pub sliced-requires : goal.sliced-requires
 sliced-requires c =
@@ -70,16 +70,16 @@ returns-in-Update c =
     rw e (c.laid_over.ensures ∙ sym (update-comes (moving-as e c.requires.moving) c.requires.k_bound))
 
 pub position_at-requires-in-Put : goal.position_at-requires-in-Put
-position_at-requires-in-Put c = position-asks c.args.step c.requires.holds
+position_at-requires-in-Put c = position-asks c.args.w.now.step c.requires.holds
 
 pub patch_of-requires : goal.patch_of-requires
 patch_of-requires c =
-    put-room (moving-as c.in-Put.is c.requires.moving) (axes-few c.args.a)
+    put-room (moving-as c.in-Put.is c.requires.moving) (axes-few c.args.w.now.a)
 
 pub laid_over-requires-in-Put : goal.laid_over-requires-in-Put
 laid_over-requires-in-Put c =
     rw (c.patch_of.ensures, position (goal.at.laid_over-requires-in-Put c).Start c.position_at-in-Put.ensures)
-    (put-asks (moving-as c.in-Put.is c.requires.moving) c.requires.k_bound (axes-few c.args.a))
+    (put-asks (moving-as c.in-Put.is c.requires.moving) c.requires.k_bound (axes-few c.args.w.now.a))
 
 pub returns-in-Put : goal.returns-in-Put
 returns-in-Put c =

@@ -1,13 +1,10 @@
 -- `recipe::over_arrays` meets its contract: one array after the other.
-use Rattle.std.proofs.Common.{ap, ◌∙◌, arith}
-use Rattle.paper.specs.declared.Refusal.{Refusal}
-use Rattle.recipe.specs.Whole.{empty_plan, begun-none, begun_more}
+use Rattle.std.proofs.Common.{arith}
+use Rattle.recipe.specs.Whole.{begun-none, begun_more}
 use Rattle.recipe.proofs.over_arrays.Goals as goal
 
 pub loop-plan-init : goal.loop-plan-init
-loop-plan-init c =
-    let R = c.args.reading in
-    begun-none R _ (c.empty_plan-plan.ensures ∙ ap (λ (x : Refusal). empty_plan x R.version) c.none.ensures)
+loop-plan-init c = begun-none c.args.reading _ c.empty_plan-plan.ensures
 
 pub loop-plan-preserved : goal.loop-plan-preserved
 loop-plan-preserved c =

@@ -1,10 +1,12 @@
 -- `recipe::plan_recipe` meets its contract: the loop over the steps, and what each way out answers.
+use Rattle.std.proofs.lemmas.Result.{err_from_is_err_and}
+use Rattle.std.specs.Prelude.{Ok, Err}
 use Rattle.std.proofs.Common.{ℕ, ◌+◌, ◌*◌, ◌/◌, ◌%◌, ◌≤◌, ◌<◌, ◌≡◌, refl, sym, ap, subst, ◌∙◌, true, false, ◌&&◌, List, [], map, div-add-mod', arith, length, get_or, take, set, eqb}
 use borrow.Author.Tests.{not-true, not-false}
 use Rattle.paper.specs.declared.Version.{Version}
 use Rattle.paper.specs.declared.Sizes.{Sizes}
 use Rattle.paper.specs.declared.Reading.{Reading}
-use Rattle.paper.specs.Refusals.{between}
+use Rattle.paper.specs.Refusals.{Res, between}
 use Rattle.paper.specs.Limits.{cell_bytes, most_arrays, most_steps, sizes_of}
 use Rattle.paper.specs.Numbers.{part}
 use Rattle.paper.specs.Recipe.{operand, plan_step, plan_steps}
@@ -14,11 +16,12 @@ use Rattle.laws.specs.Sizes.{fits}
 use Rattle.shape.specs.Names.{names-room}
 use Rattle.recipe.specs.declared.Operand.{Operand}
 use Rattle.recipe.specs.declared.Plan.{Plan}
+use Rattle.recipe.specs.declared.steps.Stepped.{Stepped}
 use Rattle.recipe.specs.Operands.{no_operand, shape_in, found_shape, slot_of, named-shape}
-use Rattle.recipe.specs.Stepped.{Fitting, Answered}
-use Rattle.recipe.specs.Whole.{arrays_in, arrays_of, results_of, no_plan, Loop, loop-start, with_step, loop-more, arrays-same, steps-refused, good_length, length-bad, length-few, step-refused, all-planned}
+use Rattle.recipe.specs.Stepped.{Fitting, Answered, PlannedAs}
+use Rattle.recipe.specs.Whole.{arrays_in, arrays_of, results_of, Loop, loop-start, with_step, loop-more, arrays-same, steps-refused, good_length, length-bad, length-few, step-refused, all-planned}
 use Rattle.recipe.proofs.plan_recipe.Goals as goal
-use Rattle.recipe.proofs.plan_recipe.Goals.{After-over_arrays-plan, After-plan_step-one, After-sizes-z, At-loop-plan, Else-one-ne0, In-loop-plan, Start}
+use Rattle.recipe.proofs.plan_recipe.Goals.{After-over_arrays-plan, After-plan_step, After-sizes-z, At-loop-plan, In_ok-one, In-loop-plan, Start}
 
 -- the bytes of a step are the version's
 module _ (c : After-sizes-z) where
@@ -99,9 +102,9 @@ module _ (c : At-loop-plan) where
   longer = let f = fits (v by) in omega (arith, sized by, f.step, f.scalar)
 
 -- the step judged
-module _ (c : After-plan_step-one) where
+module _ (c : After-plan_step) where
   abbrev loop : At-loop-plan
-  loop = record { before = c.before.before.before.before.before.before.before.before.before; type_inv = record { s = c.shared_slice_known-1.given } }
+  loop = (goal.at.After-plan_step c).At-loop-plan
 
   abbrev p : Plan
   p = its loop
@@ -112,33 +115,43 @@ module _ (c : After-plan_step-one) where
   below : p.count < length ss / long (by loop)
   below = c.loop-plan-test.true
 
-  answered : Answered (v (by loop)) ss (p.cells * cell_bytes) c.plan_step-one.result
+  -- the call's clause, of its answer and of each part of it, in the paper's terms
+  answered : (d e : Operand) (r : Res Stepped)
+      → PlannedAs ss (p.count * long (by loop)) (v (by loop)) (get_or p.operands c.slot_of.result d)
+      (get_or p.operands c.slot_of-in-loop-plan.result e) (p.cells * cell_bytes) (p.count + 1) r
+      → Answered (v (by loop)) ss (p.cells * cell_bytes) r
       (plan_step (z (by loop)) (p.count + 1) (map shape_in (arrays_of p)) (map shape_in (results_of p))
       (part (p.count * (z (by loop)).step) (z (by loop)).step ss))
-  answered =
+  answered d e r w =
       let a = c.slot_of.ensures in
       let b = c.slot_of-in-loop-plan.ensures in
-      subst (λ (w : ℕ). Answered (v (by loop)) ss (p.cells * cell_bytes) c.plan_step-one.result
+      subst (λ (w : ℕ). Answered (v (by loop)) ss (p.cells * cell_bytes) r
       (plan_step (z (by loop)) (p.count + 1) (map shape_in (arrays_of p)) (map shape_in (results_of p))
       (part (p.count * w) (z (by loop)).step ss))) (sized (by loop))
-      (c.plan_step-one.ensures.over _ _ (shape-found loop _ _ _ a.0 a.1) (shape-found loop _ _ _ b.0 b.1))
+      (w.over _ _ (shape-found loop _ _ _ a.0 a.1) (shape-found loop _ _ _ b.0 b.1))
 
--- it has no refusal
-module _ (c : Else-one-ne0) where
-  abbrev judged : After-plan_step-one
-  judged = record { before = c.before.before.before; type_inv = record { s = c.shared_slice_known-in-loop-plan-2-1.given } }
+-- it is planned
+module _ (c : In_ok-one) where
+  abbrev judged : After-plan_step
+  judged = (goal.at.In_ok-one c).After-plan_step
+
+  abbrev one : Stepped
+  one = c.in_ok-one.one
+
+  said : Answered (v (by (loop judged))) (ss judged) ((p judged).cells * cell_bytes) (Ok one)
+      (plan_step (z (by (loop judged))) ((p judged).count + 1) (map shape_in (arrays_of (p judged))) (map shape_in (results_of (p judged)))
+      (part ((p judged).count * (z (by (loop judged))).step) (z (by (loop judged))).step (ss judged)))
+  said = answered judged _ _ (Ok one) c.in_ok-one.ensures
 
   abbrev grown : Plan
-  grown = with_step (p judged) judged.plan_step-one.result
+  grown = with_step (p judged) one
 
   loop-grown : Loop (v (by (loop judged))) (ss judged) (length (ss judged) / long (by (loop judged))) grown
-  loop-grown = loop-more _ _ _ (p judged) (loop judged).loop-plan.invariant.0 (below judged) judged.plan_step-one.result (answered judged)
-      c.if-one-ne0.false
+  loop-grown = loop-more (loop judged).loop-plan.invariant.0 (below judged) one said
 
   -- with its result as it was made
   abbrev grown_by : Operand → Plan
   grown_by o = record {
-    refusal = grown.refusal;
     version = grown.version;
     arrays = grown.arrays;
     count = grown.count;
@@ -152,11 +165,11 @@ good_length-requires c = some_bytes c
 
 pub returns-then-not-good_length : goal.returns-then-not-good_length
 returns-then-not-good_length c =
-    let s = (goal.at.returns-then-not-good_length c).After-sizes-z in
-    let w = s in
-    length-bad (R w) (bs w) _ (c.no_plan.ensures ∙ ap no_plan c.refuse.ensures)
-    (ap (λ (w : ℕ). eqb (length (bs s) % w) 0 && between 1 most_steps (length (bs s) / w))
-    (sym (sized w)) ∙ sym c.good_length.ensures ∙ not-true _ c.if-not-good_length.true-raw)
+    let w = (goal.at.returns-then-not-good_length c).After-sizes-z in
+    rw c.refuse.ensures
+    (length-bad (R w) (bs w)
+    (ap (λ (n : ℕ). eqb (length (bs w) % n) 0 && between 1 most_steps (length (bs w) / n))
+    (sym (sized w)) ∙ sym c.good_length.ensures ∙ not-true _ c.if-not-good_length.true-raw))
 
 pub loop-plan-init : goal.loop-plan-init
 loop-plan-init c = (begins c, refl)
@@ -168,46 +181,48 @@ module _ (c : In-loop-plan) where
   bytes-there =
       (omega (arith, step_room (record { before = c.before.before; type_inv = record { s = c.shared_slice_known-1.given } }) c.loop-plan-test.true, longer (record { before = c.before.before; type_inv = record { s = c.shared_slice_known-1.given } })), omega (arith, (by (record { before = c.before.before; type_inv = record { s = c.shared_slice_known-1.given } })).shared_slice_known-1.given 0))
 
-pub plan_step-one-requires : goal.plan_step-one-requires
-plan_step-one-requires c =
-    let s = (goal.at.plan_step-one-requires c).At-loop-plan in
+pub plan_step-requires : goal.plan_step-requires
+plan_step-requires c =
+    let s = (goal.at.plan_step-requires c).At-loop-plan in
     let r = step_room s c.loop-plan-test.true in
     record { fitting = small-found s _ _ c.slot_of.ensures.1; fitting_2 = small-found s _ _ c.slot_of-in-loop-plan.ensures.1; v_in_bounds = omega (arith, r, sized (by s)) }
 
-pub returns-then-one-ne0 : goal.returns-then-one-ne0
-returns-then-one-ne0 c =
-    let s = (goal.at.returns-then-one-ne0 c).After-plan_step-one in
+pub returns-in_err-one : goal.returns-in_err-one
+returns-in_err-one c =
+    let s = (goal.at.returns-in_err-one c).After-plan_step in
     let w = loop s in
-    let q = steps-refused _ _ _ (p s) w.loop-plan.invariant.0 (below s) c.plan_step-one.result (answered s) c.if-one-ne0.true in
-    step-refused (R (by w)) (ss s) _ (good (goal.at.returns-then-one-ne0 c).After-over_arrays-plan) _ c.no_plan-then-one-ne0.ensures c.if-one-ne0.true
-    (rw (← over w) (q ∙ ap (λ (n : ℕ). plan_steps (z (by w)) 1 (length (ss s) / n) (map shape_in (arrays_of (p s))) [] (ss s)) (sized (by w))))
+    let r = err_from_is_err_and c.from_residual.result c.from_residual.ensures.1 in
+    let q = steps-refused w.loop-plan.invariant.0 (below s) (answered s _ _ (Err _) c.in_err-one.ensures) in
+    rw (r.1, r.2)
+    (step-refused (R (by w)) (ss s) (good (goal.at.returns-in_err-one c).After-over_arrays-plan)
+    (rw (← over w) (q ∙ ap (λ (n : ℕ). plan_steps (z (by w)) 1 (length (ss s) / n) (map shape_in (arrays_of (p s))) [] (ss s)) (sized (by w)))))
 
 pub offset_bounds-plan-result_at : goal.offset_bounds-plan-result_at
-offset_bounds-plan-result_at c = let b = loop-grown (goal.at.offset_bounds-plan-result_at c).Else-one-ne0 in omega (arith, b.turns, b.few)
+offset_bounds-plan-result_at c = let b = loop-grown (goal.at.offset_bounds-plan-result_at c).In_ok-one in omega (arith, b.turns, b.few)
 
 pub bounds-plan-result_at : goal.bounds-plan-result_at
-bounds-plan-result_at c = let b = loop-grown (goal.at.bounds-plan-result_at c).Else-one-ne0 in omega (arith, b.turns, b.few)
+bounds-plan-result_at c = let b = loop-grown (goal.at.bounds-plan-result_at c).In_ok-one in omega (arith, b.turns, b.few)
 
 pub overflow_add-plan : goal.overflow_add-plan
-overflow_add-plan c = let b = loop-grown (goal.at.overflow_add-plan c).Else-one-ne0 in omega (arith, b.most, b.turns, b.few)
+overflow_add-plan c = let b = loop-grown (goal.at.overflow_add-plan c).In_ok-one in omega (arith, b.most, b.turns, b.few)
 
 pub loop-plan-smaller : goal.loop-plan-smaller
-loop-plan-smaller c = let b = loop-grown (goal.at.loop-plan-smaller c).Else-one-ne0 in omega (arith, b.turns)
+loop-plan-smaller c = let b = loop-grown (goal.at.loop-plan-smaller c).In_ok-one in omega (arith, b.turns)
 
 pub loop-plan-preserved : goal.loop-plan-preserved
 loop-plan-preserved c =
-    let s = (goal.at.loop-plan-preserved c).Else-one-ne0 in
+    let s = (goal.at.loop-plan-preserved c).In_ok-one in
     let x = judged s in
     let l = (loop x).loop-plan.invariant in
     let A = arrays_of (loop x).over_arrays-plan.result in
     subst (λ (o : Operand). Loop (v (by (loop x))) (ss x) (length (ss x) / long (by (loop x))) (grown_by s o)
     × (arrays_of (grown_by s o) ≡ A)) (sym c.in_work.ensures)
-    (loop-grown s, arrays-same _ _ _ (p x) l.0 (below x) _ (answered x) c.if-one-ne0.false ∙ l.1)
+    (loop-grown s, arrays-same l.0 (below x) (one s) (said s) ∙ l.1)
 
 pub returns : goal.returns
 returns c =
     let s = (goal.at.returns c).At-loop-plan in
-    all-planned (R (by s)) (bs (by s)) (its s) (good (goal.at.returns c).After-over_arrays-plan)
+    all-planned (R (by s)) (bs (by s)) (good (goal.at.returns c).After-over_arrays-plan)
     (subst (λ (n : ℕ). Loop (v (by s)) (bs (by s)) (length (bs (by s)) / n) (its s)) (sized (by s)) c.loop-plan.invariant.0)
     (subst (λ (n : ℕ). length (bs (by s)) / n ≤ (its s).count) (sized (by s)) c.loop-plan-test.false) (over s)
 
@@ -230,7 +245,7 @@ pub bounds-s-base-in-loop-plan : goal.bounds-s-base-in-loop-plan
 bounds-s-base-in-loop-plan c = omega (arith, bytes-there (goal.at.bounds-s-base-in-loop-plan c).In-loop-plan)
 
 pub offset_bounds-plan-k : goal.offset_bounds-plan-k
-offset_bounds-plan-k c = let b = loop-grown (goal.at.offset_bounds-plan-k c).Else-one-ne0 in omega (arith, b.turns, b.few)
+offset_bounds-plan-k c = let b = loop-grown (goal.at.offset_bounds-plan-k c).In_ok-one in omega (arith, b.turns, b.few)
 
 pub bounds-plan-k : goal.bounds-plan-k
-bounds-plan-k c = let b = loop-grown (goal.at.bounds-plan-k c).Else-one-ne0 in omega (arith, b.turns, b.few)
+bounds-plan-k c = let b = loop-grown (goal.at.bounds-plan-k c).In_ok-one in omega (arith, b.turns, b.few)

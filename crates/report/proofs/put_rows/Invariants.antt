@@ -1,10 +1,6 @@
 -- `report::put_rows`: what its loops keep.
-use Rattle.std.proofs.Common.{◌-◌}
 use Rattle.report.specs.Rows.{LinesPut}
 use Rattle.report.proofs.put_rows.Given as goal
 
 abbrev pub invariant-loop-i : goal.invariant-loop-i
 invariant-loop-i l = LinesPut l.rows l.rank l.n l.initial.out l.initial.end l.out l.end l.i
-
-abbrev pub decreases-loop-i : goal.decreases-loop-i
-decreases-loop-i l = l.n - l.i

@@ -6,4 +6,4 @@ use Rattle.rma.proofs.rma_pack.Goals as goal
 pub returns : goal.returns
 returns c =
     let w = c.pack_heads.ensures in
-    (speaks number_bytes _ _ _ _ _ c.of_counted.ensures w.said c.give.ensures, w.wrote)
+    (speaks number_bytes _ _ _ _ _ c.reply_of.ensures w.said c.give.ensures, w.wrote)

@@ -8,7 +8,7 @@ use Rattle.rma.proofs.rma_page.Goals as goal
 pub returns : goal.returns
 returns c =
     let e = c.page-answer.ensures in (
-      speaks listed_bytes _ _ _ _ _ c.of_page.ensures (ap (λ (w : Paged). w.answer) e) c.give.ensures,
+      speaks listed_bytes _ _ _ _ _ c.reply_of.ensures (ap (λ (w : Paged). w.answer) e) c.give.ensures,
       ap (λ (w : Paged). w.work) e,
       ap (λ (w : Paged). w.rows) e,
     )

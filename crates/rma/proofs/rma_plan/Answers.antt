@@ -5,4 +5,4 @@ use Rattle.rma.proofs.rma_plan.Goals as goal
 
 pub returns : goal.returns
 returns c =
-    speaks foreseen_bytes _ _ _ _ _ c.of_plan.ensures c.plan.ensures c.give.ensures
+    speaks foreseen_bytes _ _ _ _ _ c.reply_of.ensures c.plan.ensures c.give.ensures

@@ -5,4 +5,4 @@ use Rattle.c_told.specs.Replies.{speaks}
 use Rattle.rma.proofs.rma_read.Goals as goal
 
 pub returns : goal.returns
-returns c = speaks number_bytes _ _ _ _ _ c.count_told.ensures refl c.give.ensures
+returns c = speaks number_bytes _ _ _ _ _ c.reply_of.ensures c.count_of.ensures c.give.ensures

@@ -4,5 +4,5 @@ use Rattle.c_told.specs.Replies.{speaks}
 use Rattle.rma.proofs.rma_refer.Goals as goal
 
 pub returns : goal.returns
-returns c = speaks encode _ _ _ _ _ c.of_reference.ensures
+returns c = speaks encode _ _ _ _ _ c.reply_of.ensures
     c.refer_bytes.ensures c.give.ensures

@@ -8,6 +8,6 @@ use Rattle.rma.proofs.rma_run.Goals as goal
 pub returns : goal.returns
 returns c =
     let e = c.run.ensures in (
-      speaks number_bytes _ _ _ _ _ c.of_counted.ensures (ap (λ (w : After). w.answer) e) c.give.ensures,
+      speaks number_bytes _ _ _ _ _ c.reply_of.ensures (ap (λ (w : After). w.answer) e) c.give.ensures,
       ap (λ (w : After). w.buffer) e,
     )

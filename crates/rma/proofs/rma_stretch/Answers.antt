@@ -7,5 +7,5 @@ use Rattle.rma.proofs.rma_stretch.Goals as goal
 pub returns : goal.returns
 returns c =
     let a = c.args in
-    speaks part_bytes _ _ _ _ _ c.of_stretch.ensures
+    speaks part_bytes _ _ _ _ _ c.reply_of.ensures
     (c.stretch_heads-answer.ensures.said a.left.now a.right.now refl refl) c.give.ensures

@@ -4,5 +4,5 @@ use Rattle.c_told.specs.Replies.{speaks}
 use Rattle.rma.proofs.rma_total.Goals as goal
 
 pub returns : goal.returns
-returns c = speaks total_bytes _ _ _ _ _ c.of_total.ensures
+returns c = speaks total_bytes _ _ _ _ _ c.reply_of.ensures
     c.total_asked.ensures c.give.ensures

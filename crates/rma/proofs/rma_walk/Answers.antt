@@ -6,4 +6,4 @@ use Rattle.rma.proofs.rma_walk.Goals as goal
 pub returns : goal.returns
 returns c =
     let w = c.walk_bytes.ensures in
-    (speaks seen_bytes _ _ _ _ _ c.of_walk.ensures w.0 c.give.ensures, w.1)
+    (speaks seen_bytes _ _ _ _ _ c.reply_of.ensures w.0 c.give.ensures, w.1)

@@ -6,4 +6,4 @@ use Rattle.rma.proofs.rma_write_json.Goals as goal
 pub returns : goal.returns
 returns c =
     let w = c.write.ensures in
-    (speaks number_bytes _ _ _ _ _ c.of_counted.ensures w.0 c.give.ensures, w.1)
+    (speaks number_bytes _ _ _ _ _ c.reply_of.ensures w.0 c.give.ensures, w.1)

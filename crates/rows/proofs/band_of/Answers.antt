@@ -12,10 +12,10 @@ module _ (c : After-pattern_of-p) where
   abbrev start : Start
   start = (goal.at.After-pattern_of-p c).Start
 
-  room : start.args.k + c.pattern_of-p.result.line ≤ cells (axes_of start.args.t)
+  room : start.args.k + c.pattern_of-p.result.line ≤ cells (axes_of start.args.w.now.t)
   room = line-room c.pattern_of-p.ensures
 
-  few : cells (axes_of start.args.t) ≤ most_cells
+  few : cells (axes_of start.args.w.now.t) ≤ most_cells
   few = start.requires.moving.result.few
 
 -- one run of it, and two

@@ -14,16 +14,16 @@ use Rattle.rows.proofs.pattern_of.Goals as goal
 use Rattle.rows.proofs.pattern_of.Goals.{After-cells_after, Start}
 
 -- the position of the detail, where it is read
-position : (s : Start) {x : ℕ} → x ≡ position_at s.args.step.at s.args.s.now
-    → x ≡ position_at 0 (part s.args.step.at (detail_of s.args.step) s.args.s.now)
-position s e = e ∙ position-there s.args.s.now s.args.step
+position : (s : Start) {x : ℕ} → x ≡ position_at s.args.w.now.step.at s.args.s.now
+    → x ≡ position_at 0 (part s.args.w.now.step.at (detail_of s.args.w.now.step) s.args.s.now)
+position s e = e ∙ position-there s.args.s.now s.args.w.now.step
 
 -- the cells that are left
 module _ (c : After-cells_after) where
   abbrev start : Start
   start = (goal.at.After-cells_after c).Start
 
-  left : c.cells_after.result - start.args.k ≡ cells (axes_of start.args.t) - start.args.k
+  left : c.cells_after.result - start.args.k ≡ cells (axes_of start.args.w.now.t) - start.args.k
   left = ap (λ (n : ℕ). n - start.args.k) c.cells_after.ensures.0
 
 pub cells_after-requires : goal.cells_after-requires
@@ -104,18 +104,18 @@ returns-in-Update c =
     rw (e, c.laid_lines.ensures) (over-again (λ j h. update-comes (moving-as e s.requires.moving) h) c.lines_of-in-Update.ensures)
 
 pub position_at-requires : goal.position_at-requires
-position_at-requires c = let s = start (goal.at.position_at-requires c).After-cells_after in position-asks s.args.step s.requires.holds
+position_at-requires c = let s = start (goal.at.position_at-requires c).After-cells_after in position-asks s.args.w.now.step s.requires.holds
 
 pub patch_of-requires : goal.patch_of-requires
 patch_of-requires c =
     let s = start (goal.at.patch_of-requires c).After-cells_after in
-    put-room (moving-as c.in-Put.is s.requires.moving) (axes-few s.args.a)
+    put-room (moving-as c.in-Put.is s.requires.moving) (axes-few s.args.w.now.a)
 
 pub lines_of-requires-in-Put : goal.lines_of-requires-in-Put
 lines_of-requires-in-Put c =
     let s = start (goal.at.lines_of-requires-in-Put c).After-cells_after in
     rw (c.patch_of.ensures, position s c.position_at.ensures)
-    (put-asks (moving-as c.in-Put.is s.requires.moving) s.requires.k_bound (axes-few s.args.a))
+    (put-asks (moving-as c.in-Put.is s.requires.moving) s.requires.k_bound (axes-few s.args.w.now.a))
 
 pub returns-in-Put : goal.returns-in-Put
 returns-in-Put c =

@@ -12,9 +12,9 @@ use Rattle.rows.proofs.run_length.Goals as goal
 use Rattle.rows.proofs.run_length.Goals.{Start}
 
 -- the position of the detail, where it is read
-position : (s : Start) {x : ℕ} → x ≡ position_at s.args.step.at s.args.s.now
-    → x ≡ position_at 0 (part s.args.step.at (detail_of s.args.step) s.args.s.now)
-position s e = e ∙ position-there s.args.s.now s.args.step
+position : (s : Start) {x : ℕ} → x ≡ position_at s.args.w.now.step.at s.args.s.now
+    → x ≡ position_at 0 (part s.args.w.now.step.at (detail_of s.args.w.now.step) s.args.s.now)
+position s e = e ∙ position-there s.args.s.now s.args.w.now.step
 
 pub side_by_side-requires : goal.side_by_side-requires
 unfolding result_axes
@@ -82,16 +82,16 @@ returns-in-Update c =
     (r.some, rw e (over-along (λ j h. update-comes (moving-as e c.requires.moving) h) r))
 
 pub position_at-requires : goal.position_at-requires
-position_at-requires c = position-asks c.args.step c.requires.holds
+position_at-requires c = position-asks c.args.w.now.step c.requires.holds
 
 pub patch_of-requires : goal.patch_of-requires
 patch_of-requires c =
-    put-room (moving-as c.in-Put.is c.requires.moving) (axes-few c.args.a)
+    put-room (moving-as c.in-Put.is c.requires.moving) (axes-few c.args.w.now.a)
 
 pub side_around-requires-in-Put : goal.side_around-requires-in-Put
 side_around-requires-in-Put c =
     rw (c.patch_of.ensures, position (goal.at.side_around-requires-in-Put c).Start c.position_at.ensures)
-    (put-asks (moving-as c.in-Put.is c.requires.moving) c.requires.k_bound (axes-few c.args.a))
+    (put-asks (moving-as c.in-Put.is c.requires.moving) c.requires.k_bound (axes-few c.args.w.now.a))
 
 pub returns-in-Put : goal.returns-in-Put
 returns-in-Put c =

@@ -1,11 +1,8 @@
 -- `totals::count_cells`: what its loops keep.
-use Rattle.std.proofs.Common.{◌+◌, ◌-◌, ◌≤◌, ◌≡◌, drop}
+use Rattle.std.proofs.Common.{◌+◌, ◌≤◌, ◌≡◌, drop}
 use Rattle.totals.specs.Cells.{cells_at, counted}
 use Rattle.totals.proofs.count_cells.Given as goal
 
 abbrev pub invariant-loop-i : goal.invariant-loop-i
 invariant-loop-i l =
-    (l.i ≤ l.n) × (l.count ≤ l.i) × (l.count + counted l.trues (drop l.i (cells_at l.s l.at l.kind l.n)) ≡ counted l.trues (cells_at l.s l.at l.kind l.n))
-
-abbrev pub decreases-loop-i : goal.decreases-loop-i
-decreases-loop-i l = l.n - l.i
+    (l.count ≤ l.i) × (l.count + counted l.trues (drop l.i (cells_at l.s l.at l.kind l.n)) ≡ counted l.trues (cells_at l.s l.at l.kind l.n))

@@ -1,7 +1,5 @@
 -- `values::run_steps` meets its contract: each event of the two loops has its law in specs/Done and specs/Runs.
-use Rattle.std.specs.Prelude.{Err}
-use Rattle.std.proofs.Common.{◌≡◌, ℕ, ◌+◌, ◌<◌, List, length, get_or, take, sym, refl, ap, ◌∙◌, subst, arith, length-take-le}
-use Rattle.paper.specs.declared.Refusal.{Refusal}
+use Rattle.std.proofs.Common.{◌≡◌, ℕ, ◌+◌, ◌<◌, List, length, get_or, take, sym, refl, ◌∙◌, subst, arith, length-take-le}
 use Rattle.paper.specs.declared.Work.{Work}
 use Rattle.paper.specs.declared.Operation.TheVariants.{Works}
 use Rattle.paper.specs.Limits.{word_bytes, scalar_at}
@@ -15,7 +13,7 @@ use Rattle.values.specs.declared.Turn.{Turn}
 use Rattle.values.specs.Done.{step_at, answer_to, Done, StepsDone, CellsDone, run-begins, step-begins, steps-long}
 use Rattle.values.specs.Turns.{pairing_of, Computes}
 use Rattle.values.specs.Found.{arrays_at, past, turn_in, begins-at, ready}
-use Rattle.values.specs.Runs.{InTurn, Asked, few-cells, keeps, room-all, ended, worked-at, worked-on, refuses, untouched, late}
+use Rattle.values.specs.Runs.{InTurn, Asked, few-cells, keeps, room-all, ended, worked-at, worked-on, refuses, untouched}
 use Rattle.values.proofs.run_steps.Goals as goal
 use Rattle.values.proofs.run_steps.Goals.{After-begin_cells-begun, After-computed-got, After-slot_of-in-steps, After-write_cell, At-cells, In-cells, In-steps, Start}
 
@@ -84,7 +82,7 @@ module _ (c : After-slot_of-in-steps) where
 
 pub steps-init : goal.steps-init
 steps-init c =
-    (omega arith, c.requires.setting.laid.few, run-begins _ _ _ c.requires.room, c.none-out.ensures)
+    (omega arith, c.requires.setting.laid.few, run-begins _ _ _ c.requires.room, refl)
 
 pub offset_bounds-plan-slot_of : goal.offset_bounds-plan-slot_of
 offset_bounds-plan-slot_of c = omega (arith, c.slot_of.ensures.1)
@@ -142,7 +140,7 @@ cells-init c =
     let s = (goal.at.cells-init c).After-begin_cells-begun in
     let y = turned (its s) _ (sofar (its s)).done in
     let m = c.begin_cells-begun.ensures.most in
-    (omega arith, m, few-cells y (begun s), omega (arith, room-all y (begun s), keeps y (begun s) m), refl, refl, λ X d v. v)
+    (omega (arith, m), omega (arith, m), few-cells y (begun s), omega (arith, room-all y (begun s), keeps y (begun s) m), refl, refl, λ X d v. v)
 
 pub slice_bounds-done-end-in-cells : goal.slice_bounds-done-end-in-cells
 slice_bounds-done-end-in-cells c = let l = c.cells in sym (length-take-le _ l.work (omega (arith, l.invariant.3)))
@@ -183,9 +181,9 @@ overflow_add-base c =
     let s = (goal.at.overflow_add-base c).After-computed-got in
     omega (arith, (head (turn s)).cells.invariant.3, kept s, (turn s).cells-test.true, (start (step s)).well_formed)
 
-pub refusal_of-out-requires : goal.refusal_of-out-requires
-refusal_of-out-requires c =
-    let s = (goal.at.refusal_of-out-requires c).After-computed-got in (
+pub refusal_of-requires : goal.refusal_of-requires
+refusal_of-requires c =
+    let s = (goal.at.refusal_of-requires c).After-computed-got in (
       omega (arith, (begins (step s)).steps.invariant.1, (begins (step s)).steps-test.true),
       omega (arith, (head (turn s)).cells.invariant.2, (turn s).cells-test.true),
     )
@@ -223,11 +221,7 @@ shape_of-work-after-steps c = steps-long c.steps.invariant.2
 pub returns-after-steps : goal.returns-after-steps
 returns-after-steps c =
     let v = c.steps.invariant in
-    let d = v.2 in
-    record {
-      done = λ z. record { turn = _; steps = d; all = omega (arith, steps-count c.requires.setting.laid, c.steps-test.false) };
-      stopped = λ h. absurd (h (ap (λ (r : Refusal). r.number) v.3));
-    }
+    rw v.3 (record { turn = _; steps = v.2; all = omega (arith, steps-count c.requires.setting.laid, c.steps-test.false) })
 
 pub shape_of-work-in-Err : goal.shape_of-work-in-Err
 shape_of-work-in-Err c = kept (goal.at.shape_of-work-in-Err c).After-computed-got
@@ -239,8 +233,9 @@ returns-in-Err c =
     let y = on (head (turn s)) in
     let f = fill (head (turn s)) in
     let t = (turn s).cells-test.true in
-    let e = ap Err c.refusal_of-out.ensures ∙ refuses y f w.0 w.1 (q s) w.2 t c.computed-got.result (gave s) _ c.in-Err.is in
-    record {
-      done = λ z. absurd (late _ _ _ e z);
-      stopped = λ h. record { is = sym e; long = kept s; rest = untouched y f w.0 w.1 (q s) w.2 t c.computed-got.result (gave s) };
-    }
+    rw c.refusal_of.ensures
+    (record {
+      is = sym (refuses y f w.0 w.1 (q s) w.2 t c.computed-got.result (gave s) _ c.in-Err.is);
+      long = kept s;
+      rest = untouched y f w.0 w.1 (q s) w.2 t c.computed-got.result (gave s);
+    })

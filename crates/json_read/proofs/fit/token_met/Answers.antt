@@ -7,13 +7,13 @@ use Rattle.json_read.proofs.Data.{data-met}
 use Rattle.json_read.proofs.fit.token_met.Goals as goal
 
 pub returns-in-Nothing : goal.returns-in-Nothing
-returns-in-Nothing c = subst (λ (r : Fit). TokenMet c.args.kind (axes_of c.args.e) c.args.s.now c.args.at c.args.begun c.args.depth c.args.fit c.args.out.now r c.args.out.now) (sym c.stop.ensures) (nothing-met c.args.kind (axes_of c.args.e) c.args.s.now c.args.at c.args.begun c.args.depth c.args.fit c.args.out.now c.requires.1 (sym c.sign_of-sign.ensures ∙ c.in-Nothing.is))
+returns-in-Nothing c = subst (λ (r : Fit). TokenMet c.args.kind (axes_of c.args.e) c.args.s.now c.args.at c.args.begun c.args.depth c.args.fit c.args.out.now r c.args.out.now) (sym c.stop.ensures) (nothing-met c.args.kind (axes_of c.args.e) c.args.s.now c.args.at c.args.begun c.args.depth c.args.fit c.args.out.now c.requires.1 (sym c.sign_of.ensures ∙ c.in-Nothing.is))
 
 pub returns-in-Comma : goal.returns-in-Comma
-returns-in-Comma c = comma-met c.args.kind (axes_of c.args.e) c.args.s.now c.args.at c.args.begun c.args.depth c.args.fit c.args.out.now c.requires.1 (sym c.sign_of-sign.ensures ∙ c.in-Comma.is)
+returns-in-Comma c = comma-met c.args.kind (axes_of c.args.e) c.args.s.now c.args.at c.args.begun c.args.depth c.args.fit c.args.out.now c.requires.1 (sym c.sign_of.ensures ∙ c.in-Comma.is)
 
 pub returns-in-Data : goal.returns-in-Data
-returns-in-Data c = data-met c.args.kind (axes_of c.args.e) c.args.s.now c.args.at c.args.begun c.args.depth c.args.fit c.args.out.now c.requires.1 (sym c.sign_of-sign.ensures ∙ c.in-Data.is) _ c.data_met.ensures
+returns-in-Data c = data-met c.args.kind (axes_of c.args.e) c.args.s.now c.args.at c.args.begun c.args.depth c.args.fit c.args.out.now c.requires.1 (sym c.sign_of.ensures ∙ c.in-Data.is) _ c.data_met.ensures
 
 pub returns-in-Other : goal.returns-in-Other
-returns-in-Other c = other-met c.args.kind (axes_of c.args.e) c.args.s.now c.args.at c.args.begun c.args.depth c.args.fit c.args.out.now c.requires.1 (sym c.sign_of-sign.ensures ∙ c.in-Other.is) _ _ c.other_met.ensures
+returns-in-Other c = other-met c.args.kind (axes_of c.args.e) c.args.s.now c.args.at c.args.begun c.args.depth c.args.fit c.args.out.now c.requires.1 (sym c.sign_of.ensures ∙ c.in-Other.is) _ _ c.other_met.ensures

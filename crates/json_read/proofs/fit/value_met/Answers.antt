@@ -9,7 +9,7 @@ pub write_cell-requires : goal.write_cell-requires
 write_cell-requires c = value_room c.args.kind (axes_of c.args.e) c.args.s.now c.args.at c.args.fit c.args.out.now c.requires.1
 
 pub returns-in-Some : goal.returns-in-Some
-returns-in-Some c = value-fits c.args.kind (axes_of c.args.e) c.args.s.now c.args.at c.args.fit c.args.out.now c.requires.1 _ _ c.write_cell.ensures _ c.cell_at-value.ensures c.in-Some.is _ c.fitting.ensures
+returns-in-Some c = value-fits c.args.kind (axes_of c.args.e) c.args.s.now c.args.at c.args.fit c.args.out.now c.requires.1 _ _ c.write_cell.ensures _ c.cell_at.ensures c.in-Some.is _ c.fitting.ensures
 
 pub returns-in-None : goal.returns-in-None
-returns-in-None c = subst (λ (r : Fit). Met c.args.kind (axes_of c.args.e) c.args.s.now c.args.at c.args.fit c.args.out.now r c.args.out.now) (sym c.misfit.ensures) (value-misfit c.args.kind (axes_of c.args.e) c.args.s.now c.args.at c.args.fit c.args.out.now c.requires.1 _ c.cell_at-value.ensures c.in-None.is)
+returns-in-None c = subst (λ (r : Fit). Met c.args.kind (axes_of c.args.e) c.args.s.now c.args.at c.args.fit c.args.out.now r c.args.out.now) (sym c.misfit.ensures) (value-misfit c.args.kind (axes_of c.args.e) c.args.s.now c.args.at c.args.fit c.args.out.now c.requires.1 _ c.cell_at.ensures c.in-None.is)

@@ -1,17 +1,20 @@
 -- `json_read::parts::begun_end` meets its contract: each by its reader.
+use Rattle.std.proofs.Common.{inl, inr}
 use Rattle.json_levels.specs.declared.Begun.TheVariants.{Nothing, Comma, Bracket, Name, Text, Minus, Zero, Digit, True, False, Null}
 use Rattle.json_read.specs.Parts.{begun-as, after_nothing, after-comma, after-bracket, after-name, after_text, after_minus, after-zero, after-digit}
 use Rattle.json_read.specs.Parts.{after-true, after-false, after-null}
 use Rattle.json_read.proofs.parts.begun_end.Goals as goal
 
 pub returns-in-Nothing : goal.returns-in-Nothing
-returns-in-Nothing c = begun-as c.args.s.now _ Nothing c.args.at _ c.in-Nothing.is (after_nothing c.args.s.now c.args.at c.requires)
-
-pub returns-in-Comma : goal.returns-in-Comma
-returns-in-Comma c = begun-as c.args.s.now _ Comma c.args.at _ c.in-Comma.is (after-comma c.args.s.now c.args.at c.requires)
-
-pub returns-in-Bracket : goal.returns-in-Bracket
-returns-in-Bracket c = begun-as c.args.s.now _ Bracket c.args.at _ c.in-Bracket.is (after-bracket c.args.s.now c.args.at c.requires)
+returns-in-Nothing c =
+    elim c.in-Nothing.is [
+      | inl e ↦ begun-as c.args.s.now _ Nothing c.args.at _ e (after_nothing c.args.s.now c.args.at c.requires)
+      | inr o ↦
+          elim o [
+            | inl e ↦ begun-as c.args.s.now _ Comma c.args.at _ e (after-comma c.args.s.now c.args.at c.requires)
+            | inr e ↦ begun-as c.args.s.now _ Bracket c.args.at _ e (after-bracket c.args.s.now c.args.at c.requires)
+          ]
+    ]
 
 pub returns-in-Name : goal.returns-in-Name
 returns-in-Name c = begun-as c.args.s.now _ Name c.args.at _ c.in-Name.is (after-name c.args.s.now c.args.at _ c.name_end.ensures)

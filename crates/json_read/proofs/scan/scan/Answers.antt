@@ -1,5 +1,5 @@
 -- `json_read::scan::scan` meets its contract: each turn of the loop leaves what the text comes to.
-use Rattle.std.proofs.Common.{◌∙◌, subst, sym, arith}
+use Rattle.std.proofs.Common.{◌∙◌, subst, sym, arith, refl}
 use borrow.Author.Tests.{not-true, not-false}
 use Rattle.paper.specs.Answers.{axes_of}
 use Rattle.json_read.specs.declared.fit.Fit.{Fit}
@@ -21,44 +21,17 @@ byte_turn-turn-requires c = (c.loop-at.invariant.standing, c.loop-at.invariant.o
 pub token_met-fit-requires : goal.token_met-fit-requires
 token_met-fit-requires c = (c.loop-at-test.true, c.loop-at.invariant.ready)
 
-pub is_stopped-requires : goal.is_stopped-requires
-is_stopped-requires c = tt
-
-pub shape_of-out-then-is_stopped : goal.shape_of-out-then-is_stopped
-shape_of-out-then-is_stopped c = c.token_met-fit.ensures.stored.ready.all_room ∙ sym c.requires.all_room
-
-pub returns-then-is_stopped : goal.returns-then-is_stopped
-returns-then-is_stopped c = not-json c.args.kind (axes_of c.args.e) c.args.s.now _ _ (turn_stopped c.args.kind (axes_of c.args.e) c.args.s.now c.loop-at.v c.loop-at.fit c.loop-at.at c.loop-at.out c.loop-at.invariant c.loop-at-test.true _ c.byte_turn-turn.ensures _ _ c.token_met-fit.ensures (sym c.is_stopped.ensures ∙ c.if-is_stopped.true))
-
 pub overflow_add-at : goal.overflow_add-at
 overflow_add-at c = omega (arith, c.loop-at-test.true, c.well_formed)
 
-pub begun_end-end-requires : goal.begun_end-end-requires
-begun_end-end-requires c = omega (arith, c.loop-at-test.true)
-
-pub overflow_add-result : goal.overflow_add-result
-overflow_add-result c = omega (arith, c.begun_end-end.ensures.within, c.well_formed)
-
-pub shape_of-out-then-not-end : goal.shape_of-out-then-not-end
-shape_of-out-then-not-end c = c.token_met-fit.ensures.stored.ready.all_room ∙ sym c.requires.all_room
-
-pub returns-then-not-end : goal.returns-then-not-end
-returns-then-not-end c = not-json c.args.kind (axes_of c.args.e) c.args.s.now _ _ (turn-unsound c.args.kind (axes_of c.args.e) c.args.s.now c.loop-at.v c.loop-at.fit c.loop-at.at c.loop-at.out c.loop-at.invariant c.loop-at-test.true _ c.byte_turn-turn.ensures _ _ c.token_met-fit.ensures (sym c.is_stopped.ensures ∙ c.if-is_stopped.false) _ c.begun_end-end.ensures (not-true _ c.if-not-end.true))
-
-pub blanks_end-at-requires-in-loop-at : goal.blanks_end-at-requires-in-loop-at
-blanks_end-at-requires-in-loop-at c = c.begun_end-end.ensures.within
-
-pub loop-at-smaller : goal.loop-at-smaller
-loop-at-smaller c = omega (arith, c.loop-at-test.true, c.blanks_end-at-in-loop-at.ensures.onward, c.blanks_end-at-in-loop-at.ensures.within, c.begun_end-end.ensures.onward)
-
-pub loop-at-preserved : goal.loop-at-preserved
-loop-at-preserved c = turn-again c.args.kind (axes_of c.args.e) c.args.s.now c.loop-at.v c.loop-at.fit c.loop-at.at c.loop-at.out c.loop-at.invariant c.loop-at-test.true _ c.byte_turn-turn.ensures _ _ c.token_met-fit.ensures (sym c.is_stopped.ensures ∙ c.if-is_stopped.false) _ c.begun_end-end.ensures (not-false _ c.if-not-end.false) _ c.blanks_end-at-in-loop-at.ensures
+pub begun_end-requires : goal.begun_end-requires
+begun_end-requires c = omega (arith, c.loop-at-test.true)
 
 pub is_ended-requires : goal.is_ended-requires
 is_ended-requires c = tt
 
-pub overflow_add-result-then-not-is_ended : goal.overflow_add-result-then-not-is_ended
-overflow_add-result-then-not-is_ended c = omega (arith, c.loop-at.invariant.within_text, c.well_formed)
+pub overflow_add-result : goal.overflow_add-result
+overflow_add-result c = omega (arith, c.in-Err.ensures.within, c.well_formed)
 
 pub shape_of-out-then-not-is_ended : goal.shape_of-out-then-not-is_ended
 shape_of-out-then-not-is_ended c = c.loop-at.invariant.ready.all_room ∙ sym c.requires.all_room
@@ -77,3 +50,21 @@ shape_of-out c = c.loop-at.invariant.ready.all_room ∙ sym c.requires.all_room
 
 pub returns : goal.returns
 returns c = end-closed c.args.kind (axes_of c.args.e) c.args.s.now c.loop-at.v c.loop-at.fit c.loop-at.at c.loop-at.out c.loop-at.invariant c.loop-at-test.false (sym c.is_ended.ensures ∙ not-false _ c.if-not-is_ended.false-raw) _ c.end_found.ensures
+
+pub returns-in-Some : goal.returns-in-Some
+returns-in-Some c =
+    not-json c.args.kind (axes_of c.args.e) c.args.s.now _ _
+    (turn_stopped c.args.kind (axes_of c.args.e) c.args.s.now c.loop-at.v c.loop-at.fit c.loop-at.at c.loop-at.out c.loop-at.invariant
+    c.loop-at-test.true _ c.byte_turn-turn.ensures _ _ c.token_met-fit.ensures _ (sym c.in-Some.ensures))
+
+pub returns-in-Err : goal.returns-in-Err
+returns-in-Err c =
+    not-json c.args.kind (axes_of c.args.e) c.args.s.now _ _
+    (turn-unsound c.args.kind (axes_of c.args.e) c.args.s.now c.loop-at.v c.loop-at.fit c.loop-at.at c.loop-at.out c.loop-at.invariant
+    c.loop-at-test.true _ c.byte_turn-turn.ensures _ _ c.token_met-fit.ensures (sym c.in_default.ensures) _ c.in-Err.ensures _ refl)
+
+pub loop-at-preserved : goal.loop-at-preserved
+loop-at-preserved c =
+    turn-again c.args.kind (axes_of c.args.e) c.args.s.now c.loop-at.v c.loop-at.fit c.loop-at.at c.loop-at.out c.loop-at.invariant
+    c.loop-at-test.true _ c.byte_turn-turn.ensures _ _ c.token_met-fit.ensures (sym c.in_default.ensures) _ c.in-Ok.ensures _ refl _
+    c.blanks_end-at-in-Ok.ensures

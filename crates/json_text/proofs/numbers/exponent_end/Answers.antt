@@ -1,13 +1,20 @@
 -- `json_text::numbers::exponent_end` meets its contract: an exponent or none.
-use Rattle.std.proofs.Common.{sym, ◌∙◌, arith}
+use Rattle.std.proofs.lemmas.Option.{MatchOption-at_none}
+use Rattle.paper.specs.Grammar.{these}
 use Rattle.json_text.specs.Numbers.{no-power-end, no_power, with-power}
+use Rattle.json_text.proofs.Read.{told_at}
 use Rattle.json_text.proofs.numbers.exponent_end.Goals as goal
 
-pub returns-then-at-s : goal.returns-then-at-s
-returns-then-at-s c = λ d g. no-power-end c.args.s.now c.args.at d g c.requires (omega (arith, c.if-at-s.true))
+pub returns-in-Some : goal.returns-in-Some
+returns-in-Some c =
+    λ d g. let b = c.in-Some.ensures.lookup.3 in
+    with-power _ _ d g b.0 (told_at (these "eE") c.args.s.now c.args.at _ _ _ (b.1 0) c.is_e.ensures c.if-is_e.true) _ c.power_end.ensures
 
-pub returns-then-is_e : goal.returns-then-is_e
-returns-then-is_e c = λ d g. with-power c.args.s.now c.args.at d g (omega (arith, c.if-at-s.false, c.requires)) (sym c.is_e.ensures ∙ c.if-is_e.true) _ c.power_end.ensures
+pub returns-in_default : goal.returns-in_default
+returns-in_default c =
+    λ d g. let b = c.in-Some.ensures.lookup.3 in
+    no_power _ _ d g b.0 (told_at (these "eE") c.args.s.now c.args.at _ _ _ (b.1 0) c.is_e.ensures c.if-is_e.false)
 
-pub returns : goal.returns
-returns c = λ d g. no_power c.args.s.now c.args.at d g (omega (arith, c.if-at-s.false, c.requires)) (sym c.is_e.ensures ∙ c.if-is_e.false)
+pub returns-in_default-2 : goal.returns-in_default-2
+returns-in_default-2 c =
+    λ d g. no-power-end _ _ d g c.requires (MatchOption-at_none _ _ c.in_default.is c.get.ensures.lookup.3)

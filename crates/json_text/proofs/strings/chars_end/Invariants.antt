@@ -1,4 +1,4 @@
--- `json_text::strings::chars_end`: what its loops keep.
+-- `json_text::strings::chars_end`: what its loop keeps.
 use Rattle.std.proofs.Common.{◌-◌, length}
 use Rattle.json_text.specs.Strings.{Plain}
 use Rattle.json_text.proofs.strings.chars_end.Given as goal

@@ -1,41 +1,30 @@
 -- `json_text::strings::further_end` meets its contract: the loop keeps that so many bytes are left, the next in its range.
-use Rattle.std.proofs.Common.{◌-◌, [], ◌∷◌}
-use Rattle.paper.specs.Grammar.{one, range}
+use Rattle.std.proofs.Common.{◌≡◌, ℕ, ◌+◌, [], subst, arith}
+use Rattle.std.specs.Prelude.{Ok}
+use Rattle.json_text.specs.Left.{Ends}
 use Rattle.json_text.specs.Bytes.{in-range}
-use Rattle.json_text.specs.Parts.{Going, going, going-as, all_read, byte-missing, byte-out, byte-in}
+use Rattle.json_text.specs.Parts.{going-as, all_read, byte-missing, byte-out, byte-in}
 use Rattle.json_text.specs.Strings.{spanned, spanned-next, spanned-none, range-low, range-high}
 use Rattle.json_text.proofs.strings.further_end.Goals as goal
-use Rattle.json_text.proofs.strings.further_end.Goals.{In-loop-left, Start}
-
-pub loop-left-init : goal.loop-left-init
-loop-left-init c = going _ _ _ c.requires
-
--- a byte is next
-module _ (c : In-loop-left) where
-  abbrev a : Start
-  a = record { before = c.before.before.before; type_inv = record { s = c.items_fit } }
-
-  next : Going a.args.s.now (spanned a.args.lead.0 a.args.lead.1 a.args.lead.2) a.args.at
-      (one (range c.loop-left.low c.loop-left.high) ∷ spanned (c.loop-left.left - 1) 0x80 0xbf) c.loop-left.i
-  next = going-as _ _ _ _ (spanned-next c.loop-left.left _ _ c.loop-left-test.true) c.loop-left.invariant
+use Rattle.json_text.proofs.strings.further_end.Goals.{In-loop-i, then-s-i-via-then-s-i, then-s-i-via-else-s-i+then-s-i-2, then-s-i-via-else-s-i+else-s-i-2+then-high-s}
 
 pub returns-then-s-i : goal.returns-then-s-i
-returns-then-s-i c = byte-missing _ _ _ _ _ _ (next (goal.at.returns-then-s-i c).In-loop-left) c.if-s-i.true
+returns-then-s-i c =
+    let n = going-as _ _ _ _ (spanned-next (c.args.at + c.from.result) c.loop-i.i _ _ c.loop-i-test.true) c.loop-i.invariant in
+    elim c.then-s-i.branch [
+      | then-s-i-via-then-s-i w ↦ byte-missing _ _ _ _ _ _ n w.if-s-i.true
+      | then-s-i-via-else-s-i+then-s-i-2 w ↦ byte-out _ _ _ _ _ _ n w.if-s-i.false (range-low _ _ _ w.if-s-i-2.true)
+      | then-s-i-via-else-s-i+else-s-i-2+then-high-s w ↦ byte-out _ _ _ _ _ _ n w.if-s-i.false (range-high _ _ _ w.if-high-s.true)
+    ]
 
-pub returns-then-b-low : goal.returns-then-b-low
-returns-then-b-low c =
-    byte-out _ _ _ _ _ _ (next (goal.at.returns-then-b-low c).In-loop-left) c.if-s-i.false (range-low _ _ _ c.if-b-low.true)
-
-pub returns-then-high-b : goal.returns-then-high-b
-returns-then-high-b c =
-    byte-out _ _ _ _ _ _ (next (goal.at.returns-then-high-b c).In-loop-left) c.if-s-i.false
-    (range-high _ _ _ c.if-high-b.true)
-
-pub loop-left-preserved : goal.loop-left-preserved
-loop-left-preserved c =
-    byte-in _ _ _ _ _ _ (next (goal.at.loop-left-preserved c).In-loop-left) c.if-s-i.false
-    (in-range _ _ _ [] c.if-b-low.false c.if-high-b.false)
+pub loop-i-preserved : goal.loop-i-preserved
+loop-i-preserved c =
+    let n = going-as _ _ _ _ (spanned-next (c.args.at + c.from.result) c.loop-i.i _ _ c.loop-i-test.true) c.loop-i.invariant in
+    byte-in _ _ _ _ _ _ n c.if-s-i.false (in-range _ _ _ [] c.if-s-i-2.false c.if-high-s.false)
 
 pub returns : goal.returns
 returns c =
-    all_read _ _ _ _ (going-as _ _ _ _ (spanned-none c.loop-left.left _ _ c.loop-left-test.false) c.loop-left.invariant)
+    let q : c.loop-i.i ≡ c.args.at + c.from.result = omega (arith, c.loop-i.auto.i-end) in
+    let l = c.args.lead in
+    subst (λ (m : ℕ). Ends c.args.s.now (spanned l.0 l.1 l.2) c.args.at (Ok m)) q
+    (all_read _ _ _ _ (going-as _ _ _ _ (spanned-none (c.args.at + c.from.result) _ _ _ c.loop-i-test.false) c.loop-i.invariant))

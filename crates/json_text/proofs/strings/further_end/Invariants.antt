@@ -1,10 +1,8 @@
--- `json_text::strings::further_end`: what its loops keep.
+-- `json_text::strings::further_end`: what its loop keeps: so many bytes are left, the next in its range.
+use Rattle.std.proofs.Common.{◌-◌}
 use Rattle.json_text.specs.Parts.{Going}
 use Rattle.json_text.specs.Strings.{spanned}
 use Rattle.json_text.proofs.strings.further_end.Given as goal
 
-abbrev pub invariant-loop-left : goal.invariant-loop-left
-invariant-loop-left l = Going l.s (spanned l.initial.left l.initial.low l.initial.high) l.at (spanned l.left l.low l.high) l.i
-
-abbrev pub decreases-loop-left : goal.decreases-loop-left
-decreases-loop-left l = l.left
+abbrev pub invariant-loop-i : goal.invariant-loop-i
+invariant-loop-i l = Going l.s (spanned l.further l.initial.low l.initial.high) l.at (spanned (l.end - l.i) l.low l.high) l.i

@@ -1,24 +1,8 @@
--- `operators::operators::lt` meets its contract: each arm is what the paper says of two such cells. Assumes nothing.
-use Rattle.std.proofs.Common.{rules, refl, ◌∙◌}
-use borrow.Author.Rules.{sfits_of}
-use Rattle.operators.proofs.Arms.{arm, ints-arm, compared-last}
-use Rattle.paper.specs.Operators.{compared, applied}
-use Rattle.paper.specs.declared.PairOp.TheVariants.{Lt}
+-- `operators::operators::lt` meets its contract: two cells are below or not.
+use Rattle.std.proofs.Common.{rules}
+use Rattle.paper.specs.Operators.{applied}
 use Rattle.operators.proofs.operators.lt.Goals as goal
 
-pub returns-in-Ints : goal.returns-in-Ints
-unfolding applied compared
-returns-in-Ints c = ints-arm Lt _ _ c.both.ensures c.in-Ints.is refl
-    (sfits_of (search rules)) (sfits_of (search rules))
-
-pub returns-in-Floats : goal.returns-in-Floats
-unfolding applied compared
-returns-in-Floats c = arm Lt _ _ c.both.ensures c.in-Floats.is
-
-pub returns-in-Truths : goal.returns-in-Truths
-unfolding applied compared
-returns-in-Truths c = arm Lt _ _ c.both.ensures c.in-Truths.is
-
-pub returns-in_default : goal.returns-in_default
-unfolding applied compared
-returns-in_default c = compared-last _ _ _ c.both.result c.in_default.in_default-own.keys4 ∙ arm Lt _ _ c.both.ensures refl
+pub returns : goal.returns
+unfolding applied
+returns c = c.compared.ensures _ _ _ (λ x y r p. search rules) (λ x y r p. search rules) (λ x y r p. search rules)

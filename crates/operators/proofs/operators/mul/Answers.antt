@@ -1,21 +1,7 @@
--- `operators::operators::mul` meets its contract: each arm is what the paper says of two such cells. Assumes nothing.
-use Rattle.std.proofs.Common.{rules, refl, ◌∙◌}
-use borrow.Author.Rules.{sfits_of}
-use Rattle.operators.proofs.Arms.{arm, ints-arm, worked-last}
-use Rattle.paper.specs.Operators.{worked, applied}
-use Rattle.paper.specs.declared.PairOp.TheVariants.{Mul}
-use borrow.Enum.Refused.{opened}
+-- `operators::operators::mul` meets its contract: INT and FLOAT multiply.
+use Rattle.paper.specs.Operators.{applied}
 use Rattle.operators.proofs.operators.mul.Goals as goal
 
-pub returns-in-Ints : goal.returns-in-Ints
-unfolding applied worked
-returns-in-Ints c = ints-arm Mul _ _ c.both.ensures c.in-Ints.is c.int_mul.ensures
-    (sfits_of (search rules)) (sfits_of (search rules))
-
-pub returns-in-Floats : goal.returns-in-Floats
-unfolding applied worked
-returns-in-Floats c = c.float_mul.ensures ∙ arm Mul _ _ c.both.ensures c.in-Floats.is
-
-pub returns-in_default : goal.returns-in_default
-unfolding applied worked
-returns-in_default c = worked-last _ _ c.both.result (opened c.in_default.in_default-own.keys3) ∙ arm Mul _ _ c.both.ensures refl
+pub returns : goal.returns
+unfolding applied
+returns c = c.worked.ensures _ _ (λ x y r p. p) (λ x y r p. p)

@@ -1,11 +1,10 @@
 -- `recipe::steps::plan_step` meets its contract.
-use Rattle.std.specs.Prelude.{Some}
-use Rattle.std.proofs.Common.{◌+◌, ◌^◌, ◌≤◌, ◌<◌, ◌≡◌, ap, ◌∙◌, length, arith}
+use Rattle.std.proofs.Common.{◌+◌, ◌^◌, ◌≤◌, ◌<◌, length, arith}
 use Rattle.paper.specs.Limits.{head_bytes, scalar_at}
 use Rattle.laws.specs.Sizes.{fits}
-use Rattle.recipe.specs.Stepped.{stopped, step-unknown, step-known}
+use Rattle.recipe.specs.Stepped.{step-unknown, step-known}
 use Rattle.recipe.proofs.steps.plan_step.Goals as goal
-use Rattle.recipe.proofs.steps.plan_step.Goals.{After-operation_of-got, After-shared_slice_known-1, After-shared_slice_known-in-Some-3-1, Start}
+use Rattle.recipe.proofs.steps.plan_step.Goals.{After-shared_slice_known-1}
 
 -- the bytes before the detail, and some of it, lie in the recipe
 room : (c : After-shared_slice_known-1) → (c.args.base + head_bytes + scalar_at ≤ length c.args.s.now)
@@ -15,38 +14,20 @@ room c = let f = fits c.args.v in (
   omega (arith, c.shared_slice_known-1.given 0),
 )
 
-module _ (c : After-operation_of-got) where
-  abbrev start : Start
-  start = c.before.before.before.before.before
-
--- the operation is known
-module _ (c : After-shared_slice_known-in-Some-3-1) where
-  abbrev called : After-operation_of-got
-  called = record { before = c.before.before.before.before.before; type_inv = record { s = c.shared_slice_known-3-1.given } }
-
-  told : called.operation_of-got.result ≡ Some c.in-Some.operation
-  told = c.in-Some.is
-
 pub judge-requires : goal.judge-requires
 judge-requires c =
-    let v = start (called c) in
-    let f = fits v.args.v in
-    record { fitting = v.requires.fitting; fitting_2 = v.requires.fitting_2; holds = record { room = omega (arith, v.requires.v_in_bounds, f.step) } }
+    let f = fits c.args.v in
+    record { fitting = c.requires.fitting; fitting_2 = c.requires.fitting_2; holds = record { room = omega (arith, c.requires.v_in_bounds, f.step) } }
 
-pub returns-in-Some : goal.returns-in-Some
-returns-in-Some c =
-    let s = (goal.at.returns-in-Some c).After-shared_slice_known-in-Some-3-1 in
-    let x = called s in
-    let p = (start x).args in
-    step-known p.s.now p.base p.v p.a p.b p.at p.k.0 c.judge.result _ x.operation_of-got.ensures _
-    (told s) c.judge.ensures
+pub returns-in_default : goal.returns-in_default
+returns-in_default c =
+    let p = c.args in
+    rw c.refuse.ensures (step-unknown p.s.now p.base p.v p.a p.b p.at p.k.0 c.in_default.ensures)
 
-pub returns-in-None : goal.returns-in-None
-returns-in-None c =
-    let p = (start (goal.at.returns-in-None c).After-operation_of-got).args in
-    step-unknown p.s.now p.base p.v p.a p.b p.at p.k.0 c.refused_step.result _ c.operation_of-got.ensures
-    c.in-None.is
-    (c.refused_step.ensures ∙ ap stopped c.refuse.ensures)
+pub returns : goal.returns
+returns c =
+    let p = c.args in
+    step-known p.s.now p.base p.v p.a p.b p.at p.k.0 c.in-Some.operation c.in-Some.ensures c.judge.result c.judge.ensures
 
 pub bounds-s-base : goal.bounds-s-base
 bounds-s-base c = omega (arith, room (goal.at.bounds-s-base c).After-shared_slice_known-1)
@@ -60,20 +41,11 @@ bounds-s-base-2 c = omega (arith, room (goal.at.bounds-s-base-2 c).After-shared_
 pub overflow_add-step : goal.overflow_add-step
 overflow_add-step c = omega (arith, room (goal.at.overflow_add-step c).After-shared_slice_known-1)
 
-pub bounds-s-base-in-Some : goal.bounds-s-base-in-Some
-bounds-s-base-in-Some c = omega (arith, room (goal.at.bounds-s-base-in-Some c).After-shared_slice_known-1)
+pub bounds-s-base-3 : goal.bounds-s-base-3
+bounds-s-base-3 c = omega (arith, room (goal.at.bounds-s-base-3 c).After-shared_slice_known-1)
 
-pub overflow_add-step-in-Some : goal.overflow_add-step-in-Some
-overflow_add-step-in-Some c = omega (arith, room (goal.at.overflow_add-step-in-Some c).After-shared_slice_known-1)
+pub bounds-s-base-4 : goal.bounds-s-base-4
+bounds-s-base-4 c = omega (arith, room (goal.at.bounds-s-base-4 c).After-shared_slice_known-1)
 
-pub bounds-s-base-in-Some-2 : goal.bounds-s-base-in-Some-2
-bounds-s-base-in-Some-2 c = omega (arith, room (goal.at.bounds-s-base-in-Some-2 c).After-shared_slice_known-1)
-
-pub overflow_add-step-in-Some-2 : goal.overflow_add-step-in-Some-2
-overflow_add-step-in-Some-2 c = omega (arith, room (goal.at.overflow_add-step-in-Some-2 c).After-shared_slice_known-1)
-
-pub bounds-s-base-in-Some-3 : goal.bounds-s-base-in-Some-3
-bounds-s-base-in-Some-3 c = omega (arith, room (goal.at.bounds-s-base-in-Some-3 c).After-shared_slice_known-1)
-
-pub overflow_add-step-in-Some-3 : goal.overflow_add-step-in-Some-3
-overflow_add-step-in-Some-3 c = omega (arith, room (goal.at.overflow_add-step-in-Some-3 c).After-shared_slice_known-1)
+pub bounds-s-base-5 : goal.bounds-s-base-5
+bounds-s-base-5 c = omega (arith, room (goal.at.bounds-s-base-5 c).After-shared_slice_known-1)

@@ -9,8 +9,8 @@ pub returns-then-j-k : goal.returns-then-j-k
 returns-then-j-k c =
     (rw (c.in-OtherNames.is, lt-ltb _ _ c.if-j-k.true), omega (arith, c.requires))
 
-pub returns-in-OtherNames : goal.returns-in-OtherNames
-returns-in-OtherNames c =
+pub returns-else-j-k : goal.returns-else-j-k
+returns-else-j-k c =
     (rw (c.in-OtherNames.is, le-ltb _ _ c.if-j-k.false), omega (arith, c.requires))
 
 pub returns-in-Limits : goal.returns-in-Limits

@@ -31,9 +31,9 @@ returns-then-not-one c =
     let e = c.in-Works.is in
     and_no _ _ (sym (one s _ e) ∙ not-true _ c.if-not-one.true-raw) ∙ told s _ e
 
-pub returns-in-Works : goal.returns-in-Works
+pub returns-else-not-one : goal.returns-else-not-one
 unfolding types_fit
-returns-in-Works c =
-    let s = (goal.at.returns-in-Works c).After-one_type-one in
+returns-else-not-one c =
+    let s = (goal.at.returns-else-not-one c).After-one_type-one in
     let e = c.in-Works.is in
     c.takes_type.ensures ∙ and_yes _ _ (sym (one s _ e) ∙ not-false _ c.if-not-one.false-raw) ∙ told s _ e

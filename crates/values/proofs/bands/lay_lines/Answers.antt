@@ -1,5 +1,5 @@
 -- `values::bands::lay_lines` meets its contract: line after line, each by three runs.
-use Rattle.std.proofs.Common.{ℕ, ◌+◌, ◌*◌, ◌≤◌, List, length, arith}
+use Rattle.std.proofs.Common.{refl, ℕ, ◌+◌, ◌*◌, ◌≤◌, List, length, arith}
 use Rattle.paper.specs.Limits.{cell_bytes}
 use Rattle.rows.specs.declared.Band.{Band}
 use Rattle.rows.specs.Bands.{line_of}
@@ -39,7 +39,7 @@ module _ (c : In-loop-r) where
   Asked = Laying start.args.bundle.now start.args.work.now start.args.at start.args.a start.args.b w
 
   abbrev r : ℕ
-  r = c.loop-r.r
+  r = c.loop-r._r
 
   -- so many cells into the line
   abbrev Upto : ℕ → List ℕ → Type 0
@@ -128,17 +128,12 @@ overflow_add-place-in-loop-r-2 c =
     let i = i3 (goal.at.overflow_add-place-in-loop-r-2 c).After-lay_run-in-loop-r in
     omega (arith, room i, i.loop-r.invariant.2, (start i).well_formed)
 
-pub overflow_add-r : goal.overflow_add-r
-overflow_add-r c =
-    let i = i3 (goal.at.overflow_add-r c).After-lay_run-in-loop-r in
-    omega (arith, lines-few (start i).requires (r i) i.loop-r-test.true, (start i).well_formed)
-
 pub loop-r-preserved : goal.loop-r-preserved
 loop-r-preserved c =
     let s = (goal.at.loop-r-preserved c).After-lay_run-in-loop-r in
     let i = i3 s in
-    line-laid i.loop-r.invariant (start i).requires i.loop-r-test.true (omega arith) c.wrapping_add_usize-x.ensures.value
-    c.wrapping_add_usize-y.ensures.value (line-done s)
+    line-laid i.loop-r.invariant (start i).requires i.loop-r-test.true (omega arith) refl
+    refl (line-done s)
 
 pub loop-r-init : goal.loop-r-init
 loop-r-init c = no_line

@@ -1,5 +1,5 @@
 -- `values::bands::lay_one_run` meets its contract: line after line, each by one run.
-use Rattle.std.proofs.Common.{◌≡◌, ℕ, ◌+◌, ◌*◌, ◌≤◌, length, arith}
+use Rattle.std.proofs.Common.{refl, ◌≡◌, ℕ, ◌+◌, ◌*◌, ◌≤◌, length, arith}
 use Rattle.paper.specs.Limits.{cell_bytes}
 use Rattle.rows.specs.declared.Band.{Band}
 use Rattle.rows.specs.Bands.{line_of}
@@ -27,7 +27,7 @@ module _ (c : In-loop-r) where
   asked = start.requires.laying
 
   abbrev r : ℕ
-  r = c.loop-r.r
+  r = c.loop-r._r
 
   abbrev place : ℕ
   place = c.loop-r.place
@@ -62,17 +62,12 @@ module _ (c : After-lay_cells) where
 pub overflow_add-place : goal.overflow_add-place
 overflow_add-place c = let i = i1 (goal.at.overflow_add-place c).After-lay_cells in omega (arith, room i, (start i).well_formed)
 
-pub overflow_add-r : goal.overflow_add-r
-overflow_add-r c =
-    let i = i1 (goal.at.overflow_add-r c).After-lay_cells in
-    omega (arith, lines-few (asked i) (r i) i.loop-r-test.true, (start i).well_formed)
-
 pub loop-r-preserved : goal.loop-r-preserved
 loop-r-preserved c =
     let s = (goal.at.loop-r-preserved c).After-lay_cells in
     let i = i1 s in
     line-laid i.loop-r.invariant (asked i) i.loop-r-test.true (omega (arith, (start i).requires.length_value))
-    c.wrapping_add_usize-later_a.ensures.value c.wrapping_add_usize-later_b.ensures.value (line-done s)
+    refl refl (line-done s)
 
 pub loop-r-init : goal.loop-r-init
 loop-r-init c = no_line

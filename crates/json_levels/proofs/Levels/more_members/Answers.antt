@@ -1,0 +1,13 @@
+-- `json_levels::Levels::more_members` meets its contract: each byte by its rule.
+use Rattle.std.proofs.Common.{arith}
+use Rattle.json_levels.specs.Begins.{told, members-comma, members-closed, members-none}
+use Rattle.json_levels.proofs.Levels.more_members.Goals as goal
+
+pub returns-in-44 : goal.returns-in-44
+returns-in-44 c = told _ c.begun.ensures (members-comma c.args.self.depth c.args.self.bits c.requires.0 c.requires.1 c.args.b c.in-44.is)
+
+pub returns-in-125 : goal.returns-in-125
+returns-in-125 c = told _ c.closed.ensures (members-closed c.args.self.depth c.args.self.bits c.requires.0 c.requires.1 c.args.b c.in-125.is)
+
+pub returns-in_default : goal.returns-in_default
+returns-in_default c = told _ c.nothing.ensures (members-none c.args.self.depth c.args.self.bits c.requires.0 c.requires.1 c.args.b c.requires.2 (λ e. absurd (omega arith)) (λ e. absurd (omega arith)))

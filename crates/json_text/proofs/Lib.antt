@@ -1,0 +1,2 @@
+-- What the proofs share.
+pub mod Read
