@@ -1,5 +1,5 @@
 -- The laws of `fit_int`, `eq_z` and `int_by`: a value that fits an i64 is itself, one above or below is refusal 12. Assumes nothing.
-use Rattle.std.proofs.Common.{◌≡◌, ◌^◌, ◌<◌, ◌≤◌, Bool, true, false, ◌&&◌, ℤ, pos, negsuc, sym, refl, ap, ◌∙◌, arith, to_z-of_z, w64, SFits, to_z, of_z}
+use Rattle.std.proofs.Common.{◌≡◌, ◌^◌, ◌<◌, ◌≤◌, Bool, true, false, ◌&&◌, ℤ, pos, negsuc, nat_abs, sym, refl, ap, ◌∙◌, arith, to_z-of_z, w64, SFits, to_z, of_z}
 use lib.Signed.{le_z}
 use Rattle.std.specs.Prelude.{FitsSigned, SomeIff, int_div, Ok, Err}
 use Rattle.paper.specs.declared.Fault.TheVariants.{ByZero, NoFit}
@@ -25,6 +25,11 @@ fit_low z h = simp (no_le smallest_int z (omega (arith, one-part z)))
 -- the value that the machine hands back, read from its bits
 pub fit-back : (z : ℤ) → SFits w64 z → Ok (Int (to_z w64 (of_z w64 z))) ≡ fit_int z
 fit-back z f = ap (λ (y : ℤ). Ok (Int y)) (to_z-of_z f) ∙ sym (fit-yes z f)
+
+-- by the magnitude alone
+pub fit-over : (z : ℤ) → 2 ^ 63 < nat_abs z → fit_int z ≡ Err NoFit
+fit-over (pos n) h = fit-high (pos n) (omega arith)
+fit-over (negsuc n) h = fit_low (negsuc n) (omega arith)
 
 -- one that doesn't fit
 fit-not : (z : ℤ) → (SFits w64 z → ⊥) → fit_int z ≡ Err NoFit

@@ -1,7 +1,8 @@
 // INT: each result is the whole number, or refusal 12 where it doesn't fit, or 13 (paper, Operators).
-ghost use Rattle.std.specs.Prelude.{◌≡◌, ℤ, pos, ◌+ℤ◌, ◌-ℤ◌, ◌*ℤ◌, neg_ℤ, int_div, int_rem, unsigned_abs, FitsSigned, SomeIff};
+ghost use Rattle.std.specs.Prelude.{◌≡◌, ◌*◌, ◌^◌, ◌&&◌, ℤ, pos, ◌+ℤ◌, ◌-ℤ◌, ◌*ℤ◌, neg_ℤ, int_div, int_rem, nat_le, nat_lt, unsigned_abs, FitsSigned, SomeIff};
 ghost use Rattle.std.specs.Int.{w64};
 ghost use Rattle.paper.specs.Operators.{fit_int, int_by, eq_z};
+ghost use Rattle.laws.specs.Parts.{up, dn};
 ghost use Rattle.cell.specs.Signs.{signs_apart};
 
 use paper::{Cell, Fault};
@@ -11,6 +12,17 @@ pub fn magnitude(a: i64) -> u64
     ensures { result ≡ unsigned_abs a }
 {
     a.unsigned_abs()
+}
+
+// Whether m * n is 2 ^ 64 or more. (LLVM makes one multiplication of the test, and no division.)
+pub fn product_over(m: u64, n: u64) -> bool
+    ensures { result ≡ nat_le (2 ^ 64) (m * n) }
+{
+    if m == 0 {
+        false
+    } else {
+        18446744073709551615 / m < n
+    }
 }
 
 // A result that was checked: the whole number, or refusal 12 where it doesn't fit.
@@ -67,13 +79,44 @@ pub fn int_neg(a: i64) -> Result<Cell, Fault>
 pub fn int_abs(a: i64) -> Result<Cell, Fault>
     ensures { result ≡ fit_int (pos (unsigned_abs a)) }
 {
-    fitting(a.checked_abs())
+    if a >= 0 { Ok(Cell::Int(a)) } else { int_neg(a) }
 }
 
+// A number of 32 bits: the product of two such always fits.
+fn small(a: i64) -> bool
+    ensures { result ≡ (nat_le (dn a) (2 ^ 31) && nat_lt (up a) (2 ^ 31)) }
+{
+    if a < -2147483648 {
+        return false;
+    }
+    a <= 2147483647
+}
+
+// Two numbers of 32 bits at once. Others by the magnitudes: below 2 ^ 63 the product fits whatever its sign, above it never does, and at
+// 2 ^ 63 it is the smallest number if the signs differ.
 pub fn int_mul(a: i64, b: i64) -> Result<Cell, Fault>
     ensures { result ≡ fit_int (a *ℤ b) }
 {
-    fitting(a.checked_mul(b))
+    if small(a) && small(b) {
+        return Ok(Cell::Int(a * b));
+    }
+    let m = magnitude(a);
+    let n = magnitude(b);
+    if product_over(m, n) {
+        return Err(Fault::NoFit);
+    }
+    let p = m * n;
+    if p < 9223372036854775808 {
+        Ok(Cell::Int(a * b))
+    } else if p == 9223372036854775808 {
+        if (a < 0) == (b < 0) {
+            Err(Fault::NoFit)
+        } else {
+            Ok(Cell::Int(i64::MIN))
+        }
+    } else {
+        Err(Fault::NoFit)
+    }
 }
 
 pub fn int_div(a: i64, b: i64) -> Result<Cell, Fault>

@@ -89,16 +89,27 @@ pub fn ne(a: Cell, b: Cell) -> Result<Cell, Fault>
     compared(a, b, |x, y| !int_eq(x, y), |x, y| x != y, |x, y| x != y)
 }
 
+// These two are not told by `compared`: by it the quick loop has a branch at each mark, and here it has none.
 pub fn lt(a: Cell, b: Cell) -> Result<Cell, Fault>
     ensures { result ≡ pair_cell Lt a b }
 {
-    compared(a, b, |x, y| x < y, |x, y| x < y, |_, _| false)
+    Ok(match both(a, b) {
+        Two::Ints(x, y) => Cell::Truth(x < y),
+        Two::Floats(x, y) => Cell::Truth(x < y),
+        Two::Truths(_, _) => Cell::Truth(false),
+        _ => Cell::Empty,
+    })
 }
 
 pub fn le(a: Cell, b: Cell) -> Result<Cell, Fault>
     ensures { result ≡ pair_cell Le a b }
 {
-    compared(a, b, |x, y| x <= y, |x, y| x <= y, |_, _| false)
+    Ok(match both(a, b) {
+        Two::Ints(x, y) => Cell::Truth(x <= y),
+        Two::Floats(x, y) => Cell::Truth(x <= y),
+        Two::Truths(_, _) => Cell::Truth(false),
+        _ => Cell::Empty,
+    })
 }
 
 pub fn gt(a: Cell, b: Cell) -> Result<Cell, Fault>

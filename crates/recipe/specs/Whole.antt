@@ -411,6 +411,11 @@ pub record Made (R : Reading) (s : List ℕ) (p : Plan) : Type 0 where
   pub arrays : arrays_of p ≡ arrays_in R
   pub version : p.version ≡ R.version
 
+-- an answer with the plan that was lent: this plan, or the refusal
+abbrev pub lent : Res (Unit {0}) → Plan → Res Plan
+lent (Ok u) p = Ok p
+lent (Err x) p = Err x
+
 -- the same, or the refusal
 abbrev pub PlannedAll : Reading → List ℕ → Res Plan → Type 0
 PlannedAll R s (Ok p) = Made R s p

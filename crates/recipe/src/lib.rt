@@ -8,7 +8,7 @@ pub mod steps;
 ghost use Rattle.std.specs.Prelude.{◌≡◌, eqb, ◌&&◌, ◌/◌, ◌%◌, ◌<◌};
 ghost use Rattle.paper.specs.Limits.{most_steps};
 ghost use Rattle.paper.specs.Refusals.{between};
-ghost use Rattle.recipe.specs.Whole.{empty_plan, GoodArrays, Begun, PlannedAll};
+ghost use Rattle.recipe.specs.Whole.{empty_plan, lent, GoodArrays, Begun, PlannedAll};
 
 use crate::operands::{in_work, no_operand, slot_of};
 use crate::steps::{no_step, plan_step};
@@ -41,30 +41,25 @@ pub struct Plan {
 // ---- no step yet
 
 // No step planned, and nothing to name.
-fn empty_plan(version: Version) -> Plan
+pub fn empty_plan(version: Version) -> Plan
     ensures { result ≡ empty_plan version }
 {
-    let step = no_step();
-    let operand = no_operand(false);
-    let steps = [step; STEPS];
-    let operands = [operand; ARRAYS + STEPS + 1];
     Plan {
         version,
         arrays: 0,
         count: 0,
         cells: 0,
-        steps,
-        operands,
+        steps: [no_step(); STEPS],
+        operands: [no_operand(false); ARRAYS + STEPS + 1],
     }
 }
 
-// No step planned yet over the bundle's arrays.
-fn over_arrays(reading: Reading) -> Plan
+// No step planned yet over the bundle's arrays, whatever was planned before.
+fn over_arrays(reading: Reading, plan: &mut Plan)
     requires { GoodArrays reading }
-    ensures { Begun reading result × (result.arrays ≡ reading.count) }
+    ensures { Begun reading plan.new × (plan.new.arrays ≡ reading.count) }
 {
-    let version = reading.version;
-    let mut plan = empty_plan(version);
+    *plan = empty_plan(reading.version);
     while plan.arrays < reading.count {
         let j = plan.arrays;
         let next = j + 1;
@@ -75,7 +70,6 @@ fn over_arrays(reading: Reading) -> Plan
         };
         plan.arrays = next;
     }
-    plan
 }
 
 // ---- the recipe
@@ -91,10 +85,11 @@ fn good_length(n: usize, step: usize) -> bool
     in_range(n / step, STEPS)
 }
 
-// The recipe's steps planned over a bundle's arrays, or the first refusal.
-pub fn plan_recipe(reading: Reading, s: &[u8]) -> Result<Plan, Refusal>
+// The recipe's steps planned over a bundle's arrays, in the plan that is lent, or the first refusal. A plan is large: answered, and not
+// lent, it would be cleared and copied at each call on the way.
+pub fn plan_recipe(reading: Reading, s: &[u8], plan: &mut Plan) -> Result<(), Refusal>
     requires { GoodArrays reading }
-    ensures { PlannedAll reading s.now result }
+    ensures { PlannedAll reading s.now (lent result plan.new) }
 {
     let v = reading.version;
     let z = sizes(v);
@@ -103,7 +98,7 @@ pub fn plan_recipe(reading: Reading, s: &[u8]) -> Result<Plan, Refusal>
         return Err(refuse(4, 0));
     }
     let n = s.len() / long;
-    let mut plan = over_arrays(reading);
+    over_arrays(reading, plan);
     while plan.count < n {
         let k = plan.count;
         let next = k + 1;
@@ -123,5 +118,5 @@ pub fn plan_recipe(reading: Reading, s: &[u8]) -> Result<Plan, Refusal>
         plan.cells = plan.cells + one.result.cells;
         plan.count = next;
     }
-    Ok(plan)
+    Ok(())
 }

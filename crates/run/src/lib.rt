@@ -7,6 +7,7 @@ ghost use Rattle.paper.specs.Limits.{most_steps, most_cells};
 ghost use Rattle.paper.specs.Axes.{cells as cells_in};
 ghost use Rattle.paper.specs.Answers.{axes_of};
 ghost use Rattle.paper.specs.Listing.{plan as paper_plan, run as paper_run, page as paper_page};
+ghost use Rattle.recipe.specs.Whole.{lent};
 ghost use Rattle.values.specs.Runs.{Running};
 ghost use Rattle.run.specs.Tests.{PlannedFor, PageJudged};
 ghost use Rattle.run.specs.Plans.{extent as last_extent};
@@ -18,9 +19,9 @@ use extent::rank_of;
 use listing::list;
 use pack::put::{put_head, whole_head};
 use paper::{
-    ARRAYS, BOOLEAN, CELL_BYTES, Foreseen, Head, LIMIT_BYTES, Listed, Ordinality, Refusal,
+    ARRAYS, BOOLEAN, CELL_BYTES, Foreseen, Head, LIMIT_BYTES, Listed, Ordinality, Refusal, Version,
 };
-use recipe::{Plan, plan_recipe};
+use recipe::{Plan, empty_plan, plan_recipe};
 use refusals::refuse;
 use values::run_steps;
 
@@ -33,12 +34,12 @@ pub struct PageRows {
 
 // ---- tests
 
-// The bundle, then the recipe: the plan, or the first refusal of either.
-fn planned(bundle: &[u8], recipe: &[u8]) -> Result<Plan, Refusal>
-    ensures { PlannedFor bundle.now recipe.now result }
+// The bundle, then the recipe: planned in the plan that is lent, or the first refusal of either.
+fn planned(bundle: &[u8], recipe: &[u8], plan: &mut Plan) -> Result<(), Refusal>
+    ensures { PlannedFor bundle.now recipe.now (lent result plan.new) }
 {
     let reading = read(bundle)?;
-    plan_recipe(reading, recipe)
+    plan_recipe(reading, recipe, plan)
 }
 
 // A page's own tests: the listing's type, the work area, the row buffer and the start. `res` is the last of `steps` results, which
@@ -94,7 +95,8 @@ fn settle(bundle: &[u8], recipe: &[u8], plan: Plan, work: &mut [u8]) -> Result<(
 pub fn plan(bundle: &[u8], recipe: &[u8]) -> Result<Foreseen, Refusal>
     ensures { result ≡ paper_plan bundle.now recipe.now }
 {
-    let plan = planned(bundle, recipe)?;
+    let mut plan = empty_plan(Version::One);
+    planned(bundle, recipe, &mut plan)?;
     let operand = plan.operands[ARRAYS + plan.count];
     Ok(Foreseen {
         total: plan.cells as u32,
@@ -109,7 +111,8 @@ pub fn extent(bundle: &[u8], recipe: &[u8], head: &mut [u8]) -> Result<u32, Refu
     ensures { record { answer = result; buffer = head.new }
         ≡ last_extent bundle.now recipe.now head.old }
 {
-    let plan = planned(bundle, recipe)?;
+    let mut plan = empty_plan(Version::One);
+    planned(bundle, recipe, &mut plan)?;
     let v = plan.version;
     let long = whole_head(v);
     if head.len() < long {
@@ -126,7 +129,8 @@ pub fn run(bundle: &[u8], recipe: &[u8], work: &mut [u8]) -> Result<u32, Refusal
     ensures { record { answer = result; buffer = work.new }
         ≡ paper_run bundle.now recipe.now work.old }
 {
-    let plan = planned(bundle, recipe)?;
+    let mut plan = empty_plan(Version::One);
+    planned(bundle, recipe, &mut plan)?;
     if work.len() < plan.cells * CELL_BYTES {
         return Err(refuse(10, 0));
     }
@@ -146,7 +150,8 @@ pub fn page_rows(
         ≡ paper_page bundle.now recipe.now work.old start.0 rows.old)
         × IfOk result (RowAxes bundle.now recipe.now) }
 {
-    let plan = planned(bundle, recipe)?;
+    let mut plan = empty_plan(Version::One);
+    planned(bundle, recipe, &mut plan)?;
     let last = plan.operands[ARRAYS + plan.count];
     let bytes = plan.cells * CELL_BYTES;
     page_tests(last.head, plan.count, bytes, work.len(), start, rows.len())?;

@@ -35,7 +35,7 @@ struct Draft {
     letters: usize,
 }
 
-// The words of a line, so many of these.
+// The words of a line, so many of these; behind them those of earlier lines that had more.
 #[derive(Clone, Copy)]
 pub struct Words {
     words: [Word; WORDS],
@@ -162,7 +162,7 @@ impl Draft {
 }
 
 impl Words {
-    fn none() -> Words {
+    pub fn none() -> Words {
         let none = Word {
             kind: Kind::Number,
             value: 0,
@@ -195,9 +195,9 @@ impl Words {
         self.count
     }
 
-    // The j-th word's number, or 0; its low 32 bits, and its low byte.
+    // The j-th word's number, which an earlier line may have said, or 0; its low 32 bits, and its low byte.
     pub fn value(&self, j: usize) -> u64 {
-        self.rest(j).first().map_or(0, |word| word.value)
+        self.words.get(j).map_or(0, |word| word.value)
     }
 
     pub fn value32(&self, j: usize) -> u32 {
@@ -223,12 +223,15 @@ pub fn at_most(n: usize, most: usize) -> usize
     n.min(most)
 }
 
-// The words of the line that begins at byte `at`.
-pub fn read_line(text: &[u8], at: usize) -> Line
+// The words of the line that begins at byte `at`, read over those of the lines before: a word that it leaves out stays as it was.
+pub fn read_line(text: &[u8], at: usize, before: &Words) -> Line
     requires { at < length text.now }
     ensures { at < result.next }
 {
-    let mut words = Words::none();
+    let mut words = Words {
+        count: 0,
+        ..*before
+    };
     let mut draft: Option<Draft> = None;
     for i in at..text.len() {
         let b = text[i];

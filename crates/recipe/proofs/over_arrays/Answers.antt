@@ -4,7 +4,7 @@ use Rattle.recipe.specs.Whole.{begun-none, begun_more}
 use Rattle.recipe.proofs.over_arrays.Goals as goal
 
 pub loop-plan-init : goal.loop-plan-init
-loop-plan-init c = begun-none c.args.reading _ c.empty_plan-plan.ensures
+loop-plan-init c = begun-none c.args.reading _ c.empty_plan.ensures
 
 pub loop-plan-preserved : goal.loop-plan-preserved
 loop-plan-preserved c =

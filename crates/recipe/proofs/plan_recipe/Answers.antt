@@ -21,7 +21,7 @@ use Rattle.recipe.specs.Operands.{no_operand, shape_in, found_shape, slot_of, na
 use Rattle.recipe.specs.Stepped.{Fitting, Answered, PlannedAs}
 use Rattle.recipe.specs.Whole.{arrays_in, arrays_of, results_of, Loop, loop-start, with_step, loop-more, arrays-same, steps-refused, good_length, length-bad, length-few, step-refused, all-planned}
 use Rattle.recipe.proofs.plan_recipe.Goals as goal
-use Rattle.recipe.proofs.plan_recipe.Goals.{After-over_arrays-plan, After-plan_step, After-sizes-z, At-loop-plan, In_ok-one, In-loop-plan, Start}
+use Rattle.recipe.proofs.plan_recipe.Goals.{After-over_arrays, After-plan_step, After-sizes-z, At-loop-plan, In_ok-one, In-loop-plan, Start}
 
 -- the bytes of a step are the version's
 module _ (c : After-sizes-z) where
@@ -50,9 +50,9 @@ module _ (c : After-sizes-z) where
   some_bytes = let f = fits v in omega (arith, sized, f.step)
 
 -- the length is good
-module _ (c : After-over_arrays-plan) where
+module _ (c : After-over_arrays) where
   abbrev of : After-sizes-z
-  of = record { before = c.before.before.before.before; type_inv = record { s = c.shared_slice_known-1.given } }
+  of = (goal.at.After-over_arrays c).After-sizes-z
 
   length-told : (eqb (length (bs of) % long of) 0 && between 1 most_steps (length (bs of) / long of)) ≡ true
   length-told = sym c.good_length.ensures ∙ not-false _ c.if-not-good_length.false-raw
@@ -60,11 +60,11 @@ module _ (c : After-over_arrays-plan) where
   good : good_length (z of) (bs of) ≡ true
   good = ap (λ (w : ℕ). eqb (length (bs of) % w) 0 && between 1 most_steps (length (bs of) / w)) (sym (sized of)) ∙ length-told
 
-  begins : Loop (v of) (bs of) (length (bs of) / long of) c.over_arrays-plan.result
+  begins : Loop (v of) (bs of) (length (bs of) / long of) c.over_arrays.new.plan
   begins =
       let n = length (bs of) / (z of).step in
-      subst (λ (w : ℕ). Loop (v of) (bs of) (length (bs of) / w) c.over_arrays-plan.result) (sym (sized of))
-      (loop-start (R of) (bs of) n c.over_arrays-plan.result (start of).requires c.over_arrays-plan.ensures.0 (length-few (z of) (bs of) good)
+      subst (λ (w : ℕ). Loop (v of) (bs of) (length (bs of) / w) c.over_arrays.new.plan) (sym (sized of))
+      (loop-start (R of) (bs of) n c.over_arrays.new.plan (start of).requires c.over_arrays.ensures.0 (length-few (z of) (bs of) good)
       (omega (arith, div-add-mod' (length (bs of)) (z of).step)))
 
 -- the steps planned so far
@@ -73,10 +73,10 @@ module _ (c : At-loop-plan) where
   its = c.loop-plan.plan
 
   abbrev by : After-sizes-z
-  by = of (record { before = c.before.before; type_inv = record { s = c.shared_slice_known-1.given } })
+  by = (goal.at.At-loop-plan c).After-sizes-z
 
   over : arrays_of its ≡ arrays_in (R by)
-  over = let e = c.over_arrays-plan.ensures in c.loop-plan.invariant.1 ∙ e.0.same ∙ ap (λ (k : ℕ). take k (R by).heads) e.1
+  over = let e = c.over_arrays.ensures in c.loop-plan.invariant.1 ∙ e.0.same ∙ ap (λ (k : ℕ). take k (R by).heads) e.1
 
   -- what stands under an operand's number, whatever would stand past the last
   found : (i : ℕ) (d : Operand) → i ≤ most_arrays + most_steps → get_or its.operands i d ≡ get_or its.operands i (no_operand false)
@@ -194,7 +194,7 @@ returns-in_err-one c =
     let r = err_from_is_err_and c.from_residual.result c.from_residual.ensures.1 in
     let q = steps-refused w.loop-plan.invariant.0 (below s) (answered s _ _ (Err _) c.in_err-one.ensures) in
     rw (r.1, r.2)
-    (step-refused (R (by w)) (ss s) (good (goal.at.returns-in_err-one c).After-over_arrays-plan)
+    (step-refused (R (by w)) (ss s) (good (goal.at.returns-in_err-one c).After-over_arrays)
     (rw (← over w) (q ∙ ap (λ (n : ℕ). plan_steps (z (by w)) 1 (length (ss s) / n) (map shape_in (arrays_of (p s))) [] (ss s)) (sized (by w)))))
 
 pub offset_bounds-plan-result_at : goal.offset_bounds-plan-result_at
@@ -214,7 +214,7 @@ loop-plan-preserved c =
     let s = (goal.at.loop-plan-preserved c).In_ok-one in
     let x = judged s in
     let l = (loop x).loop-plan.invariant in
-    let A = arrays_of (loop x).over_arrays-plan.result in
+    let A = arrays_of (loop x).over_arrays.new.plan in
     subst (λ (o : Operand). Loop (v (by (loop x))) (ss x) (length (ss x) / long (by (loop x))) (grown_by s o)
     × (arrays_of (grown_by s o) ≡ A)) (sym c.in_work.ensures)
     (loop-grown s, arrays-same l.0 (below x) (one s) (said s) ∙ l.1)
@@ -222,7 +222,7 @@ loop-plan-preserved c =
 pub returns : goal.returns
 returns c =
     let s = (goal.at.returns c).At-loop-plan in
-    all-planned (R (by s)) (bs (by s)) (good (goal.at.returns c).After-over_arrays-plan)
+    all-planned (R (by s)) (bs (by s)) (good (goal.at.returns c).After-over_arrays)
     (subst (λ (n : ℕ). Loop (v (by s)) (bs (by s)) (length (bs (by s)) / n) (its s)) (sized (by s)) c.loop-plan.invariant.0)
     (subst (λ (n : ℕ). length (bs (by s)) / n ≤ (its s).count) (sized (by s)) c.loop-plan-test.false) (over s)
 
