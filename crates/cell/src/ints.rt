@@ -7,6 +7,8 @@ ghost use Rattle.cell.specs.Signs.{signs_apart};
 
 use paper::{Cell, Fault};
 
+const SMALLEST: i64 = -9223372036854775808;
+
 // |a|, which a u64 always holds.
 pub fn magnitude(a: i64) -> u64
     ensures { result ≡ unsigned_abs a }
@@ -73,7 +75,11 @@ pub fn int_sub(a: i64, b: i64) -> Result<Cell, Fault>
 pub fn int_neg(a: i64) -> Result<Cell, Fault>
     ensures { result ≡ fit_int (neg_ℤ a) }
 {
-    fitting(a.checked_neg())
+    if a == SMALLEST {
+        Err(Fault::NoFit)
+    } else {
+        Ok(Cell::Int(-a))
+    }
 }
 
 pub fn int_abs(a: i64) -> Result<Cell, Fault>
@@ -112,7 +118,7 @@ pub fn int_mul(a: i64, b: i64) -> Result<Cell, Fault>
         if (a < 0) == (b < 0) {
             Err(Fault::NoFit)
         } else {
-            Ok(Cell::Int(i64::MIN))
+            Ok(Cell::Int(SMALLEST))
         }
     } else {
         Err(Fault::NoFit)

@@ -8,7 +8,7 @@ mod obey;
 use crate::obey::obey;
 use inputs::read_full;
 use script::desk::{BUNDLE, CELLS, HEADS, STEPS, blank};
-use script::line::{Words, read_line};
+use script::line::read_line;
 use script::parts::first;
 use std::io;
 
@@ -22,22 +22,22 @@ fn follow(rt: &impl Print, script: &[u8]) -> io::Result<()> {
     let mut steps = [0u8; STEPS];
     let mut bundle = [0u8; BUNDLE];
     let mut desk = blank();
-    let mut words = Words::none();
+    let mut before = None;
     let mut at: usize = 0;
     while at < script.len() {
-        let line = read_line(script, at, &words);
-        words = line.words;
+        let line = read_line(script, at, before);
         desk = obey(
             rt,
             desk,
             &script[at..],
             line.next - at,
-            &words,
+            &line.words,
             &mut heads,
             &mut cells,
             &mut steps,
             &mut bundle,
         )?;
+        before = Some(line.words);
         at = line.next;
     }
     Ok(())

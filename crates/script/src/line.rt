@@ -162,7 +162,7 @@ impl Draft {
 }
 
 impl Words {
-    pub fn none() -> Words {
+    fn none() -> Words {
         let none = Word {
             kind: Kind::Number,
             value: 0,
@@ -223,14 +223,14 @@ pub fn at_most(n: usize, most: usize) -> usize
     n.min(most)
 }
 
-// The words of the line that begins at byte `at`, read over those of the lines before: a word that it leaves out stays as it was.
-pub fn read_line(text: &[u8], at: usize, before: &Words) -> Line
+// The words of the line that begins at byte `at`, read over those of the line before: a word that it leaves out stays as it was.
+pub fn read_line(text: &[u8], at: usize, before: Option<Words>) -> Line
     requires { at < length text.now }
     ensures { at < result.next }
 {
-    let mut words = Words {
-        count: 0,
-        ..*before
+    let mut words = match before {
+        Some(words) => Words { count: 0, ..words },
+        None => Words::none(),
     };
     let mut draft: Option<Draft> = None;
     for i in at..text.len() {
